@@ -186,7 +186,7 @@ class Pages(Checked):
         self.assertEqual(made.status, 0, made.written + made.errors)
 
     def test_the_text_of_the_example_is_the_one_that_the_laws_speak_of(self) -> None:
-        profile = re.search(r'b"([^"]*)"', text_of(ROOT / "crates/dsdl_text/src/profile.rt"))
+        profile = re.search(r'b"([^"]*)"', text_of(ROOT / "crates/dsdl_text_codec_laws/src/text.rt"))
         assert profile is not None
         self.assertEqual(profile[1], text_of(ROOT / "examples/decode/text"))
 

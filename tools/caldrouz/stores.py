@@ -54,7 +54,7 @@ class Store(NamedTuple):
     @property
     def is_stuck(self) -> bool:
         """Whether the log is full and not committed to its end, so that no later leader can commit anything."""
-        return len(self.entries) == table.PLACES and self.commit < table.PLACES
+        return len(self.entries) == table.LOG_LIMIT and self.commit < table.LOG_LIMIT
 
 
 NEW = Store(0, 0, 0, 0, [])
@@ -86,7 +86,7 @@ def read_image(image: bytes) -> Store:
     version = rule(table.KEY_VERSION, (0, 1), lambda it: not it or 1 <= it[0] <= table.NEWEST)
     term = rule(table.KEY_TERM, (0, 4))
     vote = rule(table.KEY_VOTE, (0, 1), lambda it: not it or it[0] <= table.LAST)
-    last = rule(table.KEY_LAST, (0, 1), lambda it: not it or it[0] <= table.PLACES)
+    last = rule(table.KEY_LAST, (0, 1), lambda it: not it or it[0] <= table.LOG_LIMIT)
     commit = rule(table.KEY_COMMIT, (0, 1), lambda it: not it or it[0] <= last)
     entries: List[Entry] = []
     for key in range(table.KEY_FIRST_ENTRY, table.KEY_FIRST_ENTRY + last):

@@ -46,10 +46,19 @@ QUERY_INTERVAL = 1000  # The time between two queries of a node. A response coun
 QUERY_LIMIT = 5  # A node that answers none of so many queries counts as silent.
 DISCOVERY_INTERVAL = 1000  # The time between two Discoveries.
 STATUS_INTERVAL = 1000  # The time between two NodeStatus.
+TRANSFER_TIMEOUT = 2000
+
+# The sizes that bound an allocator (can_frame)
+MOST_MEMBERS = 5  # A cluster has at most so many members: a Discovery of the standard names up to five.
+LOG_LIMIT = 127  # A log has at most so many entries.
+NODE_IDS = 128  # Node IDs and what is counted by node: 0 is anonymous, 1 to 127 are nodes.
+LONGEST_PAYLOAD = 376  # The longest payload of a transfer, in bytes.
+LONGEST_TRANSFER = 378  # The longest payload with the CRC that stands before it, in bytes.
+SESSIONS = 160  # The receiver of an allocator follows at most so many transfers at once.
+BLOCKS = 128  # The receiver of an allocator has so many blocks of memory for them.
 
 # The CAN bus transport layer of UAVCAN v0 (transfer_rx)
 TRANSFER_IDS = 32  # Transfer IDs are counted modulo this.
-TRANSFER_TIMEOUT = 2000  # A session that took no frame for more milliseconds is forgotten.
 FRAME_BYTES = 7  # The bytes of a full frame, without its tail.
 CRC_BYTES = 2  # The bytes of the CRC in front of a transfer of several frames.
 
@@ -88,10 +97,7 @@ ORIGIN_LEADER = 0  # From a leader, or stored before origins were.
 ORIGIN_EXCHANGE = 1
 ORIGIN_NODE_INFO = 2  # A node that has a node ID told its unique ID (uavcan.protocol.GetNodeInfo).
 ORIGIN_RESERVATION = 3  # A reservation of a node ID.
-ORIGIN_WIN = 4  # The blank that this member appended when it won an election.
-
-# The most entries of a log (raft_log)
-PLACES = 127  # How many entries a log has at most.
+ORIGIN_WIN = 4  # A leader's blank, which this member appended as the leader.
 
 # The version of a store (raft_log)
 NEWEST = 2  # The version of a store in which each entry has its origin.

@@ -1,9 +1,9 @@
--- Moves of the message machine, without the numbers of steps.
+-- Moves of the Raft model, without the numbers of steps.
 use Rattle.std.proofs.Common.{◌≡◌, ℕ, Bool, true, false, List, [], ◌∷◌, ◌++◌, map, refl, sym, ap, ◌∙◌, Option, Some, None}
 use Rattle.std.specs.Prelude.{◌==◌, nat_lt, if◌then◌else◌}
 use Rattle.raft_core.specs.Handled.{blank_behind, is_moment, puts_with_origins, origin_of, with_blank}
 use Rattle.raft_core.specs.StoredPuts.{with_origin}
-use Rattle.raft_core.specs.Times.{Given, Times, times_after, times_after_all}
+use Rattle.raft_core.specs.Times.{HandedIn, Times, times_after, times_after_all}
 use Rattle.raft_model.specs.Handlers.{server_after, server_after_all}
 use Rattle.raft_model.specs.Lists.{at}
 use Rattle.raft_model.specs.Messages.{Answer, Request}
@@ -119,7 +119,7 @@ puts_same members me p (CallToAppend peer previous with_entry) = refl
 puts_same members me p (AnswerAgain place) = refl
 puts_same members me p (GiveUp peer) = refl
 
-times_same : (members : List ℕ) (me : ℕ) (given : Given) (p : RaftServer) (move : Move) (times : Times)
+times_same : (members : List ℕ) (me : ℕ) (given : HandedIn) (p : RaftServer) (move : Move) (times : Times)
     → times_after members me given p move times ≡ times_after members me given (unmarked_raft_server p) (unnumbered_move move) times
 times_same members me given p TimeOut times = refl
 times_same members me given p (TakeVoteRequest request granted) times = refl
@@ -138,7 +138,7 @@ times_same members me given p (CallToAppend peer previous with_entry) times = re
 times_same members me given p (AnswerAgain place) times = refl
 times_same members me given p (GiveUp peer) times = refl
 
-origin_same : (given : Given) (move : Move) → origin_of given move ≡ origin_of given (unnumbered_move move)
+origin_same : (given : HandedIn) (move : Move) → origin_of given move ≡ origin_of given (unnumbered_move move)
 origin_same given TimeOut = refl
 origin_same given (TakeVoteRequest request granted) = refl
 origin_same given (TakeVoteAnswer answer) = refl
@@ -159,7 +159,7 @@ after_same : (members : List ℕ) (me s r : ℕ) (p : RaftServer) (move : Move)
     → unmarked_raft_server (server_after members me s p move) ≡ unmarked_raft_server (server_after members me r (unmarked_raft_server p) (unnumbered_move move))
 after_same members me s r p move = λ i. record { store = put_all p.store (puts_same members me p move i); memory = memory_same members me s r p move i }
 
-module _ (members : List ℕ) (me s r : ℕ) (given : Given) where
+module _ (members : List ℕ) (me s r : ℕ) (given : HandedIn) where
   after_moves : (p q : RaftServer) (move : Move) → unmarked_raft_server p ≡ unmarked_raft_server q
       → unmarked_raft_server (server_after members me s p move) ≡ unmarked_raft_server (server_after members me r q (unnumbered_move move))
   after_moves p q move e =

@@ -4,7 +4,7 @@ use Rattle.std.specs.Prelude.{◌+◌, nat_le, if◌then◌else◌}
 use Rattle.std.proofs.lemmas.List.{length-map}
 use Rattle.can_frame.specs.declared.step.What.{What}
 use Rattle.can_frame.specs.Cutting.{Piece, frame_bytes, frame_count, frames_of}
-use Rattle.raft_core.specs.Times.{Given}
+use Rattle.raft_core.specs.Times.{HandedIn}
 use Rattle.raft_model.specs.Messages.{Message}
 use Rattle.raft_model.specs.Moves.{Move}
 use Rattle.transfer_rx.specs.Unmarked.{no_mark, unmarked}
@@ -117,7 +117,7 @@ answers_same s r what to id payload re other says said g h e =
 
 -- ---- moves
 
-takes_one : (s r : ℕ) (given : Given) (moves : List Move) (g : StepState) → Same (with_moves s given moves g) (with_moves r given (map unnumbered_move moves) (unmarked_step_state g))
+takes_one : (s r : ℕ) (given : HandedIn) (moves : List Move) (g : StepState) → Same (with_moves s given moves g) (with_moves r given (map unnumbered_move moves) (unmarked_step_state g))
 takes_one s r given moves g = λ i. record {
   allocator = record (unmarked_server g.allocator) {
     raft_server = plains_same (members_of g.allocator) g.allocator.me s r given moves g.allocator.raft_server (unmarked_raft_server g.allocator.raft_server) raft_server i;
@@ -146,7 +146,7 @@ takes_one s r given moves g = λ i. record {
 abbrev pub SameMoves : List Move → List Move → Type 0
 SameMoves moves others = map unnumbered_move moves ≡ map unnumbered_move others
 
-pub takes_same : (s r : ℕ) (given : Given) (moves others : List Move) (g h : StepState) → SameMoves moves others → Same g h
+pub takes_same : (s r : ℕ) (given : HandedIn) (moves others : List Move) (g h : StepState) → SameMoves moves others → Same g h
     → Same (with_moves s given moves g) (with_moves r given others h)
 takes_same s r given moves others g h m e =
     takes_one s 0 given moves g

@@ -21,10 +21,10 @@ pub not_under : (n m : ℕ) → m ≤ n → nat_lt n m ≡ false
 not_under n m h = grind (arith, nat_tests)
 
 -- the move that answers again changes nothing
-pub again : {D : Type 0} {disk : Ghosts D} (start : Durable D disk) (member : Member D disk) (offered : Offered) (g : StepState) (step place : ℕ) (entry : Entry)
-    → IsInStep start member offered (with_transfer step Alloc 0 (allocation_payload entry.node entry.uid) None g) → IsInStep start member offered (gives_entry step (AnswerAgain place) entry g)
-again start member offered g step place entry h = by (has_room g.allocator.queue (allocation_payload entry.node entry.uid))
+pub again : {D : Type 0} {disk : Ghosts D} (start : Durable D disk) (member : Member D disk) (g : StepState) (step place : ℕ) (entry : Entry)
+    → IsInStep start member (with_transfer step Alloc 0 (allocation_payload entry.node entry.uid) None g) → IsInStep start member (gives_entry step (AnswerAgain place) entry g)
+again start member g step place entry h = by (has_room g.allocator.queue (allocation_payload entry.node entry.uid))
   where
-    by : (b : Bool) → IsInStep start member offered (if b then with_moves step (given_at g.allocator.now) (AnswerAgain place ∷ []) (with_transfer step Alloc 0 (allocation_payload entry.node entry.uid) None g) else with_transfer step Alloc 0 (allocation_payload entry.node entry.uid) None g)
-    by true = noted_moves start member offered (with_transfer step Alloc 0 (allocation_payload entry.node entry.uid) None g) h step (given_at g.allocator.now) (AnswerAgain place ∷ []) member.raft refl h.stands.raft
+    by : (b : Bool) → IsInStep start member (if b then with_moves step (given_at g.allocator.now) (AnswerAgain place ∷ []) (with_transfer step Alloc 0 (allocation_payload entry.node entry.uid) None g) else with_transfer step Alloc 0 (allocation_payload entry.node entry.uid) None g)
+    by true = noted_moves start member (with_transfer step Alloc 0 (allocation_payload entry.node entry.uid) None g) h step (given_at g.allocator.now) (AnswerAgain place ∷ []) member.raft refl h.stands.raft
     by false = h

@@ -1,6 +1,6 @@
 -- The transfer of a call that is owed.
 use Rattle.std.proofs.Common.{◌≡◌, ℕ, true, List, [], ◌∷◌, Option, Some, None, refl, sym, ap, subst, ◌∙◌}
-use Rattle.alloc_handlers.proofs.Words.{AppQ, CallForVote, CallToAppend, Entry, Given, Move, RaftServer, Request, StepState, VoteQ, append_call_bytes, append_request, calls_by, calls_owed, pair_in, puts_with_origins, vote_call_bytes, vote_request}
+use Rattle.alloc_handlers.proofs.Words.{AppQ, CallForVote, CallToAppend, Entry, HandedIn, Move, RaftServer, Request, StepState, VoteQ, append_call_bytes, append_request, calls_by, calls_owed, pair_in, puts_with_origins, vote_call_bytes, vote_request}
 use Rattle.dsdl_codec.specs.AppendRequest.{append_request_bytes}
 use Rattle.dsdl_codec.specs.VoteRequest.{vote_request_bytes}
 use Rattle.dsdl_codec.specs.declared.append_request.AppendRequest.{AppendRequest}
@@ -15,7 +15,7 @@ pub no_pair : (call : Call) (payload : List ℕ) → pair_in (what_of call) payl
 no_pair (Vote request) payload = refl
 no_pair (Append request) payload = refl
 
--- its bytes are those of the request of the machine
+-- its bytes are those of the request of the Raft model
 vote_bytes : (request : VoteRequest) (sent : Request) → SaysVote request sent → vote_call_bytes sent ≡ vote_request_bytes request
 vote_bytes request sent says =
     ap (λ (n : ℕ). vote_request_bytes (record { term = n; last_term = sent.previous_term; last_index = sent.previous })) (sym says.term)
@@ -47,7 +47,7 @@ calls_as step peer g (Append asked) move says =
     )
 
 -- a call makes no puts
-pub call_is_quiet : (members : List ℕ) (me step : ℕ) (given : Given) (raft_server : RaftServer) (peer : ℕ) (call : Call) (move : Move) → Says me step raft_server peer call move
+pub call_is_quiet : (members : List ℕ) (me step : ℕ) (given : HandedIn) (raft_server : RaftServer) (peer : ℕ) (call : Call) (move : Move) → Says me step raft_server peer call move
     → puts_with_origins members me step given raft_server (move ∷ []) ≡ []
 call_is_quiet members me step given raft_server peer (Vote asked) move says = ap (λ (m : Move). puts_with_origins members me step given raft_server (m ∷ [])) says.0
 call_is_quiet members me step given raft_server peer (Append asked) move says = ap (λ (m : Move). puts_with_origins members me step given raft_server (m ∷ [])) says.1

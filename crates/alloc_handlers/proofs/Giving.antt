@@ -1,7 +1,7 @@
 -- The pair that an Allocation gives, by its payload.
 use Rattle.std.proofs.Common.{◌≡◌, ℕ, ◌≤◌, ◌+◌, ◌*◌, ◌/◌, ◌%◌, Bool, true, List, length, ap, ◌∙◌, arith, None, Option, Some, cond, if◌then◌else◌, nat_eq, nat_le, ◌&&◌}
 use Rattle.alloc_handlers.proofs.Words.{Alloc, allocation_payload, nat_tests, pair_in, pair_of_allocation}
-use Rattle.alloc_spec.specs.Transfers.{Given}
+use Rattle.alloc_spec.specs.Transfers.{GivenPair}
 
 at_most : (n : ℕ) → n ≤ 16 → nat_le n 16 ≡ true
 at_most n h = grind (arith, nat_tests)
@@ -10,7 +10,7 @@ half : (n : ℕ) → (n * 2 + 0) / 2 ≡ n
 half n = omega arith
 
 -- by these numbers
-abbrev given_as : ℕ → List ℕ → Option Given
+abbrev given_as : ℕ → List ℕ → Option GivenPair
 given_as node uid = if nat_le 1 node && nat_eq (length uid) 16 then Some ((uid, node)) else None
 
 -- as it is read from the bytes

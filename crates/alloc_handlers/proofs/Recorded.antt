@@ -21,7 +21,7 @@ not_recorded log node false before marked is not h =
     let here : (is_recorded log node || before) ≡ true = ap (λ (b : Bool). b || before) (at_place log node h.place h.within h.same) in
     let no_way : true ≡ false = sym here ∙ sym is ∙ not in cc
 
--- a member knows those that the server in time knows, for which it stands
+-- a member knows those that the allocator state knows, for which it stands
 pub knows : {D : Type 0} {disk : Ghosts D} (member : Member D disk) (t : AllocatorState) (node : ℕ) → StandsFor member t
     → is_known t node ≡ (is_on_list (member_list member.cluster) node || is_recorded (durable_state member.durable).log node)
 knows member t node h =

@@ -18,10 +18,10 @@ pub no_room : (n : ℕ) → n < 127 → n ≡ 127 → ⊥
 no_room n below is = omega arith
 
 -- a member appends it
-module _ {D : Type 0} {disk : Ghosts D} {start durable : Durable D disk} {old : Member D disk} {raft : Raft} {offered : Offered} {g : StepState} {uid : List ℕ} {node origin : ℕ} {result : Result Proposed Fault}
-    (ready : IsReady old) (h : IsInStep start old offered g) (laws : PutsGoOn D disk) (step : ℕ) where
+module _ {D : Type 0} {disk : Ghosts D} {start durable : Durable D disk} {old : Member D disk} {raft : Raft} {g : StepState} {uid : List ℕ} {node origin : ℕ} {result : Result Proposed Fault}
+    (ready : IsReady old) (h : IsInStep start old g) (laws : PutsGoOn D disk) (step : ℕ) where
   pub appended : raft ≡ old.raft → IsTried result → Appends old.raft uid node origin old.durable durable result
-      → GoesTo start (record old { durable = durable; raft = raft }) offered (proposes step origin uid node g) (result_err result)
+      → GoesTo start (record old { durable = durable; raft = raft }) (proposes step origin uid node g) (result_err result)
   appended same tried appends =
       let t = g.allocator in
       made_moves ready h laws step (λ now. given_proposal now origin) (λ me. ProposeEntry (proposal t.raft_server.store.term uid node) ∷ [])

@@ -1,4 +1,4 @@
--- What a leader is to tell next, by what the machine says of it.
+-- What a leader is to tell next, by what the Raft model says of it.
 use Rattle.std.proofs.Common.{◌≡◌, ◌≤◌, ◌<◌, ◌+◌, ℕ, Bool, true, false, List, [], ◌∷◌, refl, arith, if◌then◌else◌}
 use Rattle.alloc_handlers.proofs.Words.{Move, TellNothing, TellPair}
 

@@ -1,7 +1,7 @@
 -- The names that most proofs of this crate cite, passed on from one place. Declares nothing.
 pub use Rattle.alloc_exchange.specs.Exchange.{Accepted, after, answer}
 pub use Rattle.alloc_handlers.specs.Puts.{PutsGoOn}
-pub use Rattle.alloc_handlers.specs.Stands.{GoesTo, IsFresh, IsInStep, IsReady, ListsGiven, ListsUpTo, SeesTo, StandsFor}
+pub use Rattle.alloc_handlers.specs.Stands.{GoesTo, IsInStep, IsReady, SeesTo, StandsFor}
 pub use Rattle.alloc_handlers.specs.Strangers.{is_stranger}
 pub use Rattle.alloc_handlers.specs.declared.member.Member.{Member}
 pub use Rattle.alloc_spec.specs.AllocatorState.{AllocatorState, is_known, is_recorded, is_taken, is_zero, known, knows_all, may_propose, members_of, recorded_at, start_of}
@@ -28,7 +28,7 @@ pub use Rattle.node_discovery.specs.Watch.{Watched, after_info, after_status, hi
 pub use Rattle.raft_core.specs.Handled.{MakesMoves, append_request_of, counted_at, moves_of_expire, moves_of_tick, puts_with_origins, vote_request_of, with_blank}
 pub use Rattle.raft_core.specs.RaftViews.{raft_me, raft_role, raft_size, raft_told}
 pub use Rattle.raft_core.specs.StoredPuts.{CallFaultIsSticky, CallWrites, PutWithOrigin}
-pub use Rattle.raft_core.specs.Times.{Given, Sending, Times, awaits, given_at, given_call, given_proposal, given_tick, is_awaited, overdue, times_after_all}
+pub use Rattle.raft_core.specs.Times.{HandedIn, Sending, Times, awaits, given_at, given_call, given_proposal, given_tick, is_awaited, overdue, times_after_all}
 pub use Rattle.raft_core.specs.declared.raft.Raft.{Raft}
 pub use Rattle.raft_log.specs.DurableViews.{durable_state}
 pub use Rattle.raft_log.specs.declared.durable.Durable.{Durable}

@@ -1,9 +1,9 @@
 -- What a member of the code stands for, between the parts of a step.
-use Rattle.std.specs.Prelude.{◌≡◌, ℕ, ◌+◌, ◌≤◌, ◌++◌, Bool, List, [], Option, None, Result, IfOk, OnOk}
+use Rattle.std.specs.Prelude.{◌≡◌, ℕ, ◌+◌, ◌≤◌, Option, None, Result, IfOk, OnOk}
 use Rattle.std.specs.Result.{result_err}
 use Rattle.arrayvec.specs.ArrayVec.{array_vec_len}
 use Rattle.can_frame.specs.declared.step.Seen.{Seen}
-use Rattle.can_frame.specs.declared.step.What.{What}
+use Rattle.can_frame.specs.Sizes.{most_members}
 use Rattle.disk_model.specs.declared.disk.Disk.{Ghosts}
 use Rattle.kv_store.specs.declared.fault.Fault.{Fault}
 use Rattle.raft_log.specs.declared.durable.Durable.{Durable}
@@ -16,9 +16,8 @@ use Rattle.alloc_exchange.specs.Stands as exchange
 use Rattle.node_discovery.specs.Stands as watch
 use Rattle.cluster_discovery.specs.Stands as cluster
 use Rattle.alloc_handlers.specs.declared.member.Member.{Member}
-use Rattle.alloc_spec.specs.declared.offered.Offered.{Offered}
 use Rattle.alloc_spec.specs.AllocatorState.{AllocatorState, members_of, start_of}
-use Rattle.alloc_spec.specs.StepState.{StepState, pairs_if_fitted, pairs, listing_of}
+use Rattle.alloc_spec.specs.StepState.{StepState, pairs, listing_of}
 use Rattle.alloc_spec.specs.Delivered.{StepResult}
 
 -- part for part
@@ -40,7 +39,7 @@ pub record IsReady {D : Type 0} {disk : Ghosts D} (member : Member D disk) : Typ
   pub least : 1 ≤ member.me
   pub most : member.me ≤ 125
   pub some : 1 ≤ member.size
-  pub five : member.size ≤ 5
+  pub five : member.size ≤ most_members
   -- its parts are of this member, and of this cluster
   pub raft_me : raft_me member.raft ≡ member.me
   pub raft_size : raft_size member.raft ≡ member.size
@@ -50,76 +49,70 @@ pub record IsReady {D : Type 0} {disk : Ghosts D} (member : Member D disk) : Typ
   -- what it keeps in memory fits what is stored
   pub fits : Fits member.raft (durable_state member.durable)
 
--- the member is in a step that has gone so far, from what was stored at its beginning
-pub record IsInStep {D : Type 0} {disk : Ghosts D} (start : Durable D disk) (member : Member D disk)
-    (offered : Offered) (g : StepState) : Type 0 where
+-- it is ready, and there is room for so many transfers and pairs more on the list of its step
+pub record IsReadyFor {D : Type 0} {disk : Ghosts D} (sent given : ℕ) (member : Member D disk) : Type 0 where
+  pub ready : IsReady member
+  pub sent_room : array_vec_len member.offered.sent + sent ≤ 12
+  pub given_room : array_vec_len member.offered.answers + given ≤ 2
+
+-- the member is in a step that has gone so far, from what was stored at its beginning; its list is that of the step
+pub record IsInStep {D : Type 0} {disk : Ghosts D} (start : Durable D disk) (member : Member D disk) (g : StepState)
+    : Type 0 where
   pub stands : StandsFor member g.allocator
-  pub sent : offered.sent.items ≡ listing_of g
-  pub given : offered.answers.items ≡ pairs g
+  pub sent : member.offered.sent.items ≡ listing_of g
+  pub given : member.offered.answers.items ≡ pairs g
   pub puts : CallWrites g.puts start member.durable None
 
 -- the step goes on to here, up to the first put that fails
-pub record GoesTo {D : Type 0} {disk : Ghosts D} (start : Durable D disk) (member : Member D disk)
-    (offered : Offered) (g : StepState) (failed : Option Fault) : Type 0 where
+pub record GoesTo {D : Type 0} {disk : Ghosts D} (start : Durable D disk) (member : Member D disk) (g : StepState)
+    (failed : Option Fault) : Type 0 where
   pub puts : CallWrites g.puts start member.durable failed
-  pub step_state : failed ≡ None → IsInStep start member offered g
+  pub step_state : failed ≡ None → IsInStep start member g
 
 -- it goes on to here, and tells what it saw
 pub record SeesTo {D : Type 0} {disk : Ghosts D} (start : Durable D disk) (member : Member D disk)
-    (offered : Offered) (step_result : StepResult) (result : Result Seen Fault) : Type 0 where
-  pub goes : GoesTo start member offered step_result.step_state (result_err result)
+    (step_result : StepResult) (result : Result Seen Fault) : Type 0 where
+  pub goes : GoesTo start member step_result.step_state (result_err result)
   pub seen : IfOk result (λ seen. seen ≡ step_result.seen)
 
--- nothing was listed yet
-pub record IsFresh (offered : Offered) : Type 0 where
-  pub sent : offered.sent.items ≡ []
-  pub given : offered.answers.items ≡ []
+-- ---- parts of a step, from one member to another
 
--- a transfer was listed, and then the pair that it gives
-pub record ListsGiven (before listed after : Offered) (fitted : Bool) (what : What) (payload : List ℕ) : Type 0 where
-  pub sent : after.sent ≡ listed.sent
-  pub given : after.answers.items ≡ before.answers.items ++ pairs_if_fitted fitted what payload
-
--- ---- parts of a step, from one member to another, and from what was listed to what is
-
-module _ {D : Type 0} {disk : Ghosts D} (old new : Member D disk) (before after : Offered) where
+module _ {D : Type 0} {disk : Ghosts D} (old new : Member D disk) where
   -- a part without puts
   abbrev pub GoesOn : (StepState → StepState) → Type 0
-  GoesOn part =
-      (start : Durable D disk) (g : StepState) → IsInStep start old before g → IsInStep start new after (part g)
+  GoesOn part = (start : Durable D disk) (g : StepState) → IsInStep start old g → IsInStep start new (part g)
 
   -- one whose puts may fail
   abbrev pub GoesUpTo : (StepState → StepState) → Option Fault → Type 0
-  GoesUpTo part failed = (start : Durable D disk) (g : StepState) → IsInStep start old before g →
-      GoesTo start new after (part g) failed
+  GoesUpTo part failed = (start : Durable D disk) (g : StepState) → IsInStep start old g →
+      GoesTo start new (part g) failed
 
   -- one that sees something: without puts, and with puts that may fail
   abbrev pub SeesOn : (StepState → StepResult) → Seen → Type 0
-  SeesOn part seen = (start : Durable D disk) (g : StepState) → IsInStep start old before g →
-      IsInStep start new after (part g).step_state × (seen ≡ (part g).seen)
+  SeesOn part seen = (start : Durable D disk) (g : StepState) → IsInStep start old g →
+      IsInStep start new (part g).step_state × (seen ≡ (part g).seen)
 
   abbrev pub SeesUpTo : (StepState → StepResult) → Result Seen Fault → Type 0
-  SeesUpTo part result = (start : Durable D disk) (g : StepState) → IsInStep start old before g →
-      SeesTo start new after (part g) result
+  SeesUpTo part result = (start : Durable D disk) (g : StepState) → IsInStep start old g →
+      SeesTo start new (part g) result
 
--- at most so many transfers and pairs more are listed, in the same step
-pub record ListsUpTo (sent given : ℕ) (before after : Offered) : Type 0 where
-  pub step : after.step ≡ before.step
-  pub sent_most : array_vec_len after.sent ≤ array_vec_len before.sent + sent
-  pub given_most : array_vec_len after.answers ≤ array_vec_len before.answers + given
+-- in the same step at most so many transfers and pairs more are listed
+pub record ListsUpTo {D : Type 0} {disk : Ghosts D} (sent given : ℕ) (old new : Member D disk) : Type 0 where
+  pub step : new.offered.step ≡ old.offered.step
+  pub sent_most : array_vec_len new.offered.sent ≤ array_vec_len old.offered.sent + sent
+  pub given_most : array_vec_len new.offered.answers ≤ array_vec_len old.offered.answers + given
 
 -- what a part without puts leaves: a member that is ready, with the same stored state, and at most so many transfers
 -- and pairs more on the list
-pub record Leaves {D : Type 0} {disk : Ghosts D} (sent given : ℕ) (old new : Member D disk) (before after : Offered)
-    : Type 0 where
+pub record Leaves {D : Type 0} {disk : Ghosts D} (sent given : ℕ) (old new : Member D disk) : Type 0 where
   pub ready : IsReady new
-  pub lists : ListsUpTo sent given before after
+  pub lists : ListsUpTo sent given old new
   pub durable : new.durable ≡ old.durable
 
 -- what a part with puts leaves: a member that is ready where no put failed, and at most so many transfers and pairs
 -- more on the list; where a put failed, its fault has a cause and is kept
 pub record LeavesUpTo {D T : Type 0} {disk : Ghosts D} (sent given : ℕ) (old new : Member D disk)
-    (before after : Offered) (result : Result T Fault) : Type 0 where
+    (result : Result T Fault) : Type 0 where
   pub ready : OnOk result (IsReady new)
-  pub lists : ListsUpTo sent given before after
+  pub lists : ListsUpTo sent given old new
   pub faults : CallFaultIsSticky old.durable new.durable (result_err result)

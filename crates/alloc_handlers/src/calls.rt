@@ -1,35 +1,33 @@
 //! How each step ends: a leader commits and tells, and the calls that are owed are made.
 
-ghost use Rattle.std.specs.Prelude.{◌≡◌, ◌≤◌, ◌<◌, ℕ, OnOk, drop, length, slice_index_or};
+ghost use Rattle.std.specs.Prelude.{◌≡◌, ◌≤◌, ◌<◌, ◌+◌, ℕ, OnOk, drop, length, slice_index_or};
 ghost use Rattle.std.specs.Result.{result_err};
 ghost use Rattle.arrayvec.specs.ArrayVec.{array_vec_len};
+ghost use Rattle.can_frame.specs.Sizes.{most_members};
 ghost use Rattle.alloc_handlers.specs.Calling as calling;
 ghost use Rattle.raft_core.specs.Calls.{IsWritable};
 ghost use Rattle.raft_core.specs.StoredPuts.{CallFaultIsSticky};
-ghost use Rattle.alloc_spec.specs.declared.offered.Offered.{Offered};
 ghost use Rattle.alloc_spec.specs.Ending.{call_phase, calls_all, calls_peer, commit_phase, end_phase, tell_phase};
 ghost use Rattle.alloc_spec.specs.AllocatorState.{AllocatorState, members_of};
 
 use crate::member::Member;
 use crate::puts::puts_go_on;
-use alloc_spec::Offered;
 use alloc_spec::laws::phases_add_puts;
 use arrayvec::ArrayVec;
 use can_frame::What;
+use can_frame::sizes::MOST_MEMBERS;
 use disk_model::Disk;
 use dsdl_codec::Payload;
 use kv_store::Fault;
 use raft_core::{Call, Telling};
 
 impl<D: Disk> Member<D> {
-    ghost use Rattle.alloc_handlers.specs.Stands.{GoesOn, GoesUpTo, IsReady, Leaves, StandsFor};
+    ghost use Rattle.alloc_handlers.specs.Stands.{GoesOn, GoesUpTo, IsReady, IsReadyFor, Leaves, LeavesUpTo, StandsFor};
 
-    /// At most six transfers and one pair more are listed.
-    pub fn end(&mut self, offered: &mut Offered) -> Result<(), Fault>
-        requires ready { IsReady self.old }
-        requires room { array_vec_len offered.old.sent ≤ 6 }
-        requires pairs { array_vec_len offered.old.answers ≤ 1 }
-        ensures goes { GoesUpTo self.old self.new offered.old offered.new (end_phase offered.old.step)
+    /// A pair is told, and each other member called: at most so many transfers and pairs more are listed.
+    pub fn end(&mut self) -> Result<(), Fault>
+        requires ready { IsReadyFor (most_members + 1) 1 self.old }
+        ensures goes { GoesUpTo self.old self.new (end_phase self.old.offered.step)
             (result_err result) }
         ensures ready { OnOk result (IsReady self.new) }
         ensures faults { CallFaultIsSticky self.old.durable self.new.durable (result_err result) }
@@ -37,36 +35,33 @@ impl<D: Disk> Member<D> {
         phases_add_puts();
         puts_go_on::<D>();
         self.commit()?;
-        self.tell(offered);
-        self.call_all(offered);
+        self.tell();
+        self.call_all();
         Ok(())
     }
 
     fn commit(&mut self) -> Result<(), Fault>
         requires { IsReady self.old }
-        ensures goes { (offered : Offered) (step : ℕ) →
-            GoesUpTo self.old self.new offered offered (commit_phase step) (result_err result) }
-        ensures ready { OnOk result (IsReady self.new) }
-        ensures faults { CallFaultIsSticky self.old.durable self.new.durable (result_err result) }
+        ensures goes { (step : ℕ) →
+            GoesUpTo self.old self.new (commit_phase step) (result_err result) }
+        ensures leaves { LeavesUpTo 0 0 self.old self.new result }
     {
         puts_go_on::<D>();
         self.raft.commit(&mut self.durable)
     }
 
     /// A leader tells one committed pair, once it fits; a place without a unique ID is passed over.
-    fn tell(&mut self, offered: &mut Offered)
-        requires ready { IsReady self.old }
-        requires room { array_vec_len offered.old.sent < 12 }
-        requires pairs { array_vec_len offered.old.answers < 2 }
-        ensures step_state { GoesOn self.old self.new offered.old offered.new
-            (tell_phase offered.old.step) }
-        ensures leaves { Leaves 1 1 self.old self.new offered.old offered.new }
+    fn tell(&mut self)
+        requires ready { IsReadyFor 1 1 self.old }
+        ensures step_state { GoesOn self.old self.new
+            (tell_phase self.old.offered.step) }
+        ensures leaves { Leaves 1 1 self.old self.new }
     {
         match self.raft.tell(&self.durable) {
             Telling::Nothing => {}
             Telling::Skip(place) => self.raft.told(place),
             Telling::Pair(place, uid, node) => {
-                if self.send_pair(&uid, node.get(), offered) {
+                if self.send_pair(&uid, node.get()) {
                     self.raft.told(place);
                 }
             }
@@ -74,21 +69,20 @@ impl<D: Disk> Member<D> {
     }
 
     /// Each other member on the list, in its order, is called where a call is owed.
-    fn call_all(&mut self, offered: &mut Offered)
-        requires ready { IsReady self.old }
-        requires room { array_vec_len offered.old.sent ≤ 7 }
-        ensures step_state { GoesOn self.old self.new offered.old offered.new
-            (call_phase offered.old.step) }
-        ensures leaves { Leaves 5 0 self.old self.new offered.old offered.new }
+    fn call_all(&mut self)
+        requires ready { IsReadyFor most_members 0 self.old }
+        ensures step_state { GoesOn self.old self.new
+            (call_phase self.old.offered.step) }
+        ensures leaves { Leaves most_members 0 self.old self.new }
     {
         let peers = self.peers();
-        self.call_each(peers.as_slice(), offered);
+        self.call_each(peers.as_slice());
     }
 
     /// The others on the list.
-    fn peers(&self) -> ArrayVec<u8, 5>
+    fn peers(&self) -> ArrayVec<u8, MOST_MEMBERS>
         ensures others { (t : AllocatorState) → StandsFor self.now t → result.items ≡ drop 1 (members_of t) }
-        ensures few { array_vec_len result ≤ 5 }
+        ensures few { array_vec_len result ≤ most_members }
         ensures devices { (i : ℕ) → i < length result.items →
             slice_index_or result.items i 0 ≤ 125 }
         ensures numbered { (i : ℕ) → i < length result.items → 1 ≤ slice_index_or result.items i 0 }
@@ -100,39 +94,43 @@ impl<D: Disk> Member<D> {
         }
     }
 
-    fn call_each(&mut self, peers: &[u8], offered: &mut Offered)
-        requires ready { IsReady self.old }
-        requires few { length peers.now ≤ 5 }
-        requires room { array_vec_len offered.old.sent ≤ 7 }
+    fn call_each(&mut self, peers: &[u8])
+        requires ready { IsReadyFor most_members 0 self.old }
+        requires few { length peers.now ≤ most_members }
         requires devices { (i : ℕ) → i < length peers.now → slice_index_or peers.now i 0 ≤ 125 }
         requires numbered { (i : ℕ) → i < length peers.now → 1 ≤ slice_index_or peers.now i 0 }
-        ensures step_state { GoesOn self.old self.new offered.old offered.new
-            (calls_all offered.old.step peers.now) }
-        ensures leaves { Leaves (length peers.now) 0 self.old self.new offered.old offered.new }
+        ensures step_state { GoesOn self.old self.new
+            (calls_all self.old.offered.step peers.now) }
+        ensures leaves { Leaves (length peers.now) 0 self.old self.new }
     {
         for peer in peers {
-            self.call(*peer, offered);
+            self.call(*peer);
         }
     }
 
     /// The call that is owed to a peer is made where it fits.
-    fn call(&mut self, peer: u8, offered: &mut Offered)
-        requires ready { IsReady self.old }
+    fn call(&mut self, peer: u8)
+        requires ready { IsReadyFor 1 0 self.old }
         requires least { 1 ≤ peer }
         requires most { peer ≤ 125 }
-        requires room { array_vec_len offered.old.sent < 12 }
-        ensures step_state { GoesOn self.old self.new offered.old offered.new
-            (calls_peer offered.old.step peer) }
-        ensures leaves { Leaves 1 0 self.old self.new offered.old offered.new }
+        ensures step_state { GoesOn self.old self.new
+            (calls_peer self.old.offered.step peer) }
+        ensures leaves { Leaves 1 0 self.old self.new }
     {
         let Some(call) = self.raft.call(&self.durable, peer, self.latest) else {
             return;
         };
         let what = what_of(&call);
         let id = self.outbox.next_id(what, peer);
-        if self.send(what, peer, payload_of(&call), offered) {
-            self.raft
-                .called(&self.durable, peer, &call, id, offered.step, self.latest);
+        if self.send(what, peer, payload_of(&call)) {
+            self.raft.called(
+                &self.durable,
+                peer,
+                &call,
+                id,
+                self.offered.step,
+                self.latest,
+            );
         }
     }
 }

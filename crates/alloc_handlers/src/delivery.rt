@@ -8,12 +8,10 @@ ghost use Rattle.can_frame.specs.declared.identifier.Kind.TheVariants.{Request};
 ghost use Rattle.dsdl_codec.specs.Discovery.{discovery_of};
 ghost use Rattle.dsdl_codec.specs.NodeStatus.{node_status_of};
 ghost use Rattle.raft_core.specs.StoredPuts.{CallFaultIsSticky};
-ghost use Rattle.alloc_spec.specs.declared.offered.Offered.{Offered};
 ghost use Rattle.alloc_spec.specs.Delivered.{delivery_phase, hears_discovery, hears_status, message, reads, request, response};
 ghost use Rattle.transfer_rx.specs.Told.{delivery_of};
 
 use crate::member::Member;
-use alloc_spec::Offered;
 use can_frame::{APPEND_ENTRIES, GET_NODE_INFO, Kind, NODE_STATUS, Seen};
 use cluster_discovery::laws::a_complete_list_stays;
 use disk_model::Disk;
@@ -22,23 +20,21 @@ use kv_store::Fault;
 use transfer_rx::Transfer;
 
 impl<D: Disk> Member<D> {
-    ghost use Rattle.alloc_handlers.specs.Stands.{IsReady, LeavesUpTo, SeesOn, SeesUpTo};
+    ghost use Rattle.alloc_handlers.specs.Stands.{IsReady, IsReadyFor, Leaves, LeavesUpTo, SeesOn, SeesUpTo};
 
     /// By the transfer's data type. A payload that is no value of it does nothing.
-    pub fn deliver(&mut self, transfer: &Transfer, offered: &mut Offered) -> Result<Seen, Fault>
-        requires ready { IsReady self.old }
+    pub fn deliver(&mut self, transfer: &Transfer) -> Result<Seen, Fault>
+        requires ready { IsReadyFor 1 1 self.old }
         requires ident { IsIdentifier transfer.now.ident }
         requires id { transfer.now.id < 32 }
-        requires room { array_vec_len offered.old.sent < 12 }
-        requires pairs { array_vec_len offered.old.answers < 2 }
-        ensures sees { SeesUpTo self.old self.new offered.old offered.new
-            (delivery_phase offered.old.step (delivery_of transfer.now)) result }
-        ensures leaves { LeavesUpTo 1 1 self.old self.new offered.old offered.new result }
+        ensures sees { SeesUpTo self.old self.new
+            (delivery_phase self.old.offered.step (delivery_of transfer.now)) result }
+        ensures leaves { LeavesUpTo 1 1 self.old self.new result }
     {
         match transfer.ident.kind {
-            Kind::Anonymous => self.hear_allocation(transfer, offered),
+            Kind::Anonymous => self.hear_allocation(transfer),
             Kind::Message => Ok(self.hear_message(transfer)),
-            Kind::Request => self.take_request(transfer, offered),
+            Kind::Request => self.take_request(transfer),
             Kind::Response => self.take_response(transfer),
         }
     }
@@ -46,10 +42,9 @@ impl<D: Disk> Member<D> {
     /// Of the messages NodeStatus and Discovery are received.
     fn hear_message(&mut self, transfer: &Transfer) -> Seen
         requires { IsReady self.old }
-        ensures sees { (offered : Offered) → SeesOn self.old self.new offered offered (message
+        ensures sees { SeesOn self.old self.new (message
             (delivery_of transfer.now)) result }
-        ensures ready { IsReady self.new }
-        ensures durable { self.new.durable ≡ self.old.durable }
+        ensures leaves { Leaves 0 0 self.old self.new }
     {
         if transfer.ident.number == NODE_STATUS.number {
             self.hear_status(transfer)
@@ -60,11 +55,10 @@ impl<D: Disk> Member<D> {
 
     fn hear_status(&mut self, transfer: &Transfer) -> Seen
         requires { IsReady self.old }
-        ensures sees { (offered : Offered) → SeesOn self.old self.new offered offered
+        ensures sees { SeesOn self.old self.new
             (reads (λ status. hears_status (delivery_of transfer.now))
             (node_status_of transfer.now.payload.items)) result }
-        ensures ready { IsReady self.new }
-        ensures durable { self.new.durable ≡ self.old.durable }
+        ensures leaves { Leaves 0 0 self.old self.new }
     {
         let Some(_) = NodeStatus::read(&transfer.payload) else {
             return Seen::Bad;
@@ -75,11 +69,10 @@ impl<D: Disk> Member<D> {
 
     fn hear_discovery(&mut self, transfer: &Transfer) -> Seen
         requires { IsReady self.old }
-        ensures sees { (offered : Offered) → SeesOn self.old self.new offered offered
+        ensures sees { SeesOn self.old self.new
             (reads (hears_discovery (delivery_of transfer.now))
             (discovery_of transfer.now.payload.items)) result }
-        ensures ready { IsReady self.new }
-        ensures durable { self.new.durable ≡ self.old.durable }
+        ensures leaves { Leaves 0 0 self.old self.new }
     {
         a_complete_list_stays();
         let Some(message) = Discovery::read(&transfer.payload) else {
@@ -90,32 +83,30 @@ impl<D: Disk> Member<D> {
     }
 
     /// Of the services GetNodeInfo, AppendEntries and RequestVote.
-    fn take_request(&mut self, transfer: &Transfer, offered: &mut Offered) -> Result<Seen, Fault>
-        requires ready { IsReady self.old }
+    fn take_request(&mut self, transfer: &Transfer) -> Result<Seen, Fault>
+        requires ready { IsReadyFor 1 0 self.old }
         requires least { 1 ≤ transfer.now.ident.source }
         requires most { transfer.now.ident.source ≤ 127 }
         requires id { transfer.now.id < 32 }
-        requires room { array_vec_len offered.old.sent < 12 }
-        ensures sees { SeesUpTo self.old self.new offered.old offered.new (request offered.old.step
+        ensures sees { SeesUpTo self.old self.new (request self.old.offered.step
             (delivery_of transfer.now)) result }
-        ensures leaves { LeavesUpTo 1 0 self.old self.new offered.old offered.new result }
+        ensures leaves { LeavesUpTo 1 0 self.old self.new result }
     {
         if transfer.ident.number == GET_NODE_INFO.number {
-            Ok(self.tell_info(transfer, offered))
+            Ok(self.tell_info(transfer))
         } else if transfer.ident.number == APPEND_ENTRIES.number {
-            self.take_append_request(transfer, offered)
+            self.take_append_request(transfer)
         } else {
-            self.take_vote_request(transfer, offered)
+            self.take_vote_request(transfer)
         }
     }
 
     fn take_response(&mut self, transfer: &Transfer) -> Result<Seen, Fault>
         requires { IsReady self.old }
-        ensures sees { (offered : Offered) (step : ℕ) →
-            SeesUpTo self.old self.new offered offered (response step
+        ensures sees { (step : ℕ) →
+            SeesUpTo self.old self.new (response step
             (delivery_of transfer.now)) result }
-        ensures ready { OnOk result (IsReady self.new) }
-        ensures faults { CallFaultIsSticky self.old.durable self.new.durable (result_err result) }
+        ensures leaves { LeavesUpTo 0 0 self.old self.new result }
     {
         if transfer.ident.number == GET_NODE_INFO.number {
             Ok(self.hear_info(transfer))

@@ -4,12 +4,12 @@ ghost use Rattle.can_frame.specs.Identifier.{IsIdentifier};
 ghost use Rattle.can_frame.specs.Log.{HasUid, log_limit};
 ghost use Rattle.raft_core.specs.RaftViews.{raft_role};
 ghost use Rattle.can_frame.specs.declared.step.Role.TheVariants.{Leader};
+ghost use Rattle.can_frame.specs.Sizes.{most_members};
 ghost use Rattle.cluster_discovery.specs.Members.{is_on_list};
 ghost use Rattle.raft_log.specs.DurableViews.{durable_disk, durable_state};
 ghost use Rattle.raft_core.specs.StoredPuts.{store_of};
 ghost use Rattle.raft_model.specs.Messages.{Message};
 ghost use Rattle.raft_model.specs.Moves.Elections.{is_leader};
-ghost use Rattle.alloc_spec.specs.declared.offered.Offered.{Offered};
 ghost use Rattle.alloc_spec.specs.StepState.{with_response_to, with_transfer};
 ghost use Rattle.alloc_spec.specs.Step.{at_sessions, begin_phase};
 ghost use Rattle.transfer_rx.specs.Sessions.{Session};
@@ -22,6 +22,7 @@ use crate::puts::puts_go_on;
 use alloc_exchange::Exchange;
 use alloc_spec::{Offered, Outbox};
 use arrayvec::ArrayVec;
+use can_frame::sizes::LOG_LIMIT;
 use can_frame::{Role, Uid, What, is_same_uid};
 use cluster_discovery::Cluster;
 use cluster_discovery::laws::a_complete_list_stays;
@@ -63,10 +64,13 @@ pub struct Member<D: Disk> {
 
     /// When the last NodeStatus was due, or the opening.
     pub status_at: u64,
+
+    /// What its step has offered so far.
+    pub offered: Offered,
 }
 
 impl<D: Disk> Member<D> {
-    ghost use Rattle.alloc_handlers.specs.Stands.{GoesOn, IsFresh, IsInStep, IsReady, Leaves, ListsGiven, StandsFor};
+    ghost use Rattle.alloc_handlers.specs.Stands.{GoesOn, IsInStep, IsReady, IsReadyFor, Leaves, StandsFor};
 
     /// A member that opens now, with what it has stored. It is not inlined: its caller would take minutes to
     /// compile.
@@ -75,7 +79,7 @@ impl<D: Disk> Member<D> {
         requires least { 1 ≤ me }
         requires most { me ≤ 125 }
         requires some { 1 ≤ size }
-        requires five { size ≤ 5 }
+        requires five { size ≤ most_members }
         ensures stands { StandsFor result (opening me size (store_of
             (durable_state durable)) now word) }
         ensures ready { IsReady result }
@@ -94,6 +98,7 @@ impl<D: Disk> Member<D> {
             opened_at: now,
             latest: now,
             status_at: now,
+            offered: Offered::new(0),
         }
     }
 
@@ -103,7 +108,7 @@ impl<D: Disk> Member<D> {
         requires least { 1 ≤ me }
         requires most { me ≤ 125 }
         requires some { 1 ≤ size }
-        requires five { size ≤ 5 }
+        requires five { size ≤ most_members }
         ensures stands { StandsFor self.new (opening me size (store_of
             (durable_state self.old.durable)) now word) }
         ensures ready { IsReady self.new }
@@ -120,6 +125,7 @@ impl<D: Disk> Member<D> {
         self.opened_at = now;
         self.latest = now;
         self.status_at = now;
+        self.offered = Offered::new(0);
     }
 
     /// Tells it the members of its cluster. They are learnt as from a Discovery that nobody sent. From now on the
@@ -127,7 +133,7 @@ impl<D: Disk> Member<D> {
     /// log. An empty list changes nothing.
     pub fn learn(&mut self, nodes: &[u8])
         requires ready { IsReady self.old }
-        requires few { length nodes.now ≤ 5 }
+        requires few { length nodes.now ≤ most_members }
         ensures stands { (t : AllocatorState) → StandsFor self.old t →
             StandsFor self.new (with_told nodes.now t) }
         ensures rest { self.new ≡ record self.old {
@@ -155,16 +161,17 @@ impl<D: Disk> Member<D> {
         self.raft.wait_until_heard();
     }
 
-    /// How each step begins: time goes on, never back, and old calls are given up.
-    pub fn begin(&mut self, now: u64)
+    /// How each step begins: it has offered nothing yet, time goes on, never back, and old calls are given up.
+    pub fn begin(&mut self, now: u64, step: u64)
         requires { IsReady self.old }
-        ensures step_state { (t : AllocatorState) → StandsFor self.old t → (offered : Offered) →
-            IsFresh offered → (step : ℕ) (sessions : List Session) →
-            IsInStep self.old.durable self.new offered (at_sessions sessions (begin_phase step now t)) }
+        ensures step_state { (t : AllocatorState) → StandsFor self.old t → (sessions : List Session) →
+            IsInStep self.old.durable self.new (at_sessions sessions (begin_phase step now t)) }
+        ensures step { self.new.offered.step ≡ step }
         ensures durable { self.new.durable ≡ self.old.durable }
-        ensures ready { IsReady self.new }
+        ensures ready { IsReadyFor 12 2 self.new }
     {
         puts_go_on::<D>();
+        self.offered = Offered::new(step);
         self.latest = self.latest.max(now);
         self.raft.expire(self.latest);
     }
@@ -191,7 +198,7 @@ impl<D: Disk> Member<D> {
         ensures room { result ≡ true → length (durable_state self.now.durable).log < log_limit }
         ensures stands { (t : AllocatorState) → StandsFor self.now t → result ≡ may_propose t }
     {
-        self.leads() && self.durable.last() < 127
+        self.leads() && usize::from(self.durable.last()) < LOG_LIMIT
     }
 
     /// The place, from 0, at which a unique ID stands in the log.
@@ -224,51 +231,38 @@ impl<D: Disk> Member<D> {
     }
 
     /// Offers a message, or a request to a node, and lists it. Whether it fitted.
-    pub fn send(&mut self, what: What, to: u8, payload: Payload, offered: &mut Offered) -> bool
-        requires ready { IsReady self.old }
+    pub fn send(&mut self, what: What, to: u8, payload: Payload) -> bool
+        requires ready { IsReadyFor 1 0 self.old }
         requires ident { IsIdentifier (ident_of self.old.me what to) }
-        requires room { array_vec_len offered.old.sent < 12 }
         ensures fitted { result ≡ has_room self.old.outbox.queue payload.items }
-        ensures gives { (after : Offered) → ListsGiven offered.old offered.new after result what
-            payload.items →
-            (says : Option Message) → GoesOn self.old self.new offered.old after
-            (with_transfer offered.old.step what to payload.items says) }
         ensures step_state { pair_in what payload.items ≡ None →
-            (says : Option Message) → GoesOn self.old self.new offered.old offered.new
-            (with_transfer offered.old.step what to payload.items says) }
-        ensures rest { self.new ≡ record self.old { outbox = self.new.outbox } }
-        ensures given { offered.new.answers ≡ offered.old.answers }
-        ensures leaves { Leaves 1 0 self.old self.new offered.old offered.new }
+            (says : Option Message) → GoesOn self.old self.new
+            (with_transfer self.old.offered.step what to payload.items says) }
+        ensures rest { self.new ≡ record self.old { outbox = self.new.outbox; offered = self.new.offered } }
+        ensures leaves { Leaves 1 0 self.old self.new }
     {
-        let fitted = self.outbox.send(what, to, payload, offered.step);
-        offered.list(what, to, fitted);
+        let fitted = self.outbox.send(what, to, payload, self.offered.step);
+        self.offered.list(what, to, fitted);
         fitted
     }
 
     /// Offers the response to a request, and lists it.
-    pub fn answer(
-        &mut self,
-        what: What,
-        request: &Transfer,
-        payload: Payload,
-        offered: &mut Offered,
-    )
-        requires ready { IsReady self.old }
+    pub fn answer(&mut self, what: What, request: &Transfer, payload: Payload)
+        requires ready { IsReadyFor 1 0 self.old }
         requires ident { IsIdentifier (ident_of self.old.me what request.now.ident.source) }
         requires id { request.now.id < 32 }
-        requires room { array_vec_len offered.old.sent < 12 }
         ensures step_state { pair_in what payload.items ≡ None →
-            (says : Option Message) → GoesOn self.old self.new offered.old offered.new
-            (with_response_to offered.old.step what (delivery_of request.now) payload.items says) }
-        ensures rest { self.new ≡ record self.old { outbox = self.new.outbox } }
-        ensures leaves { Leaves 1 0 self.old self.new offered.old offered.new }
+            (says : Option Message) → GoesOn self.old self.new
+            (with_response_to self.old.offered.step what (delivery_of request.now) payload.items says) }
+        ensures rest { self.new ≡ record self.old { outbox = self.new.outbox; offered = self.new.offered } }
+        ensures leaves { Leaves 1 0 self.old self.new }
     {
         let to = request.ident.source;
-        let step = offered.step;
+        let step = self.offered.step;
         let fitted = self
             .outbox
             .answer(what, to, request.id, payload, step, request.mark.step);
-        offered.list(what, to, fitted);
+        self.offered.list(what, to, fitted);
     }
 
     /// The disk as it stands.

@@ -10,7 +10,6 @@ ghost use Rattle.dsdl_codec.specs.NodeInfo.{node_info_of};
 ghost use Rattle.dsdl_codec.specs.VoteAnswer as vote_answer;
 ghost use Rattle.dsdl_codec.specs.VoteRequest as vote_request;
 ghost use Rattle.raft_core.specs.StoredPuts.{CallFaultIsSticky};
-ghost use Rattle.alloc_spec.specs.declared.offered.Offered.{Offered};
 ghost use Rattle.alloc_spec.specs.Delivered.{asks_info, reads};
 ghost use Rattle.alloc_spec.specs.Services as services;
 ghost use Rattle.alloc_spec.specs.Services.{answers_append_request, answers_vote_request, ends_append_call, ends_vote_call, hears_info, info_of, takes_append_answer, takes_append_request, takes_vote_answer, takes_vote_request};
@@ -19,7 +18,6 @@ ghost use Rattle.transfer_rx.specs.Told.{delivery_of};
 
 use crate::member::Member;
 use crate::puts::puts_go_on;
-use alloc_spec::Offered;
 use arrayvec::ArrayVec;
 use can_frame::{Seen, Uid, What};
 use disk_model::Disk;
@@ -28,35 +26,33 @@ use kv_store::Fault;
 use transfer_rx::Transfer;
 
 impl<D: Disk> Member<D> {
-    ghost use Rattle.alloc_handlers.specs.Stands.{GoesUpTo, IsReady, Leaves, LeavesUpTo, SeesOn, SeesUpTo, StandsFor};
+    ghost use Rattle.alloc_handlers.specs.Stands.{GoesUpTo, IsReady, IsReadyFor, Leaves, LeavesUpTo, SeesOn, SeesUpTo, StandsFor};
 
     /// The request of GetNodeInfo, which is empty, is answered.
-    pub fn tell_info(&mut self, request: &Transfer, offered: &mut Offered) -> Seen
-        requires ready { IsReady self.old }
+    pub fn tell_info(&mut self, request: &Transfer) -> Seen
+        requires ready { IsReadyFor 1 0 self.old }
         requires least { 1 ≤ request.now.ident.source }
         requires most { request.now.ident.source ≤ 127 }
         requires id { request.now.id < 32 }
-        requires room { array_vec_len offered.old.sent < 12 }
-        ensures sees { SeesOn self.old self.new offered.old offered.new
-            (asks_info offered.old.step (delivery_of request.now) request.now.payload.items) result }
-        ensures leaves { Leaves 1 0 self.old self.new offered.old offered.new }
+        ensures sees { SeesOn self.old self.new
+            (asks_info self.old.offered.step (delivery_of request.now) request.now.payload.items) result }
+        ensures leaves { Leaves 1 0 self.old self.new }
     {
         if !request.payload.is_empty() {
             return Seen::Bad;
         }
         let payload = self.info().write();
-        self.answer(What::Info, request, payload, offered);
+        self.answer(What::Info, request, payload);
         Seen::Took
     }
 
     /// The unique ID of a node that was asked for it.
     pub fn hear_info(&mut self, response: &Transfer) -> Seen
         requires ready { IsReady self.old }
-        ensures sees { (offered : Offered) → SeesOn self.old self.new offered offered
+        ensures sees { SeesOn self.old self.new
             (reads (hears_info (delivery_of response.now))
             (node_info_of response.now.payload.items)) result }
-        ensures ready { IsReady self.new }
-        ensures durable { self.new.durable ≡ self.old.durable }
+        ensures leaves { Leaves 0 0 self.old self.new }
     {
         let Some(info) = NodeInfo::read(&response.payload) else {
             return Seen::Bad;
@@ -66,111 +62,88 @@ impl<D: Disk> Member<D> {
         Seen::Took
     }
 
-    pub fn take_vote_request(
-        &mut self,
-        transfer: &Transfer,
-        offered: &mut Offered,
-    ) -> Result<Seen, Fault>
-        requires ready { IsReady self.old }
+    pub fn take_vote_request(&mut self, transfer: &Transfer) -> Result<Seen, Fault>
+        requires ready { IsReadyFor 1 0 self.old }
         requires id { transfer.now.id < 32 }
-        requires room { array_vec_len offered.old.sent < 12 }
-        ensures sees { SeesUpTo self.old self.new offered.old offered.new
-            (reads (takes_vote_request offered.old.step (delivery_of transfer.now))
+        ensures sees { SeesUpTo self.old self.new
+            (reads (takes_vote_request self.old.offered.step (delivery_of transfer.now))
             (vote_request.vote_request_of transfer.now.payload.items)) result }
-        ensures leaves { LeavesUpTo 1 0 self.old self.new offered.old offered.new result }
+        ensures leaves { LeavesUpTo 1 0 self.old self.new result }
     {
         puts_go_on::<D>();
         let Some(request) = VoteRequest::read(&transfer.payload) else {
             return Ok(Seen::Bad);
         };
         if self.lists(transfer.ident.source) {
-            self.answer_vote(transfer, &request, offered)?;
+            self.answer_vote(transfer, &request)?;
         }
         Ok(Seen::Took)
     }
 
     /// The vote is given or refused, and the answer offered, whether it fits or not.
-    fn answer_vote(
-        &mut self,
-        transfer: &Transfer,
-        request: &VoteRequest,
-        offered: &mut Offered,
-    ) -> Result<(), Fault>
-        requires ready { IsReady self.old }
+    fn answer_vote(&mut self, transfer: &Transfer, request: &VoteRequest) -> Result<(), Fault>
+        requires ready { IsReadyFor 1 0 self.old }
         requires least { 1 ≤ transfer.now.ident.source }
         requires most { transfer.now.ident.source ≤ 125 }
         requires id { transfer.now.id < 32 }
-        requires room { array_vec_len offered.old.sent < 12 }
-        ensures goes { GoesUpTo self.old self.new offered.old offered.new
-            (answers_vote_request offered.old.step (delivery_of transfer.now) request.now)
+        ensures goes { GoesUpTo self.old self.new
+            (answers_vote_request self.old.offered.step (delivery_of transfer.now) request.now)
             (result_err result) }
-        ensures leaves { LeavesUpTo 1 0 self.old self.new offered.old offered.new result }
+        ensures leaves { LeavesUpTo 1 0 self.old self.new result }
     {
         puts_go_on::<D>();
         let from = transfer.ident.source;
         let answer = self
             .raft
             .on_vote_request(&mut self.durable, from, request, self.latest)?;
-        self.answer(What::Vote, transfer, answer.write(), offered);
+        self.answer(What::Vote, transfer, answer.write());
         Ok(())
     }
 
-    pub fn take_append_request(
-        &mut self,
-        transfer: &Transfer,
-        offered: &mut Offered,
-    ) -> Result<Seen, Fault>
-        requires ready { IsReady self.old }
+    pub fn take_append_request(&mut self, transfer: &Transfer) -> Result<Seen, Fault>
+        requires ready { IsReadyFor 1 0 self.old }
         requires id { transfer.now.id < 32 }
-        requires room { array_vec_len offered.old.sent < 12 }
-        ensures sees { SeesUpTo self.old self.new offered.old offered.new
-            (reads (takes_append_request offered.old.step (delivery_of transfer.now))
+        ensures sees { SeesUpTo self.old self.new
+            (reads (takes_append_request self.old.offered.step (delivery_of transfer.now))
             (append_request.append_request_of transfer.now.payload.items)) result }
-        ensures leaves { LeavesUpTo 1 0 self.old self.new offered.old offered.new result }
+        ensures leaves { LeavesUpTo 1 0 self.old self.new result }
     {
         puts_go_on::<D>();
         let Some(request) = AppendRequest::read(&transfer.payload) else {
             return Ok(Seen::Bad);
         };
         if self.lists(transfer.ident.source) {
-            self.answer_append(transfer, &request, offered)?;
+            self.answer_append(transfer, &request)?;
         }
         Ok(Seen::Took)
     }
 
     /// The entries are accepted or refused, and the answer offered, whether it fits or not.
-    fn answer_append(
-        &mut self,
-        transfer: &Transfer,
-        request: &AppendRequest,
-        offered: &mut Offered,
-    ) -> Result<(), Fault>
-        requires ready { IsReady self.old }
+    fn answer_append(&mut self, transfer: &Transfer, request: &AppendRequest) -> Result<(), Fault>
+        requires ready { IsReadyFor 1 0 self.old }
         requires least { 1 ≤ transfer.now.ident.source }
         requires most { transfer.now.ident.source ≤ 125 }
         requires id { transfer.now.id < 32 }
-        requires room { array_vec_len offered.old.sent < 12 }
-        ensures goes { GoesUpTo self.old self.new offered.old offered.new
-            (answers_append_request offered.old.step (delivery_of transfer.now) request.now)
+        ensures goes { GoesUpTo self.old self.new
+            (answers_append_request self.old.offered.step (delivery_of transfer.now) request.now)
             (result_err result) }
-        ensures leaves { LeavesUpTo 1 0 self.old self.new offered.old offered.new result }
+        ensures leaves { LeavesUpTo 1 0 self.old self.new result }
     {
         puts_go_on::<D>();
         let from = transfer.ident.source;
         let answer = self
             .raft
             .on_append_request(&mut self.durable, from, request, self.latest)?;
-        self.answer(What::App, transfer, answer.write(), offered);
+        self.answer(What::App, transfer, answer.write());
         Ok(())
     }
 
     pub fn take_vote_answer(&mut self, transfer: &Transfer) -> Result<Seen, Fault>
         requires { IsReady self.old }
-        ensures sees { (offered : Offered) (step : ℕ) → SeesUpTo self.old self.new offered offered
+        ensures sees { (step : ℕ) → SeesUpTo self.old self.new
             (reads (takes_vote_answer step (delivery_of transfer.now))
             (vote_answer.vote_answer_of transfer.now.payload.items)) result }
-        ensures ready { OnOk result (IsReady self.new) }
-        ensures faults { CallFaultIsSticky self.old.durable self.new.durable (result_err result) }
+        ensures leaves { LeavesUpTo 0 0 self.old self.new result }
     {
         puts_go_on::<D>();
         let Some(answer) = VoteAnswer::read(&transfer.payload) else {
@@ -186,10 +159,9 @@ impl<D: Disk> Member<D> {
     fn end_vote_call(&mut self, transfer: &Transfer, answer: &VoteAnswer) -> Result<(), Fault>
         requires ready { IsReady self.old }
         requires most { transfer.now.ident.source ≤ 125 }
-        ensures goes { (offered : Offered) (step : ℕ) → GoesUpTo self.old self.new offered offered
+        ensures goes { (step : ℕ) → GoesUpTo self.old self.new
             (ends_vote_call step (delivery_of transfer.now) answer.now) (result_err result) }
-        ensures ready { OnOk result (IsReady self.new) }
-        ensures faults { CallFaultIsSticky self.old.durable self.new.durable (result_err result) }
+        ensures leaves { LeavesUpTo 0 0 self.old self.new result }
     {
         puts_go_on::<D>();
         let from = transfer.ident.source;
@@ -201,11 +173,10 @@ impl<D: Disk> Member<D> {
 
     pub fn take_append_answer(&mut self, transfer: &Transfer) -> Result<Seen, Fault>
         requires { IsReady self.old }
-        ensures sees { (offered : Offered) (step : ℕ) → SeesUpTo self.old self.new offered offered
+        ensures sees { (step : ℕ) → SeesUpTo self.old self.new
             (reads (takes_append_answer step (delivery_of transfer.now))
             (append_answer.append_answer_of transfer.now.payload.items)) result }
-        ensures ready { OnOk result (IsReady self.new) }
-        ensures faults { CallFaultIsSticky self.old.durable self.new.durable (result_err result) }
+        ensures leaves { LeavesUpTo 0 0 self.old self.new result }
     {
         puts_go_on::<D>();
         let Some(answer) = AppendAnswer::read(&transfer.payload) else {
@@ -221,10 +192,9 @@ impl<D: Disk> Member<D> {
     fn end_append_call(&mut self, transfer: &Transfer, answer: &AppendAnswer) -> Result<(), Fault>
         requires ready { IsReady self.old }
         requires most { transfer.now.ident.source ≤ 125 }
-        ensures goes { (offered : Offered) (step : ℕ) → GoesUpTo self.old self.new offered offered
+        ensures goes { (step : ℕ) → GoesUpTo self.old self.new
             (ends_append_call step (delivery_of transfer.now) answer.now) (result_err result) }
-        ensures ready { OnOk result (IsReady self.new) }
-        ensures faults { CallFaultIsSticky self.old.durable self.new.durable (result_err result) }
+        ensures leaves { LeavesUpTo 0 0 self.old self.new result }
     {
         puts_go_on::<D>();
         let from = transfer.ident.source;

@@ -1,17 +1,17 @@
 //! A whole step of a member.
 
-ghost use Rattle.std.specs.Prelude.{◌≡◌, ◌≤◌, ◌<◌, OnOk};
+ghost use Rattle.std.specs.Prelude.{◌+◌, OnOk};
 ghost use Rattle.std.specs.Result.{result_err};
-ghost use Rattle.arrayvec.specs.ArrayVec.{array_vec_len};
+ghost use Rattle.can_frame.specs.Sizes.{most_members};
 ghost use Rattle.raft_core.specs.StoredPuts.{CallFaultIsSticky};
-ghost use Rattle.alloc_spec.specs.Step.{Tick, step, takes_answer, with_answer};
+ghost use Rattle.alloc_spec.specs.Step as steps;
+ghost use Rattle.alloc_spec.specs.Step.{Tick, takes_answer, with_answer};
 ghost use Rattle.alloc_spec.specs.AllocatorState.{AllocatorState};
 ghost use Rattle.transfer_rx.specs.Heard.{IfDelivers, told_with};
 ghost use Rattle.transfer_rx.specs.Ranges.{IsInRange};
 
 use crate::member::Member;
 use crate::puts::puts_go_on;
-use alloc_spec::Offered;
 use alloc_spec::laws::phases_add_puts;
 use can_frame::Seen;
 use disk_model::Disk;
@@ -19,67 +19,51 @@ use kv_store::Fault;
 use transfer_rx::{Heard, Transfer};
 
 impl<D: Disk> Member<D> {
-    ghost use Rattle.alloc_handlers.specs.Stands.{IsFresh, IsReady, LeavesUpTo, SeesTo, SeesUpTo, StandsFor};
+    ghost use Rattle.alloc_handlers.specs.Stands.{IsReady, IsReadyFor, LeavesUpTo, SeesTo, SeesUpTo, StandsFor};
 
     /// The step in which it reads its clock. The word is for its next wait for an election.
-    pub fn take_tick(&mut self, now: u64, word: u32, offered: &mut Offered) -> Result<Seen, Fault>
+    pub fn take_tick(&mut self, now: u64, word: u32, step: u64) -> Result<Seen, Fault>
         requires ready { IsReady self.old }
-        requires fresh { IsFresh offered.old }
         ensures sees { (t : AllocatorState) → StandsFor self.old t →
-            SeesTo self.old.durable self.new offered.new (step t offered.old.step
-            (Tick now word)) result }
+            SeesTo self.old.durable self.new (steps.step t step (Tick now word)) result }
         ensures ready { OnOk result (IsReady self.new) }
         ensures faults { CallFaultIsSticky self.old.durable self.new.durable (result_err result) }
     {
         puts_go_on::<D>();
         phases_add_puts();
-        self.begin(now);
-        self.tick(word, offered)?;
-        self.end(offered)?;
+        self.begin(now, step);
+        self.tick(word)?;
+        self.end()?;
         Ok(Seen::Ticked)
     }
 
     /// What its receiver made of a frame, in a step that has begun; then the step ends. `transfer` is the
     /// one that was delivered last.
-    pub fn take_heard(
-        &mut self,
-        heard: Heard,
-        transfer: &Transfer,
-        offered: &mut Offered,
-    ) -> Result<Seen, Fault>
-        requires ready { IsReady self.old }
+    pub fn take_heard(&mut self, heard: Heard, transfer: &Transfer) -> Result<Seen, Fault>
+        requires ready { IsReadyFor (most_members + 2) 2 self.old }
         requires ranges { IfDelivers heard (IsInRange transfer.now) }
-        requires room { array_vec_len offered.old.sent ≤ 5 }
-        requires pairs { array_vec_len offered.old.answers ≡ 0 }
-        ensures sees { SeesUpTo self.old self.new offered.old offered.new
-            (takes_answer offered.old.step (told_with transfer.now heard)) result }
+        ensures sees { SeesUpTo self.old self.new
+            (takes_answer self.old.offered.step (told_with transfer.now heard)) result }
         ensures ready { OnOk result (IsReady self.new) }
         ensures faults { CallFaultIsSticky self.old.durable self.new.durable (result_err result) }
     {
         puts_go_on::<D>();
         phases_add_puts();
-        let seen = self.take_delivery(heard, transfer, offered)?;
-        self.end(offered)?;
+        let seen = self.take_delivery(heard, transfer)?;
+        self.end()?;
         Ok(seen)
     }
 
     /// A transfer that was delivered is taken; of any other frame it is told what it led to.
-    fn take_delivery(
-        &mut self,
-        heard: Heard,
-        transfer: &Transfer,
-        offered: &mut Offered,
-    ) -> Result<Seen, Fault>
-        requires ready { IsReady self.old }
+    fn take_delivery(&mut self, heard: Heard, transfer: &Transfer) -> Result<Seen, Fault>
+        requires ready { IsReadyFor 1 1 self.old }
         requires ranges { IfDelivers heard (IsInRange transfer.now) }
-        requires room { array_vec_len offered.old.sent < 12 }
-        requires pairs { array_vec_len offered.old.answers < 2 }
-        ensures sees { SeesUpTo self.old self.new offered.old offered.new
-            (with_answer offered.old.step (told_with transfer.now heard)) result }
-        ensures leaves { LeavesUpTo 1 1 self.old self.new offered.old offered.new result }
+        ensures sees { SeesUpTo self.old self.new
+            (with_answer self.old.offered.step (told_with transfer.now heard)) result }
+        ensures leaves { LeavesUpTo 1 1 self.old self.new result }
     {
         match heard {
-            Heard::Delivered => self.deliver(transfer, offered),
+            Heard::Delivered => self.deliver(transfer),
             Heard::Part => Ok(Seen::Part),
             Heard::Dropped(why) => Ok(Seen::Dropped(why)),
         }

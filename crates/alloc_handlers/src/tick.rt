@@ -4,21 +4,21 @@ ghost use Rattle.std.specs.Prelude.{◌≡◌, ◌≢◌, ◌≤◌, ◌<◌, �
 ghost use Rattle.std.specs.Result.{result_err};
 ghost use Rattle.arrayvec.specs.ArrayVec.{array_vec_len};
 ghost use Rattle.can_frame.specs.Log.{HasNodeId, HasUid, log_limit};
+ghost use Rattle.can_frame.specs.Sizes.{node_ids};
 ghost use Rattle.can_frame.specs.Zeros.{zeros};
 ghost use Rattle.can_frame.specs.declared.step.Role.TheVariants.{Leader};
 ghost use Rattle.raft_core.specs.RaftViews.{raft_role};
 ghost use Rattle.raft_log.specs.DurableViews.{durable_state};
 ghost use Rattle.raft_core.specs.StoredPuts.{CallFaultIsSticky};
-ghost use Rattle.alloc_spec.specs.declared.offered.Offered.{Offered};
 ghost use Rattle.alloc_spec.specs.Tick.{asks, candidate, discovery_phase, election_phase, is_candidate, new_uid, proposes, query_phase, record_phase, records_as, reserves, status_phase, clock_phase};
 ghost use Rattle.alloc_spec.specs.AllocatorState.{AllocatorState, is_known};
 ghost use Rattle.alloc_handlers.specs.Strangers.{is_stranger};
 
 use crate::member::Member;
 use crate::puts::puts_go_on;
-use alloc_spec::Offered;
 use alloc_spec::laws::phases_add_puts;
 use arrayvec::ArrayVec;
+use can_frame::sizes::NODE_IDS;
 use can_frame::timing::STATUS_INTERVAL;
 use can_frame::{NodeId, Uid, What, is_zero};
 use disk_model::Disk;
@@ -26,65 +26,61 @@ use kv_store::Fault;
 use raft_log::origin;
 
 impl<D: Disk> Member<D> {
-    ghost use Rattle.alloc_handlers.specs.Stands.{GoesOn, GoesUpTo, IsReady, Leaves, LeavesUpTo, StandsFor};
+    ghost use Rattle.alloc_handlers.specs.Stands.{GoesOn, GoesUpTo, IsReady, IsReadyFor, Leaves, LeavesUpTo, StandsFor};
 
     /// In order: Discovery and NodeStatus where they are due, the tick of Raft, the record of a
     /// node that told its unique ID or stays silent, and a query to one that did not tell it.
-    pub fn tick(&mut self, word: u32, offered: &mut Offered) -> Result<(), Fault>
-        requires ready { IsReady self.old }
-        requires room { array_vec_len offered.old.sent ≤ 4 }
-        ensures goes { GoesUpTo self.old self.new offered.old offered.new
-            (clock_phase offered.old.step word) (result_err result) }
-        ensures leaves { LeavesUpTo 3 0 self.old self.new offered.old offered.new result }
+    pub fn tick(&mut self, word: u32) -> Result<(), Fault>
+        requires ready { IsReadyFor 3 0 self.old }
+        ensures goes { GoesUpTo self.old self.new
+            (clock_phase self.old.offered.step word) (result_err result) }
+        ensures leaves { LeavesUpTo 3 0 self.old self.new result }
     {
         phases_add_puts();
         puts_go_on::<D>();
-        self.tell_members(offered);
-        self.tell_status(offered);
+        self.tell_members();
+        self.tell_status();
         self.elect(word)?;
-        self.identify_nodes(offered)
+        self.identify_nodes()
     }
 
     /// The member's own Discovery, where it is due. One that finds no room counts as sent.
-    fn tell_members(&mut self, offered: &mut Offered)
-        requires ready { IsReady self.old }
-        requires room { array_vec_len offered.old.sent < 12 }
-        ensures step_state { GoesOn self.old self.new offered.old offered.new
-            (discovery_phase offered.old.step) }
-        ensures leaves { Leaves 1 0 self.old self.new offered.old offered.new }
+    fn tell_members(&mut self)
+        requires ready { IsReadyFor 1 0 self.old }
+        ensures step_state { GoesOn self.old self.new
+            (discovery_phase self.old.offered.step) }
+        ensures leaves { Leaves 1 0 self.old self.new }
     {
         if !self.cluster.due(self.latest) {
             return;
         }
         let payload = self.cluster.message().write();
-        self.send(What::Disc, 0, payload, offered);
+        self.send(What::Disc, 0, payload);
         self.cluster.sent(self.latest);
     }
 
     /// NodeStatus, 1,000 ms after the last one or the opening.
-    fn tell_status(&mut self, offered: &mut Offered)
-        requires ready { IsReady self.old }
-        requires room { array_vec_len offered.old.sent < 12 }
-        ensures step_state { GoesOn self.old self.new offered.old offered.new
-            (status_phase offered.old.step) }
-        ensures leaves { Leaves 1 0 self.old self.new offered.old offered.new }
+    fn tell_status(&mut self)
+        requires ready { IsReadyFor 1 0 self.old }
+        ensures step_state { GoesOn self.old self.new
+            (status_phase self.old.offered.step) }
+        ensures leaves { Leaves 1 0 self.old self.new }
     {
         if self.latest - self.status_at < STATUS_INTERVAL {
             return;
         }
         let payload = self.status().write();
-        self.send(What::Stat, 0, payload, offered);
+        self.send(What::Stat, 0, payload);
         self.status_at = self.latest;
     }
 
     /// The tick of Raft: a member that has waited stands for election.
     fn elect(&mut self, word: u32) -> Result<(), Fault>
         requires { IsReady self.old }
-        ensures goes { (offered : Offered) (step : ℕ) →
-            GoesUpTo self.old self.new offered offered (election_phase step word)
+        ensures goes { (step : ℕ) →
+            GoesUpTo self.old self.new (election_phase step word)
             (result_err result) }
-        ensures ready { OnOk result (IsReady self.new) }
-        ensures faults { CallFaultIsSticky self.old.durable self.new.durable (result_err result) }
+        ensures leaves { LeavesUpTo 0 0 self.old self.new result }
     {
         puts_go_on::<D>();
         let members = self.cluster.members();
@@ -100,12 +96,11 @@ impl<D: Disk> Member<D> {
 
     /// A leader records a node of the bus that is not known, and asks one for its unique ID. Mostly all
     /// are known, and then neither is looked for.
-    fn identify_nodes(&mut self, offered: &mut Offered) -> Result<(), Fault>
-        requires ready { IsReady self.old }
-        requires room { array_vec_len offered.old.sent < 12 }
-        ensures goes { GoesUpTo self.old self.new offered.old offered.new
-            (λ g. query_phase offered.old.step (record_phase offered.old.step g)) (result_err result) }
-        ensures leaves { LeavesUpTo 1 0 self.old self.new offered.old offered.new result }
+    fn identify_nodes(&mut self) -> Result<(), Fault>
+        requires ready { IsReadyFor 1 0 self.old }
+        ensures goes { GoesUpTo self.old self.new
+            (λ g. query_phase self.old.offered.step (record_phase self.old.offered.step g)) (result_err result) }
+        ensures leaves { LeavesUpTo 1 0 self.old self.new result }
     {
         phases_add_puts();
         puts_go_on::<D>();
@@ -116,7 +111,7 @@ impl<D: Disk> Member<D> {
             return Ok(());
         }
         self.record_node()?;
-        self.ask_node(offered);
+        self.ask_node();
         Ok(())
     }
 
@@ -134,8 +129,8 @@ impl<D: Disk> Member<D> {
         false
     }
 
-    fn is_stranger(&self, known: &[bool; 128], node: u8) -> bool
-        requires { node < 128 }
+    fn is_stranger(&self, known: &[bool; NODE_IDS], node: u8) -> bool
+        requires { node < node_ids }
         ensures { (t : AllocatorState) → StandsFor self.now t →
             slice_index_or known.now node true ≡ is_known t node → result ≡ is_stranger t node }
     {
@@ -146,10 +141,9 @@ impl<D: Disk> Member<D> {
     /// unique ID or stays silent.
     fn record_node(&mut self) -> Result<(), Fault>
         requires { IsReady self.old }
-        ensures goes { (offered : Offered) (step : ℕ) →
-            GoesUpTo self.old self.new offered offered (record_phase step) (result_err result) }
-        ensures ready { OnOk result (IsReady self.new) }
-        ensures faults { CallFaultIsSticky self.old.durable self.new.durable (result_err result) }
+        ensures goes { (step : ℕ) →
+            GoesUpTo self.old self.new (record_phase step) (result_err result) }
+        ensures leaves { LeavesUpTo 0 0 self.old self.new result }
     {
         puts_go_on::<D>();
         if !self.may_propose() {
@@ -180,8 +174,8 @@ impl<D: Disk> Member<D> {
         None
     }
 
-    fn is_candidate(&self, known: &[bool; 128], node: u8) -> bool
-        requires { node < 128 }
+    fn is_candidate(&self, known: &[bool; NODE_IDS], node: u8) -> bool
+        requires { node < node_ids }
         ensures computed { (t : AllocatorState) → StandsFor self.now t →
             slice_index_or known.now node true ≡ is_known t node → result ≡ is_candidate t node }
         ensures unknown { result ≡ true → slice_index_or known.now node true ≡ false }
@@ -213,11 +207,10 @@ impl<D: Disk> Member<D> {
         requires some { IfSome uid (λ told. told ≢ zeros) }
         requires free { IfSome uid (λ told. HasUid (durable_state self.old.durable).log told → ⊥) }
         requires free_node { HasNodeId (durable_state self.old.durable).log node → ⊥ }
-        ensures goes { (offered : Offered) (step : ℕ) →
-            GoesUpTo self.old self.new offered offered (records_as step node uid)
+        ensures goes { (step : ℕ) →
+            GoesUpTo self.old self.new (records_as step node uid)
             (result_err result) }
-        ensures ready { OnOk result (IsReady self.new) }
-        ensures faults { CallFaultIsSticky self.old.durable self.new.durable (result_err result) }
+        ensures leaves { LeavesUpTo 0 0 self.old self.new result }
     {
         match uid {
             Some(uid) => self.propose(&uid, node, origin::NODE_INFO),
@@ -226,33 +219,31 @@ impl<D: Disk> Member<D> {
     }
 
     /// A leader asks the next node that is due for its unique ID.
-    fn ask_node(&mut self, offered: &mut Offered)
-        requires ready { IsReady self.old }
-        requires room { array_vec_len offered.old.sent < 12 }
-        ensures step_state { GoesOn self.old self.new offered.old offered.new
-            (query_phase offered.old.step) }
-        ensures leaves { Leaves 1 0 self.old self.new offered.old offered.new }
+    fn ask_node(&mut self)
+        requires ready { IsReadyFor 1 0 self.old }
+        ensures step_state { GoesOn self.old self.new
+            (query_phase self.old.offered.step) }
+        ensures leaves { Leaves 1 0 self.old self.new }
     {
         if !self.leads() {
             return;
         }
         let known = self.known();
         if let Some(node) = self.watch.next_query(&known, self.latest) {
-            self.ask(node, offered);
+            self.ask(node);
         }
     }
 
     /// The request of GetNodeInfo, which is empty.
-    fn ask(&mut self, node: NodeId, offered: &mut Offered)
-        requires ready { IsReady self.old }
-        requires room { array_vec_len offered.old.sent < 12 }
-        ensures step_state { GoesOn self.old self.new offered.old offered.new (asks offered.old.step
+    fn ask(&mut self, node: NodeId)
+        requires ready { IsReadyFor 1 0 self.old }
+        ensures step_state { GoesOn self.old self.new (asks self.old.offered.step
             (Some node)) }
-        ensures leaves { Leaves 1 0 self.old self.new offered.old offered.new }
+        ensures leaves { Leaves 1 0 self.old self.new }
     {
         let to = node.get();
         let id = self.outbox.next_id(What::InfoQ, to);
-        if self.send(What::InfoQ, to, ArrayVec::new(), offered) {
+        if self.send(What::InfoQ, to, ArrayVec::new()) {
             self.watch.asked(node, id, self.latest);
         }
     }
@@ -269,11 +260,10 @@ impl<D: Disk> Member<D> {
         requires most { origin ≤ 2 }
         requires free { HasUid (durable_state self.old.durable).log uid.now → ⊥ }
         requires free_node { HasNodeId (durable_state self.old.durable).log node → ⊥ }
-        ensures goes { (offered : Offered) (step : ℕ) →
-            GoesUpTo self.old self.new offered offered (proposes step origin uid.now node)
+        ensures goes { (step : ℕ) →
+            GoesUpTo self.old self.new (proposes step origin uid.now node)
             (result_err result) }
-        ensures ready { OnOk result (IsReady self.new) }
-        ensures faults { CallFaultIsSticky self.old.durable self.new.durable (result_err result) }
+        ensures leaves { LeavesUpTo 0 0 self.old self.new result }
     {
         puts_go_on::<D>();
         self.raft.propose(&mut self.durable, uid, node, origin)?;
@@ -287,10 +277,9 @@ impl<D: Disk> Member<D> {
         requires log_room { length (durable_state self.old.durable).log < log_limit }
         requires node { node ≤ 125 }
         requires free_node { HasNodeId (durable_state self.old.durable).log node → ⊥ }
-        ensures goes { (offered : Offered) (step : ℕ) →
-            GoesUpTo self.old self.new offered offered (reserves step node) (result_err result) }
-        ensures ready { OnOk result (IsReady self.new) }
-        ensures faults { CallFaultIsSticky self.old.durable self.new.durable (result_err result) }
+        ensures goes { (step : ℕ) →
+            GoesUpTo self.old self.new (reserves step node) (result_err result) }
+        ensures leaves { LeavesUpTo 0 0 self.old self.new result }
     {
         puts_go_on::<D>();
         self.raft.reserve(&mut self.durable, node)?;

@@ -1,12 +1,13 @@
 //! The choice of a node ID.
 
+use can_frame::sizes::NODE_IDS;
 use id_selector::choose;
 
 /// The number that is chosen where only the IDs of `free` are free.
 fn chosen(free: &[u8], preferred: u8) -> Option<u8> {
-    let mut taken = [true; 128];
+    let mut taken = [true; NODE_IDS];
     for id in free {
-        if *id < 128 {
+        if (*id as usize) < NODE_IDS {
             taken[*id as usize] = false;
         }
     }
@@ -15,9 +16,9 @@ fn chosen(free: &[u8], preferred: u8) -> Option<u8> {
 
 /// The number that is chosen where only the IDs of `nodes` are taken.
 fn chosen_beside(nodes: &[u8], preferred: u8) -> Option<u8> {
-    let mut taken = [false; 128];
+    let mut taken = [false; NODE_IDS];
     for id in nodes {
-        if *id < 128 {
+        if (*id as usize) < NODE_IDS {
             taken[*id as usize] = true;
         }
     }

@@ -1,5 +1,6 @@
 //! Watching the nodes of the bus.
 
+use can_frame::sizes::NODE_IDS;
 use can_frame::{NodeId, Uid};
 use node_discovery::{Counting, Watch};
 
@@ -23,11 +24,11 @@ fn ask(watch: &mut Watch, node: u8, now: u64) {
 fn asks_once_a_second(rt: HostRuntime) {
     let mut watch = Watch::new();
     watch.status(50, 2001);
-    assert_eq!(rt; watch.next_query(&[false; 128], 2002), NodeId::new(50));
-    assert_eq!(rt; watch.next_query(&[true; 128], 2002), None);
+    assert_eq!(rt; watch.next_query(&[false; NODE_IDS], 2002), NodeId::new(50));
+    assert_eq!(rt; watch.next_query(&[true; NODE_IDS], 2002), None);
     let watch = asked();
-    assert_eq!(rt; watch.next_query(&[false; 128], 3001), None);
-    assert_eq!(rt; watch.next_query(&[false; 128], 3002), NodeId::new(50));
+    assert_eq!(rt; watch.next_query(&[false; NODE_IDS], 3001), None);
+    assert_eq!(rt; watch.next_query(&[false; NODE_IDS], 3002), NodeId::new(50));
 }
 
 #[test]
@@ -36,7 +37,7 @@ fn takes_an_answer_once(rt: HostRuntime) {
         let mut watch = asked();
         assert_eq!(rt; watch.info(50, transfer_id, &UID, now), want, "at {now}");
         assert_eq!(rt; watch.identified(50, now) == Some(UID), want, "at {now}");
-        assert_eq!(rt; watch.unknown(&[false; 128], now), !want, "at {now}");
+        assert_eq!(rt; watch.unknown(&[false; NODE_IDS], now), !want, "at {now}");
         assert!(rt; !watch.info(50, transfer_id, &UID, now), "again at {now}");
     }
 }
@@ -47,7 +48,7 @@ fn is_online_for_three_seconds(rt: HostRuntime) {
     for (now, want) in [(0, true), (5001, true), (5002, false)] {
         assert_eq!(rt; watch.online(50, now), want, "at {now}");
         assert_eq!(rt; watch.seen(now)[50], want, "at {now}");
-        assert_eq!(rt; watch.unknown(&[false; 128], now), want, "at {now}");
+        assert_eq!(rt; watch.unknown(&[false; NODE_IDS], now), want, "at {now}");
     }
 }
 
@@ -58,8 +59,8 @@ fn a_query_of_an_earlier_spell_counts(rt: HostRuntime) {
     watch.status(50, 2001);
     ask(&mut watch, 50, 5000);
     watch.status(50, 5002);
-    assert_eq!(rt; watch.next_query(&[false; 128], 5999), None);
-    assert_eq!(rt; watch.next_query(&[false; 128], 6000), NodeId::new(50));
+    assert_eq!(rt; watch.next_query(&[false; NODE_IDS], 5999), None);
+    assert_eq!(rt; watch.next_query(&[false; NODE_IDS], 6000), NodeId::new(50));
     assert!(rt; !watch.info(50, 0, &UID, 5003));
 }
 
@@ -159,7 +160,7 @@ fn takes_no_status_of_a_tool(rt: HostRuntime) {
         let mut watch = Watch::new();
         watch.status(from, 0);
         assert!(rt; !watch.online(from, 0), "from {from}");
-        assert_eq!(rt; watch.seen(0), [false; 128], "from {from}");
+        assert_eq!(rt; watch.seen(0), [false; NODE_IDS], "from {from}");
     }
 }
 

@@ -1,3 +1,4 @@
 pub mod Outside
 pub mod Unchanged
+pub mod Unlisted
 pub mod Verdicts

@@ -9,16 +9,17 @@ use Rattle.can_frame.specs.declared.mark.Mark.{Mark}
 use Rattle.can_frame.specs.declared.step.Judged.TheVariants.{Fine}
 use Rattle.can_frame.specs.declared.step.Why.{Why}
 use Rattle.can_frame.specs.declared.step.Why.TheVariants.{NotWanted, Start, Toggle}
+use Rattle.can_frame.specs.Kinds.{is_anonymous, is_response}
 use Rattle.transfer_rx.specs.declared.accept.AcceptRow.{AcceptRow}
 use Rattle.transfer_rx.specs.declared.accept.Wanted.{Wanted}
 use Rattle.transfer_rx.specs.Acceptance.{accepted, first_signature, is_for, wanted, with_signature}
-use Rattle.transfer_rx.specs.Keys.{is_anonymous, key_of}
+use Rattle.transfer_rx.specs.Keys.{key_of}
 use Rattle.transfer_rx.specs.Marks.{is_whole}
 use Rattle.transfer_rx.specs.Outcome.{Delivers, Grows, Outcome, Spoils, out_of_turn, outcome}
 use Rattle.transfer_rx.specs.Reassembly.{Arrival, Delivery, Drops, Gives, Setting, answer, answer_of, at_session, by_kind, in_turn, of_wanted, piece_in, session_step, step}
 use Rattle.transfer_rx.specs.Sessions.{Session, others, recent_sessions, session_for}
 use Rattle.alloc_spec.specs.Accepted.{setting_for}
-use Rattle.alloc_spec.specs.Judging.{answer_judgement, arrival_judgement, is_response}
+use Rattle.alloc_spec.specs.Judging.{answer_judgement, arrival_judgement}
 use Rattle.alloc_spec.specs.AllocatorState.{AllocatorState}
 use Rattle.alloc_server.proofs.Verdicts.{now_then}
 

@@ -8,8 +8,9 @@ use Rattle.transfer_rx.specs.Reassembly.{Answer, Arrival, Continues, Delivery, D
 use Rattle.transfer_rx.specs.Sessions.{Session}
 use Rattle.can_frame.specs.declared.frame.Frame.{Frame}
 use Rattle.can_frame.specs.declared.mark.Mark.{Mark}
+use Rattle.can_frame.specs.Kinds.{is_response}
 use Rattle.alloc_spec.specs.Accepted.{setting_for}
-use Rattle.alloc_spec.specs.Judging.{is_response, is_stale, answer_judgement, arrival_judgement, misses}
+use Rattle.alloc_spec.specs.Judging.{is_stale, answer_judgement, arrival_judgement, misses}
 use Rattle.raft_core.specs.Times.{Sending}
 use Rattle.raft_model.specs.Messages.{Request as Call}
 use Rattle.alloc_spec.specs.AllocatorState.{AllocatorState}

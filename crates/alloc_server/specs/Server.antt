@@ -21,7 +21,7 @@ use Rattle.alloc_spec.specs.declared.event.Outcome.{Outcome}
 use Rattle.alloc_handlers.specs.declared.member.Member.{Member}
 use Rattle.alloc_server.specs.declared.server.Server.{Server}
 use Rattle.can_frame.specs.declared.step.Seen.{Seen}
-use Rattle.alloc_spec.specs.declared.offered.Offered.{Offered}
+use Rattle.can_frame.specs.Sizes.{blocks, sessions}
 use Rattle.transfer_rx.specs.Reassembly.{arrival_of}
 use Rattle.alloc_spec.specs.Accepted.{setting_for}
 use Rattle.alloc_spec.specs.StepState.{pairs, listing_of}
@@ -56,7 +56,7 @@ module _ {D F : Type 0} {disk : Ghosts D} where
   abbrev pub fault_of : Server D F disk → Option Fault
   fault_of server = server.fault
 
-  -- it stands for a timed server, part for part; no step has failed, nor a put
+  -- it stands for an allocator state, part for part; no step has failed, nor a put
   pub record StandsFor (server : Server D F disk) (t : AllocatorState) : Type 0 where
     pub member : member.StandsFor server.member t
     pub sessions : receiver.HasSessions server.receiver t.sessions
@@ -91,7 +91,7 @@ module _ {D F : Type 0} {disk : Ghosts D} where
         ≡ copies_after (stored_puts puts (durable_state (durable_of old)))
         (durable_state (durable_of old)) (durable_copies (durable_of old))
 
-  -- what a step does that is this of the timed server
+  -- what a step does that is this of the allocator state
   pub record StepsTo (old new : Server D F disk) (step_result : StepResult) (result : Result Outcome Fault)
       : Type 0 where
     -- where no put fails, it stands for the server afterwards, and tells what was seen and offered
@@ -105,10 +105,10 @@ module _ {D F : Type 0} {disk : Ghosts D} where
     pub puts : WritesInOrder (stored_puts step_result.step_state.puts (durable_state (durable_of old)))
         (durable_of old) (durable_of new) (is_ok result)
 
--- what a step has come to: the member and its receiver, what was listed, what it saw
+-- what a step has come to: the member and its receiver, and what it saw
 pub record ComesTo {D F : Type 0} {disk : Ghosts D} (start : Durable D disk) (t : AllocatorState)
-    (after : Member D disk) (r : Receiver F 160 128) (offered : Offered) (step_result : StepResult)
-    (result : Result Seen Fault) : Type 0 where
-  pub sees : member.SeesTo start after offered step_result result
+    (after : Member D disk) (r : Receiver F sessions blocks) (step_result : StepResult) (result : Result Seen Fault)
+    : Type 0 where
+  pub sees : member.SeesTo start after step_result result
   pub sessions : receiver.HasSessions r step_result.step_state.allocator.sessions
   pub me : step_result.step_state.allocator.me ≡ t.me

@@ -8,11 +8,12 @@ ghost use Rattle.raft_core.specs.Times.{Sending};
 ghost use Rattle.raft_model.specs.Messages.{Request};
 ghost use Rattle.transfer_rx.specs.Heard.{delivery_with};
 ghost use Rattle.can_frame.specs.declared.step.Judged.TheVariants.{Fine, Stale, Torn};
+ghost use Rattle.can_frame.specs.Kinds.{is_response};
 ghost use Rattle.transfer_rx.specs.Acceptance.{AnswersByRows};
 ghost use Rattle.transfer_rx.specs.Reassembly.{arrival_of};
 ghost use Rattle.alloc_spec.specs.Accepted as accepted;
-ghost use Rattle.alloc_spec.specs.Judging.{is_response, is_stale, arrival_judgement, misses};
-ghost use Rattle.transfer_rx.specs.Memory.{ReceiverFitsInMemory};
+ghost use Rattle.alloc_spec.specs.Accepted.{AllocatorReceiverFitsInMemory};
+ghost use Rattle.alloc_spec.specs.Judging.{is_stale, arrival_judgement, misses};
 ghost use Rattle.alloc_spec.specs.AllocatorState.{AllocatorState};
 
 use crate::server::Server;
@@ -30,7 +31,7 @@ impl<D: Disk, F: Fn(Kind, u16) -> Option<u64> + Copy> Server<D, F> {
     /// response that a pending call would take, and answers another call. A server that has failed
     /// delivers nothing. Nothing changes.
     pub fn judge(&self, frame: &Frame, mark: Mark, now: u64) -> Judged
-        requires memory { ReceiverFitsInMemory F.row 160 128 }
+        requires memory { AllocatorReceiverFitsInMemory F.row }
         requires callable { F.IsAlwaysCallable (accepts self.now) }
         requires answers { AnswersByRows (F.post (accepts self.now)) accepted.rows }
         ensures judged { (t : AllocatorState) → StandsFor self.now t →
@@ -49,7 +50,7 @@ impl<D: Disk, F: Fn(Kind, u16) -> Option<u64> + Copy> Server<D, F> {
     /// Judges the last frame of a transfer. A frame that is fine whatever it delivers is not to pay for
     /// what the receiver foretells.
     fn judge_last(&self, frame: &Frame, mark: Mark, now: u64) -> Judged
-        requires memory { ReceiverFitsInMemory F.row 160 128 }
+        requires memory { AllocatorReceiverFitsInMemory F.row }
         requires callable { F.IsAlwaysCallable (accepts self.now) }
         requires answers { AnswersByRows (F.post (accepts self.now)) accepted.rows }
         ensures { (t : AllocatorState) → StandsFor self.now t →
@@ -71,7 +72,7 @@ impl<D: Disk, F: Fn(Kind, u16) -> Option<u64> + Copy> Server<D, F> {
         ensures { (t : AllocatorState) → StandsFor self.now t → (payload : List ℕ) →
             result ≡ is_stale t (delivery_with heading.now payload) now }
     {
-        if !is_response(heading.ident.kind) {
+        if !heading.ident.kind.is_response() {
             return false;
         }
         if heading.ident.source > 125 {
@@ -99,17 +100,8 @@ fn is_of_response(frame: &Frame) -> bool
         identifier_of frame.now.id ≡ Some ident → is_response ident.kind ≡ false }
 {
     match Ident::read(frame.id) {
-        Some(ident) => is_response(ident.kind),
+        Some(ident) => ident.kind.is_response(),
         None => false,
-    }
-}
-
-fn is_response(kind: Kind) -> bool
-    ensures { result ≡ is_response kind }
-{
-    match kind {
-        Kind::Message | Kind::Anonymous | Kind::Request => false,
-        Kind::Response => true,
     }
 }
 

@@ -17,11 +17,12 @@ ghost use Rattle.transfer_rx.specs.Acceptance.{AnswersByRows};
 ghost use Rattle.transfer_tx.specs.Queue.{next_out};
 ghost use Rattle.transfer_tx.specs.Views.{queued_of};
 ghost use Rattle.std.proofs.Props.{props};
+ghost use Rattle.can_frame.specs.Sizes.{most_members};
 ghost use Rattle.transfer_rx.specs.Views.{setting_of};
 ghost use Rattle.raft_core.specs.OneFit.{ReachesUpTo-prop};
 ghost use Rattle.alloc_handlers.specs.Stands.{IsReady};
 ghost use Rattle.alloc_spec.specs.Accepted as accepted;
-ghost use Rattle.transfer_rx.specs.Memory.{ReceiverFitsInMemory};
+ghost use Rattle.alloc_spec.specs.Accepted.{AllocatorReceiverFitsInMemory};
 ghost use Rattle.alloc_spec.specs.Step.{after_pop};
 ghost use Rattle.alloc_spec.specs.Step as steps;
 ghost use Rattle.alloc_spec.specs.AllocatorState.{AllocatorState, entry_of, opening, view_of};
@@ -31,11 +32,13 @@ use crate::take::take;
 use alloc_handlers::Member;
 use alloc_spec::{Event, Offered, Outcome, View};
 use arrayvec::ArrayVec;
+use can_frame::sizes::{BLOCKS, SESSIONS};
 use can_frame::{Entry, Kind};
 use disk_model::{Disk, MemoryDisk};
 use kv_store::{Fault, OpenFault, OpenRefused};
 use outside::Pattern;
 use raft_log::Durable;
+use std::mem;
 use transfer_rx::{AcceptRow, Receiver};
 use transfer_tx::Marked;
 
@@ -43,8 +46,7 @@ use transfer_tx::Marked;
 #[derive(Drop)]
 pub struct Server<D: Disk, F> {
     pub(crate) member: Member<D>,
-    /// With 160 sessions, and 128 blocks of 28 bytes.
-    pub(crate) receiver: Receiver<F, 160, 128>,
+    pub(crate) receiver: Receiver<F, SESSIONS, BLOCKS>,
 
     /// What each step answers until the server is opened: the fault of the step that failed, or that of its
     /// stored state, which is closed.
@@ -75,9 +77,9 @@ impl<D: Disk, F: Fn(Kind, u16) -> Option<u64> + Copy> Server<D, F> {
         requires least { 1 ≤ me }
         requires most { me ≤ 125 }
         requires some { 1 ≤ size }
-        requires five { size ≤ 5 }
+        requires five { size ≤ most_members }
         requires rows { rows.items ≡ accepted.rows }
-        requires memory { ReceiverFitsInMemory F.row 160 128 }
+        requires memory { AllocatorReceiverFitsInMemory F.row }
         requires callable { F.IsAlwaysCallable accept }
         requires answers { AnswersByRows (F.post accept) rows.items }
         ensures stands { IfOk result (λ server. StandsFor server (opening me size (store_of
@@ -119,7 +121,7 @@ impl<D: Disk, F: Fn(Kind, u16) -> Option<u64> + Copy> Server<D, F> {
     /// Runs the step with this number on an event. Where the disk fails, the step ends, what waited
     /// for the bus is lost, and the server answers the same fault from then on.
     pub fn step(&mut self, event: Event, step: u64) -> Result<Outcome, Fault>
-        requires memory { ReceiverFitsInMemory F.row 160 128 }
+        requires memory { AllocatorReceiverFitsInMemory F.row }
         requires callable { F.IsAlwaysCallable (accepts self.old) }
         requires answers { AnswersByRows (F.post (accepts self.old)) accepted.rows }
 
@@ -160,9 +162,9 @@ impl<D: Disk, F: Copy> Server<D, F> {
         requires least { 1 ≤ me }
         requires most { me ≤ 125 }
         requires some { 1 ≤ size }
-        requires five { size ≤ 5 }
+        requires five { size ≤ most_members }
         requires rows { rows.items ≡ accepted.rows }
-        requires memory { ReceiverFitsInMemory F.row 160 128 }
+        requires memory { AllocatorReceiverFitsInMemory F.row }
         ensures disk { disk_at result ≡ disk }
         ensures state { durable_state (durable_at result) ≡ first_state }
         ensures copies { (key : ℕ) → durable_copies (durable_at result) key ≡ 0 }
@@ -188,8 +190,8 @@ impl<D: Disk, F: Copy> Server<D, F> {
         requires least { 1 ≤ me }
         requires most { me ≤ 125 }
         requires some { 1 ≤ size }
-        requires five { size ≤ 5 }
-        requires memory { ReceiverFitsInMemory F.row 160 128 }
+        requires five { size ≤ most_members }
+        requires memory { AllocatorReceiverFitsInMemory F.row }
         ensures stands { OnOk result (IsAt self.new (opening me size (store_of
             (durable_state (durable_at self.new))) now word)) }
         ensures accepts { closure_in self.new ≡ closure_in self.old }
@@ -239,7 +241,7 @@ impl<D: Disk, F: Copy> Server<D, F> {
     /// Tells a server that is open all members of its cluster: so it has heard them before its first step, where
     /// it is told at its opening. An empty list changes nothing, nor does a server that is closed or has failed.
     pub fn learn(&mut self, nodes: &[u8])
-        requires few { length nodes.now ≤ 5 }
+        requires few { length nodes.now ≤ most_members }
         ensures stands { (t : AllocatorState) → IsAt self.old t → IsAt self.new (with_told nodes.now t) }
         ensures accepts { closure_in self.new ≡ closure_in self.old }
         ensures durable { durable_at self.new ≡ durable_at self.old }
@@ -258,7 +260,7 @@ impl<D: Disk, F: Copy> Server<D, F> {
         event: Event,
         step: u64,
     ) -> Result<Outcome, Fault>
-        requires memory { ReceiverFitsInMemory F.row 160 128 }
+        requires memory { AllocatorReceiverFitsInMemory F.row }
         requires callable { G.IsAlwaysCallable accept }
         requires answers { AnswersByRows (G.post accept) accepted.rows }
 
@@ -280,19 +282,15 @@ impl<D: Disk, F: Copy> Server<D, F> {
         if let Some(fault) = self.fault {
             return Err(fault);
         }
-        let mut offered = Offered::new(step);
-        match take(
-            &mut self.member,
-            &mut self.receiver,
-            accept,
-            event,
-            &mut offered,
-        ) {
-            Ok(seen) => Ok(Outcome {
-                seen,
-                sent: offered.sent,
-                answers: offered.answers,
-            }),
+        match take(&mut self.member, &mut self.receiver, accept, event, step) {
+            Ok(seen) => {
+                let offered = mem::replace(&mut self.member.offered, Offered::new(step));
+                Ok(Outcome {
+                    seen,
+                    sent: offered.sent,
+                    answers: offered.answers,
+                })
+            }
             Err(fault) => {
                 self.fault = Some(fault);
                 self.member.outbox.clear();

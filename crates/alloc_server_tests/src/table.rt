@@ -4,8 +4,8 @@ ghost use Rattle.std.specs.Prelude.{◌≡◌};
 ghost use Rattle.disk_model.specs.declared.memory.MemoryDisk.{MemoryDisk};
 ghost use Rattle.alloc_server.specs.Server.{accepts};
 ghost use Rattle.alloc_spec.specs.Accepted as accepted;
+ghost use Rattle.alloc_spec.specs.Accepted.{AllocatorReceiverFitsInMemory};
 ghost use Rattle.transfer_rx.specs.Acceptance.{AnswersByRows};
-ghost use Rattle.transfer_rx.specs.Memory.{ReceiverFitsInMemory};
 
 use crate::bus::event;
 use alloc_server::{Event, Outcome, Server};
@@ -26,7 +26,7 @@ pub(crate) fn play<F: Fn(Kind, u16) -> Option<u64> + Copy>(
     server: &mut Server<MemoryDisk, F>,
     cases: &[Case],
 )
-    requires memory { ReceiverFitsInMemory F.row 160 128 }
+    requires memory { AllocatorReceiverFitsInMemory F.row }
     requires callable { F.IsAlwaysCallable (accepts server.old) }
     requires answers { AnswersByRows (F.post (accepts server.old)) accepted.rows }
     ensures { accepts server.new ≡ accepts server.old }
@@ -45,7 +45,7 @@ pub(crate) fn line_of<F: Fn(Kind, u16) -> Option<u64> + Copy>(
     event: Event,
     number: u64,
 ) -> ArrayVec<u8, 400>
-    requires memory { ReceiverFitsInMemory F.row 160 128 }
+    requires memory { AllocatorReceiverFitsInMemory F.row }
     requires callable { F.IsAlwaysCallable (accepts server.old) }
     requires answers { AnswersByRows (F.post (accepts server.old)) accepted.rows }
     ensures { accepts server.new ≡ accepts server.old }

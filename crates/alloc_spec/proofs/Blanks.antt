@@ -4,7 +4,7 @@ use Rattle.std.specs.Prelude.{◌&&◌, not, nat_lt, if◌then◌else◌}
 use Rattle.can_frame.specs.Log.{blank}
 use Rattle.raft_core.specs.Handled.{is_moment, puts_with_origins, with_blank}
 use Rattle.raft_core.specs.StoredPuts.{PutWithOrigin}
-use Rattle.raft_core.specs.Times.{Given, given_tick, has_waited}
+use Rattle.raft_core.specs.Times.{HandedIn, given_tick, has_waited}
 use Rattle.raft_model.specs.Duty.{takes_blank, tick_phase}
 use Rattle.raft_model.specs.Moves.{Move}
 use Rattle.raft_model.specs.Moves.Elections.{is_leader, term_limit}
@@ -23,11 +23,11 @@ pub record IsMomentOf (g moved : StepState) : Type 0 where
   pub moment : is_moment (members_of g.allocator) g.allocator.me g.allocator.times g.allocator.raft_server moved.allocator.raft_server ≡ true
 
 -- the leader adds it
-abbrev pub adds_blank : ℕ → Given → StepState → StepState
+abbrev pub adds_blank : ℕ → HandedIn → StepState → StepState
 adds_blank step given g = with_moves step given (ProposeEntry (blank g.allocator.raft_server.store.term) ∷ []) g
 
 -- these moves, and a blank behind them where it is its moment
-abbrev pub moves_and_blank : ℕ → Given → List Move → StepState → StepState
+abbrev pub moves_and_blank : ℕ → HandedIn → List Move → StepState → StepState
 moves_and_blank step given moves g =
     with_moves step given (with_blank (members_of g.allocator) g.allocator.me step g.allocator.times g.allocator.raft_server moves) g
 
@@ -41,7 +41,7 @@ one_after_another before first second =
     ap (λ (l : List PutWithOrigin). (before ++ l) ++ second) (append_none first) ∙ append_assoc before first second
 
 -- a move and then another are the two together
-pub in_turn : (step : ℕ) (given : Given) (first second : Move) (g : StepState)
+pub in_turn : (step : ℕ) (given : HandedIn) (first second : Move) (g : StepState)
     → with_moves step given (second ∷ []) (with_moves step given (first ∷ []) g) ≡ with_moves step given (first ∷ second ∷ []) g
 in_turn step given first second g =
     ap (λ (moves : List Move). record both { moves = moves; puts = (g.puts ++ puts_of (first ∷ [])) ++ puts_with_origins (members_of g.allocator) g.allocator.me step given moved.allocator.raft_server (second ∷ []) })
@@ -58,7 +58,7 @@ in_turn step given first second g =
     puts_of moves = puts_with_origins (members_of g.allocator) g.allocator.me step given g.allocator.raft_server moves
 
 -- what holds after a move, and after a blank that follows it
-pub move_with_blank : (Holds : StepState → Type 0) (step : ℕ) (given : Given) (move : Move) (g : StepState) → Holds (with_moves step given (move ∷ []) g)
+pub move_with_blank : (Holds : StepState → Type 0) (step : ℕ) (given : HandedIn) (move : Move) (g : StepState) → Holds (with_moves step given (move ∷ []) g)
     → (IsMomentOf g (with_moves step given (move ∷ []) g) → Holds (adds_blank step given (with_moves step given (move ∷ []) g)))
     → Holds (moves_and_blank step given (move ∷ []) g)
 move_with_blank Holds step given move g moved adds =
@@ -84,7 +84,7 @@ pub tick_with_blank : (Holds : StepState → Type 0) (step word : ℕ) (g : Step
 tick_with_blank Holds step word g =
     by ((knows_all g.allocator && has_waited g.allocator.times g.allocator.now) && (not (is_leader g.allocator.raft_server.memory.role) && nat_lt g.allocator.raft_server.store.term term_limit))
   where
-    given : Given
+    given : HandedIn
     given = given_tick g.allocator.now word
 
     ticked : Bool → StepState

@@ -3,7 +3,7 @@ use Rattle.std.proofs.Common.{◌≡◌, ℕ, Bool, true, false, List, [], ◌++
 use Rattle.std.specs.Prelude.{if◌then◌else◌}
 use Rattle.raft_core.specs.Handled.{puts_with_origins}
 use Rattle.raft_core.specs.StoredPuts.{PutWithOrigin}
-use Rattle.raft_core.specs.Times.{Given}
+use Rattle.raft_core.specs.Times.{HandedIn}
 use Rattle.raft_model.specs.Moves.{Move}
 use Rattle.alloc_spec.specs.AllocatorState.{members_of}
 use Rattle.alloc_spec.specs.Extends.{Extends}
@@ -24,7 +24,7 @@ and_more g mid later a b = record {
   me = b.me ∙ a.me;
 }
 
-pub takes_more : (step : ℕ) (given : Given) (moves : List Move) (g : StepState) → Extends g (with_moves step given moves g)
+pub takes_more : (step : ℕ) (given : HandedIn) (moves : List Move) (g : StepState) → Extends g (with_moves step given moves g)
 takes_more step given moves g = record { more = puts_with_origins (members_of g.allocator) g.allocator.me step given g.allocator.raft_server moves; puts = refl; sessions = refl; me = refl }
 
 pub either_more : (b : Bool) (g x y : StepState) → Extends g x → Extends g y → Extends g (if b then x else y)

@@ -1,4 +1,4 @@
--- A server in time: a server of the message machine, with the moments and the lists that its step goes by. It is the
+-- An allocator state: a server of the Raft model, with the moments and the lists that its step goes by. It is the
 -- server of the code without its tables, chains of bytes and caches.
 use Rattle.std.specs.Prelude.{ℕ, ◌-◌, ◌/◌, Bool, ◌&&◌, ◌||◌, min, nat_eq, nat_lt, List, [], length, map, position, Option}
 use Rattle.std.specs.List.{list_any, range_with_len}
@@ -7,7 +7,8 @@ use Rattle.alloc_exchange.specs.Exchange.{Accepted}
 use Rattle.can_frame.specs.declared.entry.Entry.{Entry}
 use Rattle.can_frame.specs.declared.step.Role.{Role}
 use Rattle.can_frame.specs.declared.step.Role.TheVariants.{Follower, Candidate, Leader}
-use Rattle.can_frame.specs.Log.{entry_at}
+use Rattle.can_frame.specs.Log.{entry_at, log_limit}
+use Rattle.can_frame.specs.Sizes.{node_ids}
 use Rattle.can_frame.specs.Zeros.{zeros}
 use Rattle.cluster_discovery.specs.Members.{Event as Heard, Start, is_complete, is_on_list, members}
 use Rattle.dsdl_codec.specs.declared.node_status.NodeStatus.{NodeStatus}
@@ -28,7 +29,7 @@ pub record AllocatorState : Type 0 where
   -- the allocator's own node ID, and how many members its cluster has
   pub me : ℕ
   pub size : ℕ
-  -- the server of the message machine, and what it waits for
+  -- the server of the Raft model, and what it waits for
   pub raft_server : RaftServer
   pub times : Times
   -- the transfers that it receives
@@ -93,7 +94,7 @@ is_zero uid = bytes_eq uid zeros
 
 -- a leader whose log has room may record a pair
 abbrev pub may_propose : AllocatorState → Bool
-may_propose t = is_leader t.raft_server.memory.role && nat_lt (length t.raft_server.store.log) 127
+may_propose t = is_leader t.raft_server.memory.role && nat_lt (length t.raft_server.store.log) log_limit
 
 -- ---- node IDs
 
@@ -108,9 +109,9 @@ is_known t node = is_on_list (members_of t) node || is_recorded t.raft_server.st
 abbrev pub is_taken : AllocatorState → ℕ → Bool
 is_taken t node = is_known t node || is_online (history node t.watch) t.now
 
--- for each node ID from 0 to 127
+-- for each node ID, from 0 on
 abbrev pub by_node : (ℕ → Bool) → List Bool
-by_node test = map test (range_with_len 0 128)
+by_node test = map test (range_with_len 0 node_ids)
 
 abbrev pub known : AllocatorState → List Bool
 known t = by_node (is_known t)

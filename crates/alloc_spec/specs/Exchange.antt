@@ -5,7 +5,7 @@ use Rattle.alloc_exchange.specs.declared.heard.Heard.TheVariants.{Denied, Follow
 use Rattle.alloc_exchange.specs.Exchange.{after, answer}
 use Rattle.can_frame.specs.declared.entry.Entry.{Entry}
 use Rattle.can_frame.specs.declared.step.What.TheVariants.{Alloc}
-use Rattle.can_frame.specs.Log.{blank}
+use Rattle.can_frame.specs.Log.{blank, log_limit}
 use Rattle.dsdl_codec.specs.declared.allocation.Allocation.{Allocation}
 use Rattle.dsdl_codec.specs.Allocation.{allocation_bytes}
 use Rattle.id_selector.specs.Choice.{chosen}
@@ -72,7 +72,7 @@ hears_whole step uid preference g =
 abbrev pub may_follow : AllocatorState → Bool
 may_follow t = is_leader t.raft_server.memory.role
     && (nat_eq t.raft_server.store.commit (length t.raft_server.store.log)
-    || nat_eq (length t.raft_server.store.log) 127)
+    || nat_eq (length t.raft_server.store.log) log_limit)
 
 abbrev pub with_request : Allocation → StepState → StepState
 with_request message g =

@@ -1,11 +1,10 @@
 -- Whether a frame may be given to a server in a cluster under test: what it would deliver was made by one step, and a
 -- response that a pending call would take answers that very call.
 use Rattle.std.specs.Prelude.{◌≡◌, ◌⊎◌, ℕ, ◌-◌, Bool, true, false, not, ◌&&◌, ◌||◌, max, nat_eq, nat_le, nat_lt, Option, None, Some, if◌then◌else◌}
-use Rattle.can_frame.specs.declared.identifier.Kind.{Kind}
-use Rattle.can_frame.specs.declared.identifier.Kind.TheVariants.{Anonymous, Message, Request, Response}
 use Rattle.can_frame.specs.declared.step.Judged.{Judged}
 use Rattle.can_frame.specs.declared.step.Judged.TheVariants.{Fine, Stale, Torn}
 use Rattle.can_frame.specs.DataTypes.{append_entries, request_vote}
+use Rattle.can_frame.specs.Kinds.{is_response}
 use Rattle.can_frame.specs.Timing.{call_timeout}
 use Rattle.dsdl_codec.specs.declared.append_answer.AppendAnswer.{AppendAnswer}
 use Rattle.dsdl_codec.specs.declared.vote_answer.VoteAnswer.{VoteAnswer}
@@ -32,12 +31,6 @@ abbrev pub misses : Delivery → ℕ → Option Call → Option Sending → Bool
 misses d now (Some call) (Some sending) = would_take d now call sending && not (nat_eq d.mark.re call.step)
 misses d now (Some call) None = false
 misses d now None sending = false
-
-abbrev pub is_response : Kind → Bool
-is_response Message = false
-is_response Anonymous = false
-is_response Request = false
-is_response Response = true
 
 -- members are 1 to 125
 abbrev pub is_stale : AllocatorState → Delivery → ℕ → Bool

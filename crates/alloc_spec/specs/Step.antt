@@ -2,6 +2,7 @@
 use Rattle.std.specs.Prelude.{ℕ, max, List}
 use Rattle.std.specs.List.{range_with_len}
 use Rattle.can_frame.specs.declared.step.Seen.TheVariants.{Dropped, Part, Ticked}
+use Rattle.can_frame.specs.Sizes.{node_ids}
 use Rattle.raft_core.specs.Handled.{moves_of_expire}
 use Rattle.raft_core.specs.Times.{given_at, overdue}
 use Rattle.transfer_rx.specs.Reassembly.{Answer, Arrival, Continues, Drops, Gives, answer, next}
@@ -30,7 +31,7 @@ abbrev pub at_moment : ℕ → AllocatorState → AllocatorState
 at_moment now t = record t { now = max t.now now }
 
 unfoldable pub all_nodes : List ℕ
-all_nodes = range_with_len 0 128
+all_nodes = range_with_len 0 node_ids
 
 abbrev pub expiry_phase : ℕ → StepState → StepState
 expiry_phase step g =

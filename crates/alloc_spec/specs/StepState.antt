@@ -5,12 +5,12 @@ use Rattle.can_frame.specs.declared.step.Sent.{Sent}
 use Rattle.can_frame.specs.declared.step.What.{What}
 use Rattle.raft_core.specs.Handled.{puts_with_origins}
 use Rattle.raft_core.specs.StoredPuts.{PutWithOrigin}
-use Rattle.raft_core.specs.Times.{Given as HandedIn, times_after_all}
+use Rattle.raft_core.specs.Times.{HandedIn, times_after_all}
 use Rattle.raft_model.specs.Handlers.{server_after_all}
 use Rattle.raft_model.specs.Messages.{Message}
 use Rattle.raft_model.specs.Moves.{Move}
 use Rattle.transfer_rx.specs.Reassembly.{Delivery}
-use Rattle.alloc_spec.specs.Transfers.{Given, Offer, frames_of, has_room, id_of, message_of, pair_in, sent_of}
+use Rattle.alloc_spec.specs.Transfers.{GivenPair, Offer, frames_of, has_room, id_of, message_of, pair_in, sent_of}
 use Rattle.alloc_spec.specs.Outbox.{counted_if, queued_if}
 use Rattle.alloc_spec.specs.AllocatorState.{AllocatorState, members_of}
 
@@ -29,7 +29,7 @@ initial_state t = record { allocator = t; moves = []; puts = []; offers = [] }
 abbrev pub with_allocator : AllocatorState → StepState → StepState
 with_allocator t g = record g { allocator = t }
 
--- ---- moves: the one way in which the server of the machine changes
+-- ---- moves: the one way in which the server of the Raft model changes
 
 abbrev pub allocator_after : ℕ → HandedIn → List Move → AllocatorState → AllocatorState
 allocator_after step given moves t = record t {
@@ -101,19 +101,19 @@ with_response_to step what d payload says g = with_response step what d.ident.so
 abbrev pub listing_of : StepState → List Sent
 listing_of g = map sent_of g.offers
 
-abbrev pub pair_of_offer : Offer → Option Given
+abbrev pub pair_of_offer : Offer → Option GivenPair
 pair_of_offer offer = if offer.fitted then pair_in offer.what offer.payload else None
 
 -- the pairs of the Allocations that fitted
-abbrev pub pairs : StepState → List Given
+abbrev pub pairs : StepState → List GivenPair
 pairs g = filter_map pair_of_offer g.offers
 
 -- the pair of one transfer, or none, as a list
-abbrev pub pair_list : Option Given → List Given
+abbrev pub pair_list : Option GivenPair → List GivenPair
 pair_list None = []
 pair_list (Some given) = given ∷ []
 
-abbrev pub pairs_if_fitted : Bool → What → List ℕ → List Given
+abbrev pub pairs_if_fitted : Bool → What → List ℕ → List GivenPair
 pairs_if_fitted fitted what payload = pair_list (if fitted then pair_in what payload else None)
 
 -- the messages of the transfers that fitted

@@ -12,6 +12,7 @@ use Rattle.raft_model.specs.Messages.Message.{Pairs}
 use Rattle.transfer_tx.specs.declared.outgoing.Outgoing.{Outgoing}
 use Rattle.can_frame.specs.Cutting.{frame_count}
 use Rattle.can_frame.specs.DataTypes.{type_of}
+use Rattle.can_frame.specs.Sizes.{node_ids}
 use Rattle.transfer_tx.specs.Queue.{Queued, queued_frames}
 
 -- ---- on the bus (uavcan.protocol; priority 30 for everything that an allocator sends)
@@ -47,7 +48,7 @@ pub record Offer : Type 0 where
   pub payload : List ℕ
   -- the step of the request that it answers, or 0
   pub re : ℕ
-  -- the request or answer of the machine that it carries
+  -- the request or answer of the Raft model that it carries
   pub says : Option Message
   pub fitted : Bool
 
@@ -58,17 +59,17 @@ sent_of offer = record { what = offer.what; to = offer.to; fitted = offer.fitted
 -- ---- what an Allocation says is read from its payload
 
 -- a unique ID, and the node ID that its device gets
-abbrev pub Given : Type 0
-Given = List ℕ × ℕ
+abbrev pub GivenPair : Type 0
+GivenPair = List ℕ × ℕ
 
 -- a node ID for a whole unique ID
-abbrev pub pair_of_allocation : Option Allocation → Option Given
+abbrev pub pair_of_allocation : Option Allocation → Option GivenPair
 pair_of_allocation None = None
 pair_of_allocation (Some allocation) =
     if nat_le 1 allocation.node && nat_eq (length allocation.uid.items) 16
     then Some (allocation.uid.items, allocation.node) else None
 
-abbrev pub pair_in : What → List ℕ → Option Given
+abbrev pub pair_in : What → List ℕ → Option GivenPair
 pair_in Alloc payload = pair_of_allocation (allocation_of payload)
 pair_in Disc payload = None
 pair_in Stat payload = None
@@ -79,8 +80,8 @@ pair_in Vote payload = None
 pair_in AppQ payload = None
 pair_in App payload = None
 
--- the message of the machine that a member's transfer carries, which a step made
-abbrev pub pair_message : ℕ → ℕ → Option Given → Option Message
+-- the message of the Raft model that a member's transfer carries, which a step made
+abbrev pub pair_message : ℕ → ℕ → Option GivenPair → Option Message
 pair_message step me None = None
 pair_message step me (Some given) = Some (Pairs (record { step = step; from = me; uid = given.0; node = given.1 }))
 
@@ -129,9 +130,9 @@ first_ids = record {
   alloc = 0;
   disc = 0;
   stat = 0;
-  info = replicate 128 0;
-  vote = replicate 128 0;
-  append = replicate 128 0;
+  info = replicate node_ids 0;
+  vote = replicate node_ids 0;
+  append = replicate node_ids 0;
 }
 
 -- of the next message, or of the next request to a node

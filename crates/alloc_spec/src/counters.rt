@@ -1,7 +1,9 @@
 ghost use Rattle.std.specs.Prelude.{◌≡◌, ◌<◌};
+ghost use Rattle.can_frame.specs.Sizes.{node_ids};
 ghost use Rattle.alloc_spec.specs.Transfers.{first_ids, id_of, ids_after};
 
 use can_frame::What;
+use can_frame::sizes::NODE_IDS;
 use std::marker::Model;
 
 /// The transfer IDs that come next: one for each message type, and one for each service and
@@ -13,10 +15,10 @@ pub(crate) struct Counters {
     stat: u8,
 
     /// By destination, as the next two.
-    info: [u8; 128],
+    info: [u8; NODE_IDS],
 
-    vote: [u8; 128],
-    append: [u8; 128],
+    vote: [u8; NODE_IDS],
+    append: [u8; NODE_IDS],
 }
 
 impl Model for Counters {
@@ -48,15 +50,15 @@ impl Counters {
             alloc: 0,
             disc: 0,
             stat: 0,
-            info: [0; 128],
-            vote: [0; 128],
-            append: [0; 128],
+            info: [0; NODE_IDS],
+            vote: [0; NODE_IDS],
+            append: [0; NODE_IDS],
         }
     }
 
     /// The transfer ID of the next message, or of the next request to a node.
     pub fn next(&self, what: What, to: u8) -> u8
-        requires { to < 128 }
+        requires { to < node_ids }
         ensures id { result ≡ id_of self.now what to }
         ensures range { result < 32 }
     {
@@ -72,7 +74,7 @@ impl Counters {
 
     /// The transfer with the next transfer ID was queued.
     pub fn advance(&mut self, what: What, to: u8)
-        requires { to < 128 }
+        requires { to < node_ids }
         ensures { self.new ≡ ids_after what to self.old }
     {
         let id = (self.next(what, to) + 1) % 32;

@@ -1,10 +1,10 @@
 //! What one allocator's step is, and the parts that a server of it is made of.
 //!
-//! The definition (`specs/`): a server in time is a server of the message machine (`raft_model`)
-//! with the moments and lists that its step goes by (`AllocatorState`). A step is a function of it:
-//! what an event, with its moment, makes of a server where no put fails (`Step`). It says what the
-//! server is afterwards, which moves of the machine it made, with which puts, and which transfers
-//! it offered, in order (`StepState`). Whether a frame fits a server under test is said over the same
+//! The definition (`specs/`): an allocator state is a server of the Raft model (`raft_model`) with
+//! the moments and lists that its step goes by (`AllocatorState`). A step is a function of it: what
+//! an event, with its moment, makes of a server where no put fails (`Step`). It says what the server
+//! is afterwards, which moves of the Raft model it made, with which puts, and which transfers it
+//! offered, in order (`StepState`). Whether a frame fits a server under test is said over the same
 //! definition (`Judging`).
 //!
 //! The parts: the transfers that an allocator sends and receives ([`accept_rows`], [`ident_of`]),
@@ -25,5 +25,5 @@ pub use can_frame::{Judged, Role, Seen, Sent, What};
 pub use event::{Event, Outcome, View};
 pub use offered::Offered;
 pub use outbox::Outbox;
-pub use rows::{accept, accept_rows};
+pub use rows::{accept, accept_rows, is_of_members};
 pub use transfers::ident_of;

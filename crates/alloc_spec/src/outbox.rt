@@ -1,5 +1,6 @@
 ghost use Rattle.std.specs.Prelude.{◌≡◌, ◌<◌, ◌≤◌, ◌↔◌, [], length, option_map, IsNone};
 ghost use Rattle.can_frame.specs.Identifier.{IsIdentifier};
+ghost use Rattle.can_frame.specs.Sizes.{node_ids};
 ghost use Rattle.transfer_tx.specs.Queue.{left_behind, next_out, queued_frames};
 ghost use Rattle.transfer_tx.specs.Views.{queued_of};
 ghost use Rattle.alloc_spec.specs.Transfers.{first_ids, has_room, id_of, outgoing};
@@ -71,7 +72,7 @@ impl Outbox {
 
     /// The transfer ID of the next message, or of the next request to a node.
     pub fn next_id(&self, what: What, to: u8) -> u8
-        requires { to < 128 }
+        requires { to < node_ids }
         ensures id { result ≡ id_of self.now.ids what to }
         ensures range { result < 32 }
     {

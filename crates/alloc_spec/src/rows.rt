@@ -31,6 +31,20 @@ pub fn accept_rows() -> ArrayVec<AcceptRow, 16>
     }
 }
 
+/// Whether members of a cluster alone send transfers of this kind and number: Allocations with a source,
+/// Discoveries, and the services of Raft.
+pub fn is_of_members(kind: Kind, number: u16) -> bool
+    ensures { result ≡ accepted.is_of_members kind number }
+{
+    match kind {
+        Kind::Anonymous => false,
+        Kind::Message => number == DISCOVERY.number || number == ALLOCATION.number,
+        Kind::Request | Kind::Response => {
+            number == APPEND_ENTRIES.number || number == REQUEST_VOTE.number
+        }
+    }
+}
+
 fn row(kind: Kind, data_type: DataType) -> AcceptRow
     ensures { result ≡ accepted.row kind data_type }
 {

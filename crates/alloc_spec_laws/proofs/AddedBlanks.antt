@@ -3,7 +3,7 @@ use Rattle.std.proofs.Common.{◌≡◌, ℕ, true, List, [], ◌∷◌, ◌++�
 use Rattle.can_frame.specs.declared.entry.Entry.{Entry}
 use Rattle.can_frame.specs.Log.{blank}
 use Rattle.raft_core.specs.Handled.{is_moment}
-use Rattle.raft_core.specs.Times.{Given}
+use Rattle.raft_core.specs.Times.{HandedIn}
 use Rattle.raft_model.specs.Handlers.{server_after_all}
 use Rattle.raft_model.specs.Moves.{Move}
 use Rattle.raft_model.specs.Moves.Move.{ProposeEntry}
@@ -27,7 +27,7 @@ pub record IsAddedTo (number : ℕ) (g h : StepState) (entry : Entry) : Type 0 w
   pub is : entry ≡ blank (server_by number g before).store.term
   pub of : IsBlankOf h.allocator.raft_server entry
 
-pub adds : (number : ℕ) (given : Given) (before : List Move) (g : StepState) (entry : Entry) → IsMomentOf g (with_moves number given before g)
+pub adds : (number : ℕ) (given : HandedIn) (before : List Move) (g : StepState) (entry : Entry) → IsMomentOf g (with_moves number given before g)
     → ProposeEntry entry ≡ ProposeEntry (blank (with_moves number given before g).allocator.raft_server.store.term)
     → IsAddedTo number g (adds_blank number given (with_moves number given before g)) entry
 adds number given before g entry moment same = record {

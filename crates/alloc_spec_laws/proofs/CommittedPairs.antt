@@ -14,7 +14,7 @@ use Rattle.raft_model.specs.Server.{RaftServer, Put, Store, committed, put_all}
 use Rattle.alloc_spec.specs.StepState.{StepState, pair_of_offer, pairs}
 use Rattle.alloc_spec.specs.Step.{Event, step}
 use Rattle.alloc_spec.specs.AllocatorState.{AllocatorState, members_of}
-use Rattle.alloc_spec.specs.Transfers.{Given as Pair, Offer, pair_in}
+use Rattle.alloc_spec.specs.Transfers.{GivenPair, Offer, pair_in}
 use Rattle.alloc_spec_laws.specs.Giving.{Gives, IsGivenIn}
 use Rattle.alloc_spec_laws.proofs.Choices.{tell}
 use Rattle.alloc_spec_laws.proofs.GivenPairs.{IsOfPlace, gives_it, message_gives}
@@ -26,14 +26,14 @@ use Rattle.alloc_spec_laws.proofs.KeptBySteps.{step_keeps}
 -- all that is offered gives pairs of committed places
 abbrev AreOfPlaces : Store → List Offer → Type 0
 AreOfPlaces store offers =
-    (offer : Offer) → In offer offers → (given : Pair) → Gives offer.what offer.payload given → IsOfPlace store given
+    (offer : Offer) → In offer offers → (given : GivenPair) → Gives offer.what offer.payload given → IsOfPlace store given
 
 pub record GivesPlaces (g : StepState) : Type 0 where
   pub sane : IsSane g.allocator.raft_server.store
   pub each : AreOfPlaces g.allocator.raft_server.store g.offers
 
 -- a committed place is committed later
-place_stays : (a b : Store) (given : Pair) → Grows a b → IsOfPlace a given → IsOfPlace b given
+place_stays : (a b : Store) (given : GivenPair) → Grows a b → IsOfPlace a given → IsOfPlace b given
 place_stays a b given grows is = record {
   place = is.place;
   below = omega (arith, is.below, grows.commit);
@@ -43,10 +43,10 @@ place_stays a b given grows is = record {
 }
 
 one_more : (store : Store) (offers : List Offer) (new : Offer) → AreOfPlaces store offers
-    → ((given : Pair) → Gives new.what new.payload given → IsOfPlace store given) → AreOfPlaces store (offers ++ new ∷ [])
+    → ((given : GivenPair) → Gives new.what new.payload given → IsOfPlace store given) → AreOfPlaces store (offers ++ new ∷ [])
 one_more store offers new h is offer i = elim (in_append offer offers (new ∷ []) i) [
   | inl j ↦ h offer j
-  | inr (inl e) ↦ subst (λ (o : Offer). (given : Pair) → Gives o.what o.payload given → IsOfPlace store given) (sym e) is
+  | inr (inl e) ↦ subst (λ (o : Offer). (given : GivenPair) → Gives o.what o.payload given → IsOfPlace store given) (sym e) is
   | inr (inr j) ↦ absurd j
 ]
 
@@ -92,10 +92,10 @@ module _ (judged : (server : RaftServer) (request : Request) → IsJudged server
       step_keeps number event GivesPlaces (λ d. ⊤) gives_keeping t (λ arrival is d e. tt) (record { sane = sane; each = λ offer i. absurd i })
 
 -- what is given is read of the payload
-offered_pair : (offer : Offer) (given : Pair) → pair_of_offer offer ≡ Some given → pair_in offer.what offer.payload ≡ Some given
+offered_pair : (offer : Offer) (given : GivenPair) → pair_of_offer offer ≡ Some given → pair_in offer.what offer.payload ≡ Some given
 offered_pair offer given e = elim (tell offer.fitted) [ inl b ↦ rw b at e | inr b ↦ absurd (cc (rw b at e)) ]
 
-in_committed : (store : Store) (given : Pair) → IsSane store → IsOfPlace store given → IsGivenIn (committed store) given
+in_committed : (store : Store) (given : GivenPair) → IsSane store → IsOfPlace store given → IsGivenIn (committed store) given
 in_committed store given sane is = record {
   place = is.place;
   inside = grind (arith, length-take, is.below, sane);
@@ -108,14 +108,14 @@ abbrev Judged : Type 0
 Judged = (server : RaftServer) (request : Request) → IsJudged server request (verdict_on server request)
 
 pub offers_are_committed : Judged → (t : AllocatorState) (number : ℕ) (event : Event) → t.raft_server.store.commit ≤ length t.raft_server.store.log
-    → (offer : Offer) (given : Pair) → In offer (step t number event).step_state.offers → Gives offer.what offer.payload given
+    → (offer : Offer) (given : GivenPair) → In offer (step t number event).step_state.offers → Gives offer.what offer.payload given
     → IsGivenIn (committed (step t number event).step_state.allocator.raft_server.store) given
 offers_are_committed judged t number event sane offer given i gives =
     let all = step_gives judged number event t sane in
     in_committed (step t number event).step_state.allocator.raft_server.store given all.sane (all.each offer i given gives)
 
 pub pairs_are_committed : Judged → (t : AllocatorState) (number : ℕ) (event : Event) → t.raft_server.store.commit ≤ length t.raft_server.store.log
-    → (given : Pair) → In given (pairs (step t number event).step_state)
+    → (given : GivenPair) → In given (pairs (step t number event).step_state)
     → IsGivenIn (committed (step t number event).step_state.allocator.raft_server.store) given
 pairs_are_committed judged t number event sane given i =
     let from = in_filter pair_of_offer (step t number event).step_state.offers given i in

@@ -31,7 +31,7 @@ use Rattle.node_discovery.specs.Watch.{devices, history, is_unknown, some_unknow
 use Rattle.raft_core.specs.Calls.{owed}
 use Rattle.raft_core.specs.Handled as handled
 use Rattle.raft_core.specs.Taken.{proposal}
-use Rattle.raft_core.specs.Times.{Given, given_at, given_call, is_awaited, overdue}
+use Rattle.raft_core.specs.Times.{HandedIn, given_at, given_call, is_awaited, overdue}
 use Rattle.raft_model.specs.Decisions.{grants, verdict_on}
 use Rattle.raft_model.specs.Duty as duty
 use Rattle.raft_model.specs.Lists.{In}
@@ -189,10 +189,10 @@ only : {number : ℕ} {g h : StepState} → RecordsNone g h → RecordsChosen nu
 only n = record { before = λ entry i. inl (is_before n entry i) }
 
 module _ (number : ℕ) where
-  moved : (given : Given) (moves : List Move) (g : StepState) → ((entry : Entry) → In (ProposeEntry entry) moves → ⊥) → RecordsNone g (with_moves number given moves g)
+  moved : (given : HandedIn) (moves : List Move) (g : StepState) → ((entry : Entry) → In (ProposeEntry entry) moves → ⊥) → RecordsNone g (with_moves number given moves g)
   moved given moves g other = record { more = moves; moves = refl; nothing = other }
 
-  one_move : (given : Given) (move : Move) (g : StepState) → IsQuiet move → RecordsNone g (with_moves number given (move ∷ []) g)
+  one_move : (given : HandedIn) (move : Move) (g : StepState) → IsQuiet move → RecordsNone g (with_moves number given (move ∷ []) g)
   one_move given move g quiet = moved given (move ∷ []) g (quiet_proposals (move ∷ []) (quiet, tt))
 
   gives : (move : Move) (entry : Entry) (g : StepState) → IsQuiet move → RecordsNone g (gives_entry number move entry g)
@@ -292,7 +292,7 @@ module _ (number : ℕ) where
       → RecordsChosen number g (answers_call number move pending g)
   call_ended move None g quiet = only (none g)
   call_ended move (Some request) g quiet =
-      let given : Given = given_at g.allocator.now in
+      let given : HandedIn = given_at g.allocator.now in
       let ended : StepState = with_moves number given (move request ∷ []) g in
       let own : Entry = blank ended.allocator.raft_server.store.term in
       let nothing : RecordsNone g ended = one_move given (move request) g (quiet request) in

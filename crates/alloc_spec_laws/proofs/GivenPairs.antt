@@ -10,13 +10,13 @@ use Rattle.dsdl_codec.specs.Allocation.{allocation_of}
 use Rattle.dsdl_codec.specs.declared.allocation.Allocation.{Allocation}
 use Rattle.raft_model.specs.Server.{Store}
 use Rattle.alloc_spec.specs.Exchange.{allocation_payload}
-use Rattle.alloc_spec.specs.Transfers.{Given as Pair, pair_of_allocation, pair_in, kind_of}
+use Rattle.alloc_spec.specs.Transfers.{GivenPair, pair_of_allocation, pair_in, kind_of}
 use Rattle.alloc_spec_laws.specs.Giving.{Gives}
 use Rattle.alloc_spec_laws.proofs.Choices.{and_left, le_true, tell}
 
 -- ---- a pair with a whole unique ID is given
 
-gives_by : (payload : List ℕ) (read : Option Allocation) (given : Pair) → allocation_of payload ≡ read → pair_of_allocation read ≡ Some given
+gives_by : (payload : List ℕ) (read : Option Allocation) (given : GivenPair) → allocation_of payload ≡ read → pair_of_allocation read ≡ Some given
     → Gives Alloc payload given
 gives_by payload None given r e = absurd (cc (e))
 gives_by payload (Some answer) given r e = elim (tell (nat_le 1 answer.node && nat_eq (length answer.uid.items) 16)) [
@@ -26,7 +26,7 @@ gives_by payload (Some answer) given r e = elim (tell (nat_le 1 answer.node && n
       record { kind = refl; answer = answer; reads = r; some = le_true 1 answer.node (and_left _ _ b); is = sym same }
 ]
 
-pub gives_it : (what : What) (payload : List ℕ) (given : Pair) → pair_in what payload ≡ Some given → Gives what payload given
+pub gives_it : (what : What) (payload : List ℕ) (given : GivenPair) → pair_in what payload ≡ Some given → Gives what payload given
 gives_it Alloc payload given e = gives_by payload (allocation_of payload) given refl e
 gives_it Disc payload given e = absurd (cc (e))
 gives_it Stat payload given e = absurd (cc (e))
@@ -42,7 +42,7 @@ gives_it App payload given e = absurd (cc (e))
 some_is : (x y : Allocation) → Some x ≡ Some y → x ≡ y
 some_is x y e = cc (e)
 
-pub allocation_gives : (node : ℕ) (uid : List ℕ) (given : Pair) → Gives Alloc (allocation_payload node uid) given
+pub allocation_gives : (node : ℕ) (uid : List ℕ) (given : GivenPair) → Gives Alloc (allocation_payload node uid) given
     → (1 ≤ node) × (given ≡ (uid, node))
 allocation_gives node uid given gives = elim (tell (nat_le (length uid) 16)) [
   | inr b ↦ absurd (cc (rw b at gives.reads))
@@ -55,15 +55,15 @@ allocation_gives node uid given gives = elim (tell (nat_le (length uid) 16)) [
 ]
 
 -- a follow-up gives none
-pub follow_up_gives : (bytes : List ℕ) (given : Pair) → Gives Alloc (allocation_payload 0 bytes) given → ⊥
+pub follow_up_gives : (bytes : List ℕ) (given : GivenPair) → Gives Alloc (allocation_payload 0 bytes) given → ⊥
 follow_up_gives bytes given gives = omega (arith, (allocation_gives 0 bytes given gives).0)
 
 -- a request or a response gives nothing: what gives a pair is a message
-pub message_gives : (what : What) (payload : List ℕ) (given : Pair) → Gives what payload given → kind_of what ≡ Broadcast
+pub message_gives : (what : What) (payload : List ℕ) (given : GivenPair) → Gives what payload given → kind_of what ≡ Broadcast
 message_gives what payload given gives = ap kind_of gives.kind
 
 -- the pair is that of a committed place, and its unique ID some device's
-pub record IsOfPlace (store : Store) (given : Pair) : Type 0 where
+pub record IsOfPlace (store : Store) (given : GivenPair) : Type 0 where
   pub place : ℕ
   pub below : place < store.commit
   pub uid : (slice_index_or store.log place (blank 0)).uid ≡ given.0

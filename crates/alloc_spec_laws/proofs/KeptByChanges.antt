@@ -13,7 +13,7 @@ use Rattle.dsdl_codec.specs.Discovery.{discovery_bytes, discovery_of}
 use Rattle.node_discovery.specs.History.{Asked, Event as Happens, Status, Taken, identity}
 use Rattle.node_discovery.specs.Watch.{history, of_node}
 use Rattle.raft_core.specs.Taken.{proposal}
-use Rattle.raft_core.specs.Times.{Given, Times, given_call, times_after}
+use Rattle.raft_core.specs.Times.{HandedIn, Times, given_call, times_after}
 use Rattle.raft_model.specs.Lists.{at}
 use Rattle.raft_model.specs.Messages.{Message, Request}
 use Rattle.raft_model.specs.Messages.Message.{Requests}
@@ -27,7 +27,7 @@ use Rattle.alloc_spec.specs.Step.{Event}
 use Rattle.alloc_spec.specs.Step.Event.{Rx, Tick}
 use Rattle.alloc_spec.specs.Tick.{discovery_of as own_discovery, with_discovery}
 use Rattle.alloc_spec.specs.AllocatorState.{AllocatorState, members_of, start_of}
-use Rattle.alloc_spec.specs.Transfers.{Given as Pair, has_room, id_of, kind_of}
+use Rattle.alloc_spec.specs.Transfers.{GivenPair, has_room, id_of, kind_of}
 use Rattle.alloc_spec_laws.specs.Calls.{carrier}
 use Rattle.alloc_spec_laws.specs.Giving.{Gives}
 use Rattle.alloc_spec_laws.specs.Responses.{AnswersAsked}
@@ -60,7 +60,7 @@ pub record MakesCall (number me : ℕ) (t : AllocatorState) (what : What) (peer 
   pub other : (entry : Entry) → move ≢ ProposeEntry entry
   pub nothing : (members : List ℕ) → puts members me t.raft_server move ≡ []
   pub memory : (members : List ℕ) → memory_after members me number t.raft_server move ≡ memory_with_call t.raft_server.memory peer request
-  pub sending : (members : List ℕ) (given : Given) (times : Times)
+  pub sending : (members : List ℕ) (given : HandedIn) (times : Times)
       → (times_after members me given t.raft_server move times).sending ≡ at times.sending peer (Some (record { id = given.id; moment = given.now }))
 
 -- the number of a service, as far as a server tells them apart
@@ -95,7 +95,7 @@ pub record Sends (number : ℕ) (event : Event) (t : AllocatorState) (what : Wha
   pub destination : IsSentTo (kind_of what) to
   pub said : IsSaid number t.me what to 0 payload says
   pub told : what ≡ Disc → IsTick event × (payload ≡ discovery_bytes (own_discovery t))
-  pub gives : (given : Pair) → Gives what payload given → IsOfPlace t.raft_server.store given
+  pub gives : (given : GivenPair) → Gives what payload given → IsOfPlace t.raft_server.store given
 
 -- whence a leader has a unique ID that it records: of the exchange it has 16 bytes, else a node told it; one of zeros is
 -- a reservation's or a blank's
@@ -110,10 +110,10 @@ HasUid (Taken uid moment) = length uid ≡ 16
 
 pub record Keeping (number : ℕ) (event : Event) (Keeps : StepState → Type 0) (IsEnabled : Delivery → Type 0) : Type 0 where
   -- moves that call nobody, and append nothing of a leader's own
-  pub takes_keep : (given : Given) (moves : List Move) (g : StepState) → AreQuiet moves
+  pub takes_keep : (given : HandedIn) (moves : List Move) (g : StepState) → AreQuiet moves
       → AreDecided (members_of g.allocator) g.allocator.me number g.allocator.raft_server moves → Keeps g → Keeps (with_moves number given moves g)
   -- an entry of a leader's own: a pair, a reservation or a blank
-  pub proposes_keep : (given : Given) (uid : List ℕ) (node : ℕ) (g : StepState) → IsFound g.allocator uid → Keeps g
+  pub proposes_keep : (given : HandedIn) (uid : List ℕ) (node : ℕ) (g : StepState) → IsFound g.allocator uid → Keeps g
       → Keeps (with_moves number given (ProposeEntry (proposal g.allocator.raft_server.store.term uid node) ∷ []) g)
   pub sends_keep : (what : What) (to : ℕ) (payload : List ℕ) (says : Option Message) (g : StepState) → Sends number event g.allocator what to payload says
       → Keeps g → Keeps (with_transfer number what to payload says g)

@@ -28,7 +28,7 @@ use Rattle.node_discovery.specs.History as nodes
 use Rattle.node_discovery.specs.Watch.{history, Watched, devices, is_due as is_node_due, next_query, some_unknown}
 use Rattle.raft_core.specs.Calls.{owed}
 use Rattle.raft_core.specs.Handled as handled
-use Rattle.raft_core.specs.Times.{Given, given_at, given_proposal, given_tick, has_waited, is_awaited, overdue}
+use Rattle.raft_core.specs.Times.{HandedIn, given_at, given_proposal, given_tick, has_waited, is_awaited, overdue}
 use Rattle.raft_model.specs.Decisions.{grants, verdict_on}
 use Rattle.raft_model.specs.Duty.{tick_phase}
 use Rattle.raft_model.specs.Moves.{next_entry, Move}
@@ -54,7 +54,7 @@ use Rattle.alloc_spec.specs.Step.Event.{Rx, Tick}
 use Rattle.alloc_spec.specs.Tick.{asks, candidate, discovery_phase, election_phase, new_uid, query_phase, record_phase, records_as, records_node, status_phase, tells_members, tells_status, clock_phase, with_query}
 use Rattle.alloc_spec.specs.AllocatorState.{AllocatorState, is_zero, known, knows_all, may_propose, members_of, recorded_at, start_of, taken}
 use Rattle.raft_model.specs.Server.{RaftServer}
-use Rattle.alloc_spec.specs.Transfers.{Given as Pair, has_room, id_of, kind_of}
+use Rattle.alloc_spec.specs.Transfers.{GivenPair, has_room, id_of, kind_of}
 use Rattle.alloc_spec.proofs.Blanks.{adds_blank, move_with_blank, tick_with_blank}
 use Rattle.alloc_spec_laws.specs.Saying.{IsSaid}
 use Rattle.alloc_spec_laws.proofs.CalledPeers.{CallsPeer, IsQuiet, commit_quiet, expire_quiet, owes_peer, tick_quiet}
@@ -74,7 +74,7 @@ asked_device events known now node e =
 
 module _ (number : ℕ) (event : Event) (Keeps : StepState → Type 0) (IsEnabled : Delivery → Type 0) (k : Keeping number event Keeps IsEnabled) where
   -- a blank is an entry with a unique ID of zeros
-  blank_keeps : (given : Given) (g : StepState) → Keeps g → Keeps (adds_blank number given g)
+  blank_keeps : (given : HandedIn) (g : StepState) → Keeps g → Keeps (adds_blank number given g)
   blank_keeps given g h = k.proposes_keep given zeros 0 g (inr (inr refl)) h
 
   -- ---- a tick
@@ -118,7 +118,7 @@ module _ (number : ℕ) (event : Event) (Keeps : StepState → Type 0) (IsEnable
   election_keeps : (word : ℕ) (g : StepState) → Keeps g → Keeps (election_phase number word g)
   election_keeps word g h =
       let waited : Bool = knows_all g.allocator && has_waited g.allocator.times g.allocator.now in
-      let given : Given = given_tick g.allocator.now word in
+      let given : HandedIn = given_tick g.allocator.now word in
       let ticked : StepState = with_moves number given (tick_phase waited g.allocator.raft_server) g in
       let keeps : Keeps ticked = k.takes_keep given (tick_phase waited g.allocator.raft_server) g (tick_quiet waited g.allocator.raft_server)
       (tick_decided (members_of g.allocator) g.allocator.me number waited g.allocator.raft_server) h in
@@ -150,9 +150,9 @@ module _ (number : ℕ) (event : Event) (Keeps : StepState → Type 0) (IsEnable
         gives = λ given e. let is = (allocation_gives entry.node entry.uid given e).1 in record {
           place = place;
           below = low;
-          uid = ap (λ (pair : Pair). pair.0) (sym is);
-          node = ap (λ (pair : Pair). pair.1) (sym is);
-          device = λ none. some (ap (λ (pair : Pair). pair.0) (sym is) ∙ none);
+          uid = ap (λ (pair : GivenPair). pair.0) (sym is);
+          node = ap (λ (pair : GivenPair). pair.1) (sym is);
+          device = λ none. some (ap (λ (pair : GivenPair). pair.0) (sym is) ∙ none);
         };
       }) h in
       either Keeps (has_room g.allocator.queue (allocation_payload entry.node entry.uid)) _ _
@@ -192,7 +192,7 @@ module _ (number : ℕ) (event : Event) (Keeps : StepState → Type 0) (IsEnable
       → Keeps (answers_call number move call g)
   call_keeps move None g giving h = h
   call_keeps move (Some request) g giving h =
-      let given : Given = given_at g.allocator.now in
+      let given : HandedIn = given_at g.allocator.now in
       let ended : StepState = with_moves number given (move request ∷ []) g in
       let keeps : Keeps ended = k.takes_keep given (move request ∷ []) g ((giving request).0, tt)
       ((giving request).1 (members_of g.allocator) g.allocator.me g.allocator.raft_server, tt) h in

@@ -10,7 +10,7 @@ use Rattle.id_selector.specs.Choice.{IsChoice, chosen}
 use Rattle.node_discovery.specs.Watch.{next_query}
 use Rattle.raft_core.specs.Handled.{moves_of_expire}
 use Rattle.raft_core.specs.Taken.{proposal}
-use Rattle.raft_core.specs.Times.{Given, Times, given_at, given_call, given_tick, has_waited, overdue, raise, step_down, times_after, times_after_all}
+use Rattle.raft_core.specs.Times.{HandedIn, Times, given_at, given_call, given_tick, has_waited, overdue, raise, step_down, times_after, times_after_all}
 use Rattle.raft_model.specs.Duty.{is_heard, tick_phase}
 use Rattle.raft_model.specs.Handlers.{server_after, server_after_all}
 use Rattle.raft_model.specs.Lists.{In, how_many}
@@ -53,7 +53,7 @@ lowered now Leader times = refl
 raised : (now term : ℕ) (server : RaftServer) (times : Times) → (raise now term server times).waits ≡ times.waits
 raised now term server times = either (λ (ts : Times). ts.waits ≡ times.waits) (nat_lt server.store.term term) _ times (λ e. lowered now server.memory.role times) (λ e. refl)
 
-waits_after : (members : List ℕ) (me : ℕ) (given : Given) (server : RaftServer) (move : Move) (times : Times) → (times_after members me given server move times).waits ≡ times.waits
+waits_after : (members : List ℕ) (me : ℕ) (given : HandedIn) (server : RaftServer) (move : Move) (times : Times) → (times_after members me given server move times).waits ≡ times.waits
 waits_after members me given server TimeOut times = either (λ (ts : Times). ts.waits ≡ times.waits) (has_quorum members (own_vote me)) _ _ (λ e. refl) (λ e. refl)
 waits_after members me given server (TakeVoteRequest request granted) times =
     either (λ (ts : Times). ts.waits ≡ times.waits) granted _ _ (λ e. refl) (λ e. raised given.now request.term server times)
@@ -74,7 +74,7 @@ waits_after members me given server (CallToAppend peer previous with_entry) time
 waits_after members me given server (AnswerAgain place) times = refl
 waits_after members me given server (GiveUp peer) times = refl
 
-waits_after_all : (members : List ℕ) (me step : ℕ) (given : Given) (moves : List Move) (server : RaftServer) (times : Times)
+waits_after_all : (members : List ℕ) (me step : ℕ) (given : HandedIn) (moves : List Move) (server : RaftServer) (times : Times)
     → (times_after_all members me step given server moves times).waits ≡ times.waits
 waits_after_all members me step given [] server times = refl
 waits_after_all members me step given (move ∷ moves) server times =
@@ -277,7 +277,7 @@ module _ (number : ℕ) where
       → In (ProposeEntry entry) g.moves ⊎ IsAddedTo number g (election_phase number word g) entry
   elects word g entry =
       let waited : Bool = knows_all g.allocator && has_waited g.allocator.times g.allocator.now in
-      let given : Given = given_tick g.allocator.now word in
+      let given : HandedIn = given_tick g.allocator.now word in
       let moves : List Move = tick_phase waited g.allocator.raft_server in
       let ticked : StepState = with_moves number given moves g in
       let quiet : In (ProposeEntry entry) ticked.moves → In (ProposeEntry entry) g.moves = λ i. elim (in_append (ProposeEntry entry) g.moves moves i) [

@@ -7,7 +7,7 @@ use Rattle.cluster_discovery.specs.Members.{Event as Heard, Start, is_complete}
 use Rattle.cluster_discovery.specs.Members as cluster
 use Rattle.raft_core.specs.Handled.{puts_with_origins}
 use Rattle.raft_core.specs.StoredPuts.{PutWithOrigin, puts_alone}
-use Rattle.raft_core.specs.Times.{Given}
+use Rattle.raft_core.specs.Times.{HandedIn}
 use Rattle.raft_model.specs.Fit.{IsFit}
 use Rattle.raft_model.specs.Handlers.{puts_of_all, calls_of_all, offers_of_all, server_after, server_after_all}
 use Rattle.raft_model.specs.Lists.{In, at}
@@ -178,7 +178,7 @@ module _ (members : List ℕ) (number : ℕ) (bag : List Message) (local_state :
   }
 
   -- moves that may come over the server's own list
-  pub takes_steady : (laws : Laws) (Free Left : ℕ → Type 0) (given : Given) (moves : List Move) (g : StepState) → Steady Free g
+  pub takes_steady : (laws : Laws) (Free Left : ℕ → Type 0) (given : HandedIn) (moves : List Move) (g : StepState) → Steady Free g
       → (In TimeOut moves → ⊥) ⊎ IsWhole members (start_of g.allocator) g.allocator.heard
       → ((s : LocalState) → s.raft_server ≡ g.allocator.raft_server → ((peer : ℕ) → Free peer → In peer s.called → ⊥)
       → AllEnabled (members_of g.allocator) g.allocator.me number bag s moves)

@@ -2,7 +2,7 @@
 use Rattle.std.proofs.Common.{◌≡◌, ℕ, Bool, true, false, List, [], ◌∷◌, ◌⊎◌, inl, inr, refl, sym, ◌∙◌, ap, subst, Option, Some}
 use Rattle.std.specs.Prelude.{⊤, ◌==◌, is_some, if◌then◌else◌}
 use Rattle.can_frame.specs.declared.step.What.{What}
-use Rattle.raft_core.specs.Times.{Given, Sending, Times, given_call, opened_times}
+use Rattle.raft_core.specs.Times.{HandedIn, Sending, Times, given_call, opened_times}
 use Rattle.raft_model.specs.Lists.{In, at}
 use Rattle.raft_model.specs.Messages.{Request}
 use Rattle.raft_model.specs.Messages.Message.{Requests}
@@ -67,7 +67,7 @@ module _ (number : ℕ) (t : AllocatorState) where
       let same : pending later peer ≡ pending g peer = ap (λ (raft_server : RaftServer). raft_server.memory.pending peer) p in
       carried g later peer request same (ap (λ (times : Times). times.sending peer) s) now more (h peer request (sym same ∙ e))
 
-  after_takes : (given : Given) (moves : List Move) (g : StepState) → AreQuiet moves → CallsAreMade number t g
+  after_takes : (given : HandedIn) (moves : List Move) (g : StepState) → AreQuiet moves → CallsAreMade number t g
       → CallsAreMade number t (with_moves number given moves g)
   after_takes given moves g quiet h peer request e =
       elim (after_moves peer (members_of g.allocator) g.allocator.me number given moves g.allocator.raft_server g.allocator.times (quiet_calls moves quiet)) [
@@ -135,7 +135,7 @@ same_kept : (g later : StepState) → later.allocator.raft_server ≡ g.allocato
 same_kept g later p s h peer =
     ap (λ (times : Times). is_some (times.sending peer)) s ∙ h peer ∙ ap (λ (raft_server : RaftServer). is_some (raft_server.memory.pending peer)) (sym p)
 
-kept_takes : (number : ℕ) (given : Given) (moves : List Move) (g : StepState) → AreQuiet moves → Kept g → Kept (with_moves number given moves g)
+kept_takes : (number : ℕ) (given : HandedIn) (moves : List Move) (g : StepState) → AreQuiet moves → Kept g → Kept (with_moves number given moves g)
 kept_takes number given moves g quiet h peer =
     elim (after_moves peer (members_of g.allocator) g.allocator.me number given moves g.allocator.raft_server g.allocator.times (quiet_calls moves quiet)) [
       | inl stays ↦

@@ -1,7 +1,7 @@
 -- What moves make of the pending calls, and of what is kept with each.
 use Rattle.std.proofs.Common.{◌≡◌, ℕ, Bool, true, false, List, [], ◌∷◌, ◌⊎◌, inl, inr, refl, ◌∙◌, ap, Option, None}
 use Rattle.std.specs.Prelude.{◌==◌, ◌&&◌, nat_lt, if◌then◌else◌}
-use Rattle.raft_core.specs.Times.{Given, Sending, Times, begin_wait, end_call, end_vote_call, raise, stand, step_down, times_after, times_after_all, win}
+use Rattle.raft_core.specs.Times.{HandedIn, Sending, Times, begin_wait, end_call, end_vote_call, raise, stand, step_down, times_after, times_after_all, win}
 use Rattle.raft_model.specs.Handlers.{calls_of_all, server_after, server_after_all}
 use Rattle.raft_model.specs.Lists.{In, at}
 use Rattle.raft_model.specs.Messages.{Answer, Request}
@@ -66,13 +66,13 @@ module _ (peer : ℕ) where
   untouched memory later times later_times p s =
       inl (record { pending = ap (λ (f : ℕ → Option Request). f peer) p; sending = ap (λ (f : ℕ → Option Sending). f peer) s })
 
-  stood : (members : List ℕ) (me : ℕ) (given : Given) (server : RaftServer) (times : Times) (q : Bool)
+  stood : (members : List ℕ) (me : ℕ) (given : HandedIn) (server : RaftServer) (times : Times) (q : Bool)
       → StaysOrEnds peer server.memory (if q then win_memory server.store (stand_memory me server.memory) else stand_memory me server.memory) times
       (if q then win (stand given times) else stand given times)
   stood members me given server times true = inr (record { pending = refl; sending = refl })
   stood members me given server times false = inr (record { pending = refl; sending = refl })
 
-  asked_vote : (given : Given) (server : RaftServer) (times : Times) (request : Request) (granted : Bool) (higher : Bool)
+  asked_vote : (given : HandedIn) (server : RaftServer) (times : Times) (request : Request) (granted : Bool) (higher : Bool)
       → StaysOrEnds peer server.memory (if higher then record server.memory { role = Follower } else server.memory) times
       (if granted then begin_wait given.now times else raise given.now request.term server times)
   asked_vote given server times request true true = untouched _ _ _ _ refl refl
@@ -80,7 +80,7 @@ module _ (peer : ℕ) where
   asked_vote given server times request false true = untouched _ _ _ _ refl (raised_sends given.now request.term server times)
   asked_vote given server times request false false = untouched _ _ _ _ refl (raised_sends given.now request.term server times)
 
-  vote_answered : (given : Given) (server : RaftServer) (times : Times) (answer : Answer) (higher counted_one won : Bool)
+  vote_answered : (given : HandedIn) (server : RaftServer) (times : Times) (answer : Answer) (higher counted_one won : Bool)
       → StaysOrEnds peer server.memory
       (if higher then stepped_down server.memory answer.from
       else (if counted_one then (if won then win_memory server.store (with_vote server.memory answer) else with_vote server.memory answer)
@@ -92,7 +92,7 @@ module _ (peer : ℕ) where
   vote_answered given server times answer false true false = ended_one peer answer.from _ _ times _ refl refl
   vote_answered given server times answer false false q = ended_one peer answer.from _ _ times _ refl refl
 
-  append_answered : (given : Given) (server : RaftServer) (times : Times) (answer : Answer) (higher counted_one : Bool)
+  append_answered : (given : HandedIn) (server : RaftServer) (times : Times) (answer : Answer) (higher counted_one : Bool)
       → StaysOrEnds peer server.memory
       (if higher then stepped_down server.memory answer.from
       else (if counted_one then matched_memory server.memory answer else memory_without_call server.memory answer.from)) times
@@ -102,7 +102,7 @@ module _ (peer : ℕ) where
   append_answered given server times answer false false = ended_one peer answer.from _ _ times _ refl (raised_sends given.now answer.term server _)
 
   -- a move that calls nobody keeps the call to a peer, or ends it
-  after_move : (members : List ℕ) (me step : ℕ) (given : Given) (server : RaftServer) (move : Move) (times : Times)
+  after_move : (members : List ℕ) (me step : ℕ) (given : HandedIn) (server : RaftServer) (move : Move) (times : Times)
       → ((node : ℕ) → In node (calls_of_all (move ∷ [])) → ⊥)
       → StaysOrEnds peer server.memory (memory_after members me step server move) times (times_after members me given server move times)
   after_move members me step given server TimeOut times free = stood members me given server times (has_quorum members (own_vote me))
@@ -132,7 +132,7 @@ module _ (peer : ℕ) where
   and_then a b c ta tb tc (inr x) (inl y) = inr (record { pending = y.pending ∙ x.pending; sending = y.sending ∙ x.sending })
   and_then a b c ta tb tc x (inr y) = inr y
 
-  pub after_moves : (members : List ℕ) (me step : ℕ) (given : Given) (moves : List Move) (server : RaftServer) (times : Times)
+  pub after_moves : (members : List ℕ) (me step : ℕ) (given : HandedIn) (moves : List Move) (server : RaftServer) (times : Times)
       → ((node : ℕ) → In node (calls_of_all moves) → ⊥)
       → StaysOrEnds peer server.memory (server_after_all members me step server moves).memory times
       (times_after_all members me step given server moves times)

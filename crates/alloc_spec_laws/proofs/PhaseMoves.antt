@@ -29,7 +29,7 @@ use Rattle.node_discovery.specs.Watch.{history, next_query, some_unknown}
 use Rattle.raft_core.specs.Handled as handled
 use Rattle.raft_core.specs.Taken.{proposal}
 use Rattle.raft_core.specs.Calls.{due, due_unless, owed}
-use Rattle.raft_core.specs.Times.{Given, Sending, awaits, given_at, given_call, given_proposal, given_tick, has_waited, is_awaited, is_silent, overdue}
+use Rattle.raft_core.specs.Times.{HandedIn, Sending, awaits, given_at, given_call, given_proposal, given_tick, has_waited, is_awaited, is_silent, overdue}
 use Rattle.raft_model.specs.Fit.{IsFit}
 use Rattle.raft_model.specs.Decisions.{commit_index, grants, verdict_on}
 use Rattle.raft_model.specs.Duty as duty
@@ -56,7 +56,7 @@ use Rattle.alloc_spec.specs.Services.{answers_append, answers_call, answers_vote
 use Rattle.alloc_spec.specs.Step.{all_nodes, expiry_phase}
 use Rattle.alloc_spec.specs.Tick.{asks, candidate, discovery_of as own_discovery, discovery_phase, election_phase, new_uid, proposes, query_phase, record_phase, records_as, records_node, status_phase, tells_members, tells_status, clock_phase, with_query}
 use Rattle.alloc_spec.specs.AllocatorState.{is_zero, known, knows_all, may_propose, members_of, recorded_at, start_of, status_of, taken}
-use Rattle.alloc_spec.specs.Transfers.{Given as Pair, pair_in, has_room, id_of, message_by, pair_message}
+use Rattle.alloc_spec.specs.Transfers.{GivenPair, pair_in, has_room, id_of, message_by, pair_message}
 use Rattle.alloc_spec.proofs.Blanks.{IsMomentOf, move_with_blank, moves_and_blank, tick_with_blank}
 use Rattle.alloc_spec_laws.specs.Coming.{AnswersFrom, RequestsFrom, SaysFrom}
 use Rattle.alloc_spec_laws.specs.LawsBelow.{Laws}
@@ -72,8 +72,8 @@ use Rattle.alloc_spec_laws.proofs.MachineSteps.{Steady, offers_steady, takes_ste
 
 -- ---- what an Allocation says
 
-pub pair_says : (step me : ℕ) (given : Option Pair) (message : Message) → pair_message step me given ≡ Some message
-    → (pair : Pair) × (given ≡ Some pair) × (message ≡ Pairs (record { step = step; from = me; uid = pair.0; node = pair.1 }))
+pub pair_says : (step me : ℕ) (given : Option GivenPair) (message : Message) → pair_message step me given ≡ Some message
+    → (pair : GivenPair) × (given ≡ Some pair) × (message ≡ Pairs (record { step = step; from = me; uid = pair.0; node = pair.1 }))
 pair_says step me None message e = absurd (cc (e))
 pair_says step me (Some pair) message e =
     let same : Pairs (record { step = step; from = me; uid = pair.0; node = pair.1 }) ≡ message = cc (e) in (pair, refl, sym same)
@@ -84,7 +84,7 @@ entry_says : (step me node : ℕ) (uid : List ℕ) (message : Message) → pair_
 entry_says step me node uid message e =
     let p = pair_says step me (pair_in Alloc (allocation_payload node uid)) message e in
     let g = allocation_gives node uid p.0 (gives_it Alloc (allocation_payload node uid) p.0 p.1) in
-    (g.0, p.2 ∙ ap (λ (q : Pair). Pairs (record { step = step; from = me; uid = q.0; node = q.1 })) g.1)
+    (g.0, p.2 ∙ ap (λ (q : GivenPair). Pairs (record { step = step; from = me; uid = q.0; node = q.1 })) g.1)
 
 -- ---- calls that are given up
 
@@ -134,14 +134,14 @@ module _ (laws : Laws) (members : List ℕ) (number : ℕ) (bag : List Message) 
   offered g = (state_after_moves members g.allocator.me number local_state g.moves).offered
 
   -- moves that call nobody, and stand for nothing
-  quietly : (given : Given) (moves : List Move) (g : StepState) → Sure g → (In TimeOut moves → ⊥) → AreQuiet moves
+  quietly : (given : HandedIn) (moves : List Move) (g : StepState) → Sure g → (In TimeOut moves → ⊥) → AreQuiet moves
       → ((s : LocalState) → s.raft_server ≡ g.allocator.raft_server → AllEnabled (members_of g.allocator) g.allocator.me number bag s moves) → Sure (with_moves number given moves g)
   quietly given moves g h stays quiet comes =
       takes_steady members number bag local_state laws Anyone Anyone given moves g h (inl stays) (λ s e free. comes s e)
       (λ peer l. (tt, quiet_calls moves quiet peer)) (λ entry i. absurd (quiet_proposals moves quiet entry i))
 
   -- one move
-  one_move : (given : Given) (move : Move) (g : StepState) → Sure g → move ≢ TimeOut → IsQuiet move
+  one_move : (given : HandedIn) (move : Move) (g : StepState) → Sure g → move ≢ TimeOut → IsQuiet move
       → ((called : List ℕ) → IsEnabled (members_of g.allocator) g.allocator.me bag called g.allocator.raft_server move) → Sure (with_moves number given (move ∷ []) g)
   one_move given move g h other quiet comes =
       quietly given (move ∷ []) g h (λ i. elim i [ inl e ↦ other (sym e) | inr j ↦ j ]) (quiet, tt)
@@ -219,7 +219,7 @@ module _ (laws : Laws) (members : List ℕ) (number : ℕ) (bag : List Message) 
       (waited && (not (is_leader raft_server.memory.role) && nat_lt raft_server.store.term term_limit)) (TimeOut ∷ []) [] (λ e. once) (λ e. once)
 
   -- a leader adds an entry of its own
-  adds_sure : (given : Given) (entry : Entry) (g : StepState) → Sure g → MayPropose g.allocator.raft_server entry → IsBlank entry ⊎ (In entry.node members → ⊥)
+  adds_sure : (given : HandedIn) (entry : Entry) (g : StepState) → Sure g → MayPropose g.allocator.raft_server entry → IsBlank entry ⊎ (In entry.node members → ⊥)
       → Sure (with_moves number given (ProposeEntry entry ∷ []) g)
   adds_sure given entry g h may outside =
       takes_steady members number bag local_state laws Anyone Anyone given (ProposeEntry entry ∷ []) g h
@@ -237,7 +237,7 @@ module _ (laws : Laws) (members : List ℕ) (number : ℕ) (bag : List Message) 
       may_add_blank laws.blank_keeps laws.reservation_keeps laws.pair_keeps moved.allocator.raft_server moment.leads moment.takes once
 
   -- a move that calls nobody and leaves the log, and a blank behind it
-  blank_sure : (given : Given) (move : Move) (g : StepState) → Sure g → IsInjective g.allocator.raft_server.store.log → move ≢ TimeOut → IsQuiet move
+  blank_sure : (given : HandedIn) (move : Move) (g : StepState) → Sure g → IsInjective g.allocator.raft_server.store.log → move ≢ TimeOut → IsQuiet move
       → ((called : List ℕ) → IsEnabled (members_of g.allocator) g.allocator.me bag called g.allocator.raft_server move)
       → (with_moves number given (move ∷ []) g).allocator.raft_server.store.log ≡ g.allocator.raft_server.store.log
       → Sure (moves_and_blank number given (move ∷ []) g)
@@ -253,7 +253,7 @@ module _ (laws : Laws) (members : List ℕ) (number : ℕ) (bag : List Message) 
     once = (may_add g ticked stood.once moment).injective;
   })
     where
-      given : Given
+      given : HandedIn
       given = given_tick g.allocator.now word
 
       waited : Bool
@@ -348,7 +348,7 @@ module _ (laws : Laws) (members : List ℕ) (number : ℕ) (bag : List Message) 
       (λ message is. subst (λ (m : Message). In m (offered (with_moves number (given_at g.allocator.now) (move ∷ []) g)))
       (sym (entry_says number g.allocator.me entry.node entry.uid message is).1) says)) (λ e. unfitted Alloc 0 (allocation_payload entry.node entry.uid) None g h e)
 
-  offered_by : (given : Given) (move : Move) (g : StepState) → (state_after_moves members g.allocator.me number local_state g.moves).raft_server ≡ g.allocator.raft_server → (message : Message)
+  offered_by : (given : HandedIn) (move : Move) (g : StepState) → (state_after_moves members g.allocator.me number local_state g.moves).raft_server ≡ g.allocator.raft_server → (message : Message)
       → In message (offers g.allocator.me number g.allocator.raft_server move) → In message (offered (with_moves number given (move ∷ []) g))
   offered_by given move g leave message i =
       subst (λ (s : LocalState). In message s.offered) (sym (laws.joined_moves members g.allocator.me number g.moves (move ∷ []) local_state))

@@ -9,7 +9,7 @@ use Rattle.cluster_discovery.specs.Members.{is_due}
 use Rattle.node_discovery.specs.Watch.{next_query}
 use Rattle.raft_core.specs.Calls.{owed}
 use Rattle.raft_core.specs.Handled.{moves_of_expire}
-use Rattle.raft_core.specs.Times.{Given, Times, given_at, given_tick, has_waited, overdue, times_after_all}
+use Rattle.raft_core.specs.Times.{HandedIn, Times, given_at, given_tick, has_waited, overdue, times_after_all}
 use Rattle.raft_model.specs.Decisions.{commit_index}
 use Rattle.raft_model.specs.Duty as duty
 use Rattle.raft_model.specs.Duty.{CommitDuty, TellDuty, TickDuty}
@@ -118,7 +118,7 @@ expire_term : (list : List ℕ) (me number : ℕ) (nodes : List ℕ) (raft_serve
 expire_term list me number [] raft_server = refl
 expire_term list me number (node ∷ nodes) raft_server = expire_term list me number nodes _
 
-expire_wait : (list : List ℕ) (me number now : ℕ) (given : Given) (nodes : List ℕ) (raft_server : RaftServer) (times : Times)
+expire_wait : (list : List ℕ) (me number now : ℕ) (given : HandedIn) (nodes : List ℕ) (raft_server : RaftServer) (times : Times)
     → has_waited (times_after_all list me number given raft_server (moves_of_expire nodes) times) now ≡ has_waited times now
 expire_wait list me number now given [] raft_server times = refl
 expire_wait list me number now given (node ∷ nodes) raft_server times = expire_wait list me number now given nodes _ _

@@ -1,4 +1,4 @@
--- When the moves of a step may come in the message machine.
+-- When the moves of a step may come in the Raft model.
 use Rattle.std.specs.Prelude.{◌≡◌, ◌≢◌, ◌⊎◌, ⊤, ℕ, true, false, List, Option, Some}
 use Rattle.can_frame.specs.declared.entry.Entry.{Entry}
 use Rattle.can_frame.specs.declared.identifier.Kind.{Kind}
@@ -103,7 +103,7 @@ pub record Begins (t : AllocatorState) (local_state : LocalState) : Type 0 where
   pub raft_server : local_state.raft_server ≡ t.raft_server
   pub called : (peer : ℕ) → In peer local_state.called → ⊥
 
--- the step went as a step of the machine: its moves may come, with its puts in order, they leave its server, and
+-- the step went as a step of the Raft model: its moves may come, with its puts in order, they leave its server, and
 -- offer what it said; and what it records has no member's node ID, or is a blank
 pub record IsOfTheMachine (members : List ℕ) (me number : ℕ) (bag : List Message) (local_state : LocalState)
     (step_state : StepState) : Type 0 where

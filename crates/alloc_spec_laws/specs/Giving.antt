@@ -7,10 +7,10 @@ use Rattle.can_frame.specs.Log.{blank}
 use Rattle.can_frame.specs.Zeros.{zeros}
 use Rattle.dsdl_codec.specs.Allocation.{allocation_of}
 use Rattle.dsdl_codec.specs.declared.allocation.Allocation.{Allocation}
-use Rattle.alloc_spec.specs.Transfers.{Given}
+use Rattle.alloc_spec.specs.Transfers.{GivenPair}
 
 -- the payload of a transfer reads as an Allocation with a node ID, and with the bytes of a unique ID, however many
-pub record Gives (what : What) (payload : List ℕ) (given : Given) : Type 0 where
+pub record Gives (what : What) (payload : List ℕ) (given : GivenPair) : Type 0 where
   pub kind : what ≡ Alloc
   pub answer : Allocation
   pub reads : allocation_of payload ≡ Some answer
@@ -18,7 +18,7 @@ pub record Gives (what : What) (payload : List ℕ) (given : Given) : Type 0 whe
   pub is : given ≡ (answer.uid.items, answer.node)
 
 -- the pair is that of an entry of the list, and its unique ID some device's
-pub record IsGivenIn (list : List Entry) (given : Given) : Type 0 where
+pub record IsGivenIn (list : List Entry) (given : GivenPair) : Type 0 where
   pub place : ℕ
   pub inside : place < length list
   pub uid : (slice_index_or list place (blank 0)).uid ≡ given.0

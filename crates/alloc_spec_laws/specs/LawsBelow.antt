@@ -9,7 +9,7 @@ use Rattle.dsdl_codec.specs.declared.discovery.Discovery.{Discovery}
 use Rattle.id_selector.specs.Choice.{IsChoice, chosen}
 use Rattle.raft_core.specs.Handled.{puts_with_origins}
 use Rattle.raft_core.specs.StoredPuts.{PutWithOrigin, puts_alone}
-use Rattle.raft_core.specs.Times.{Given}
+use Rattle.raft_core.specs.Times.{HandedIn}
 use Rattle.raft_model.specs.Decisions.{commit_index, grants, verdict_on}
 use Rattle.raft_model.specs.Duty.{CommitDuty, TellDuty, TickDuty, WinDuty, commit_phase, tell_phase, tick_phase}
 use Rattle.raft_model.specs.Fit.{IsFit}
@@ -38,7 +38,7 @@ pub record Laws : Type 0 where
   pub complete_stays : (start : Start) (events : List Event) (from : ℕ) (message : Discovery) →
       is_complete start events ≡ true
       → cluster.members start (Heard from message ∷ events) ≡ cluster.members start events
-  -- the message machine
+  -- the Raft model
   pub opens_fit : (member : ℕ) (store : Store) → IsFit member (record { store = store; memory = memory_when_opened })
   pub fit_after : (members : List ℕ) (member step : ℕ) (bag : List Message) (called : List ℕ) (server : RaftServer)
       (move : Move)
@@ -64,7 +64,7 @@ pub record Laws : Type 0 where
   pub all_after : (list members : List ℕ) (member step : ℕ) (server : RaftServer) (moves : List Move) →
       KnowsEnough list members server moves
       → server_after_all list member step server moves ≡ server_after_all members member step server moves
-  pub noted_raft_server : (members : List ℕ) (member step : ℕ) (given : Given) (server : RaftServer) (moves : List Move)
+  pub noted_raft_server : (members : List ℕ) (member step : ℕ) (given : HandedIn) (server : RaftServer) (moves : List Move)
       → puts_alone (puts_with_origins members member step given server moves)
       ≡ puts_of_all members member step server moves
   pub both_raft_server : (first second : List PutWithOrigin) →

@@ -43,7 +43,7 @@ told_allocation t = record {
   fitted = has_room_to_tell t;
 }
 
--- a leader's duty to tell: its moves are those of the machine's phase, and tell one place. A pair is listed, whether
+-- a leader's duty to tell: its moves are those of the Raft model's phase, and tell one place. A pair is listed, whether
 -- it fits or not; a place with a unique ID of zeros is not
 pub record TellsDuly (number : ℕ) (g told : StepState) : Type 0 where
   pub moves : told.moves ≡ g.moves ++ duty.tell_phase (has_room_to_tell g.allocator) g.allocator.raft_server

@@ -1,7 +1,7 @@
--- What the transfers of a step say as messages of the machine, and that their bytes say it.
+-- What the transfers of a step say as messages of the Raft model, and that their bytes say it.
 use Rattle.std.specs.Prelude.{◌≡◌, ℕ, Bool, true, false, List, Option, None, Some}
 use Rattle.can_frame.specs.declared.step.What.{What}
-use Rattle.can_frame.specs.declared.step.What.TheVariants.{Alloc, Disc, Stat, InfoQ, Info, VoteQ, Vote, AppQ, App}
+use Rattle.can_frame.specs.declared.step.What.TheVariants.{Info, VoteQ, Vote, AppQ, App}
 use Rattle.dsdl_codec.specs.AppendAnswer.{append_answer_bytes}
 use Rattle.dsdl_codec.specs.VoteAnswer.{vote_answer_bytes}
 use Rattle.raft_model.specs.Messages.{Answer, Message, Request}
@@ -39,14 +39,12 @@ vote_bytes answer = vote_answer_bytes (record { term = answer.term; granted = an
 abbrev pub append_bytes : Answer → List ℕ
 append_bytes answer = append_answer_bytes (record { term = answer.term; success = answer.success }) 0
 
--- by its kind, from a member to a node, answering the step `re`; what an Allocation says is read from its payload
+-- By its kind, from a member to a node, answering the step `re`. What an Allocation says is read from its payload.
+-- Messages and other requests say nothing, and answer nothing.
 abbrev pub IsSaid : ℕ → ℕ → What → ℕ → ℕ → List ℕ → Option Message → Type 0
-IsSaid number me Alloc to re payload says = (says ≡ None) × (re ≡ 0)
-IsSaid number me Disc to re payload says = (says ≡ None) × (re ≡ 0)
-IsSaid number me Stat to re payload says = (says ≡ None) × (re ≡ 0)
-IsSaid number me InfoQ to re payload says = (says ≡ None) × (re ≡ 0)
-IsSaid number me Info to re payload says = says ≡ None
 IsSaid number me VoteQ to re payload says = SaysRequest number me to false vote_call_bytes payload says × (re ≡ 0)
 IsSaid number me Vote to re payload says = SaysAnswer number me to re false vote_bytes payload says
 IsSaid number me AppQ to re payload says = SaysRequest number me to true append_call_bytes payload says × (re ≡ 0)
 IsSaid number me App to re payload says = SaysAnswer number me to re true append_bytes payload says
+IsSaid number me Info to re payload says = says ≡ None
+IsSaid number me what to re payload says = (says ≡ None) × (re ≡ 0)

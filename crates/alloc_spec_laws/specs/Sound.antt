@@ -1,7 +1,8 @@
--- The ranges that a server in time keeps.
+-- The ranges that an allocator state keeps.
 use Rattle.std.specs.Prelude.{◌≡◌, ⊤, ℕ, ◌<◌, ◌≤◌, ◌^◌, slice_index}
 use Rattle.can_frame.specs.declared.identifier.Kind.{Kind}
 use Rattle.can_frame.specs.declared.identifier.Kind.TheVariants.{Anonymous, Message as Broadcast, Request, Response}
+use Rattle.can_frame.specs.Sizes.{most_members}
 use Rattle.alloc_spec.specs.StepState.{StepState}
 use Rattle.alloc_spec.specs.Step.{Event, step}
 use Rattle.alloc_spec.specs.Step.Event.{Rx, Tick}
@@ -19,7 +20,7 @@ pub record AreIds (ids : Ids) : Type 0 where
 
 -- a cluster has at most five members
 pub record IsSound (t : AllocatorState) : Type 0 where
-  pub size : t.size ≤ 5
+  pub size : t.size ≤ most_members
   pub ids : AreIds t.ids
 
 -- the frames of a bus have identifiers of 29 bits

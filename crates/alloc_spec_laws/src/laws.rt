@@ -4,6 +4,7 @@ ghost use Rattle.std.specs.Prelude.{Some, false, ◌≡◌, ◌≢◌, ◌⊎◌
 ghost use Rattle.can_frame.specs.Log.{IsBlank};
 ghost use Rattle.can_frame.specs.declared.entry.Entry.{Entry};
 ghost use Rattle.can_frame.specs.declared.step.What.TheVariants.{Disc};
+ghost use Rattle.can_frame.specs.Sizes.{most_members};
 ghost use Rattle.cluster_discovery.specs.Members.{is_due};
 ghost use Rattle.dsdl_codec.specs.Discovery.{discovery_bytes, discovery_of};
 ghost use Rattle.dsdl_codec.specs.declared.discovery.Discovery.{Discovery};
@@ -35,7 +36,7 @@ ghost use Rattle.alloc_spec.specs.Step.Event.{Tick};
 ghost use Rattle.alloc_spec.specs.Tick.{discovery_of as own_discovery};
 ghost use Rattle.alloc_spec.specs.AllocatorState.{AllocatorState, knows_all, members_of, start_of};
 ghost use Rattle.alloc_spec.specs.Rules.{IsToldAll, Rules, opening_by, tells};
-ghost use Rattle.alloc_spec.specs.Transfers.{Given, Offer};
+ghost use Rattle.alloc_spec.specs.Transfers.{GivenPair, Offer};
 
 use can_frame::laws::{identifiers_both_ways, logs_stay_injective};
 use cluster_discovery::laws::{a_complete_list_stays, members_stay, new_members_were_named};
@@ -50,7 +51,7 @@ use transfer_rx::laws::deliveries_are_whole_transfers;
 pub fn transfers_of_a_step_are_apart()
     ensures apart { InEveryStep (λ step_state. AreAllApart step_state.offers) }
     ensures one { InEveryStep (λ step_state. OneByName step_state.offers) }
-    ensures few { (t : AllocatorState) (number : ℕ) (event : Event) → t.size ≤ 5 →
+    ensures few { (t : AllocatorState) (number : ℕ) (event : Event) → t.size ≤ most_members →
         length (step t number event).step_state.offers ≤ 8 }
 {}
 
@@ -58,7 +59,7 @@ pub fn transfers_of_a_step_are_apart()
 /// transfers of a sound server have transfer IDs below 32, and a node as their destination, or 0
 /// for messages. Its own node ID, the size of its cluster and which queries count never change.
 pub fn steps_stay_in_range()
-    ensures opening { (me : ℕ) (rules : Rules) (store : Store) (now word : ℕ) → rules.size ≤ 5 →
+    ensures opening { (me : ℕ) (rules : Rules) (store : Store) (now word : ℕ) → rules.size ≤ most_members →
         IsSound (opening_by me rules store now word) }
     ensures step { FromSound (λ step_state. IsSound step_state.allocator) }
     ensures popped { (t : AllocatorState) → IsSound t → IsSound (after_pop t) }
@@ -109,7 +110,7 @@ pub fn calls_of_a_step()
     ensures popped { (t : AllocatorState) → KeepsCalls t → KeepsCalls (after_pop t) }
 {}
 
-/// A step is one of the message machine, where what is delivered to it was said by a member: its
+/// A step is one of the Raft model, where what is delivered to it was said by a member: its
 /// moves may come, one after another; its puts, but for their origins, are theirs, in order; they
 /// leave its server; and the requests, answers and pairs of the transfers that fitted are offered
 /// by them. Each entry that they propose is a blank, or has a node ID that no member has. What of this the
@@ -178,13 +179,13 @@ pub fn proposals_of_a_step()
 pub fn pairs_of_a_step()
     ensures offered { (t : AllocatorState) (number : ℕ) (event : Event) →
         t.raft_server.store.commit ≤ length t.raft_server.store.log →
-        (offer : Offer) (given : Given) → In offer (step t number event).step_state.offers →
+        (offer : Offer) (given : GivenPair) → In offer (step t number event).step_state.offers →
         Gives offer.what offer.payload given →
         let store = (step t number event).step_state.allocator.raft_server.store in
         IsGivenIn (committed store) given }
     ensures committed { (t : AllocatorState) (number : ℕ) (event : Event) →
         t.raft_server.store.commit ≤ length t.raft_server.store.log →
-        (given : Given) → In given (pairs (step t number event).step_state) →
+        (given : GivenPair) → In given (pairs (step t number event).step_state) →
         IsGivenIn (committed (step t number event).step_state.allocator.raft_server.store) given }
     ensures inside { (t : AllocatorState) (number : ℕ) (event : Event) →
         t.raft_server.store.commit ≤ length t.raft_server.store.log →

@@ -4,10 +4,10 @@
 //! They are what a cluster of allocators rests on, and each is said once, of the step as a
 //! function: that the transfers of a step are told apart on the bus
 //! ([`laws::transfers_of_a_step_are_apart`]), that ranges are kept ([`laws::steps_stay_in_range`]),
-//! that messages of the machine are said by the bytes of their transfers
+//! that messages of the Raft model are said by the bytes of their transfers
 //! ([`laws::what_transfers_say`]), which request a response answers
 //! ([`laws::responses_answer_what_was_delivered`]), what is known of the pending calls
-//! ([`laws::calls_of_a_step`]), that a step is one of the message machine (`raft_model`) where what
+//! ([`laws::calls_of_a_step`]), that a step is one of the Raft model (`raft_model`) where what
 //! comes was said by members ([`laws::moves_of_a_step`]), what becomes of the list of members and
 //! what is told of it ([`laws::members_of_a_step`]), that what is given to a device is committed
 //! ([`laws::pairs_of_a_step`]), that unique IDs are whole ([`laws::proposals_of_a_step`]), what a

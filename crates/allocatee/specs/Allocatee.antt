@@ -4,9 +4,9 @@ use Rattle.std.specs.Prelude.{ℕ, max, Bool, List, [], Option, None, Some}
 use Rattle.can_frame.specs.declared.step.Seen.{Seen}
 use Rattle.can_frame.specs.declared.step.Seen.TheVariants.{Bad, Dropped, Part, Ticked, Took}
 use Rattle.can_frame.specs.declared.step.Sent.{Sent}
+use Rattle.can_frame.specs.Kinds.{is_anonymous}
 use Rattle.dsdl_codec.specs.declared.allocation.Allocation.{Allocation}
 use Rattle.dsdl_codec.specs.Allocation.{allocation_of}
-use Rattle.transfer_rx.specs.Keys.{is_anonymous}
 use Rattle.transfer_rx.specs.Reassembly.{Answer, Arrival, Continues, Drops, Gives, answer, next}
 use Rattle.transfer_rx.specs.Sessions.{Session}
 use Rattle.allocatee.specs.Accepted.{setting}

@@ -3,9 +3,9 @@ use Rattle.std.specs.Prelude.{◌≡◌, ℕ, ◌<◌, ◌≤◌, ◌^◌, false
 use Rattle.can_frame.specs.declared.identifier.Ident.{Ident}
 use Rattle.can_frame.specs.declared.identifier.Kind.TheVariants.{Anonymous}
 use Rattle.can_frame.specs.Identifier.{identifier_of}
+use Rattle.can_frame.specs.Kinds.{is_anonymous}
 use Rattle.dsdl_codec.specs.declared.allocation.Allocation.{Allocation}
 use Rattle.dsdl_codec.specs.Allocation.{allocation_of}
-use Rattle.transfer_rx.specs.Keys.{is_anonymous}
 use Rattle.transfer_rx.specs.Reassembly.{Arrival, Delivery, Gives}
 use Rattle.transfer_tx.specs.Queue.{Queued}
 use Rattle.allocatee.specs.Allocatee.{Device, Event, answer_to}

@@ -1,8 +1,8 @@
 ghost use Rattle.std.specs.Prelude.{◌≡◌, ◌<◌, ◌↔◌, ◌&&◌, [], IsNone, length, nat_eq, not, option_map, if◌then◌else◌};
 ghost use Rattle.can_frame.specs.declared.step.Judged.TheVariants.{Fine, Torn};
+ghost use Rattle.can_frame.specs.Kinds.{is_anonymous};
 ghost use Rattle.dsdl_codec.specs.Allocation.{allocation_of};
 ghost use Rattle.transfer_rx.specs.Acceptance.{AnswersByRows};
-ghost use Rattle.transfer_rx.specs.Keys.{is_anonymous};
 ghost use Rattle.transfer_rx.specs.Memory.{ReceiverFitsInMemory};
 ghost use Rattle.transfer_rx.specs.Reassembly.{arrival_of};
 ghost use Rattle.transfer_rx.specs.Heard.{told_with};
@@ -178,15 +178,6 @@ fn hear(applicant: &mut Applicant, transfer: &Transfer, word: u32) -> Seen
     let Some(message) = Allocation::read(&transfer.payload) else {
         return Seen::Bad;
     };
-    applicant.hear(is_anonymous(transfer.ident.kind), &message, word);
+    applicant.hear(transfer.ident.kind.is_anonymous(), &message, word);
     Seen::Took
-}
-
-fn is_anonymous(kind: Kind) -> bool
-    ensures { result ≡ is_anonymous kind }
-{
-    match kind {
-        Kind::Anonymous => true,
-        Kind::Message | Kind::Request | Kind::Response => false,
-    }
 }

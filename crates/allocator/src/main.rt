@@ -106,18 +106,8 @@ fn main(rt: HostRuntime) -> ExitCode {
                 if is_full {
                     return ExitCode::from(Status::Memory.code());
                 }
-                let Ok(path) = store_of(rt.alloc(), *id) else {
-                    return ExitCode::from(Status::Memory.code());
-                };
-                let opened = match told {
-                    Told::Size(_) => FileDisk::open(&rt, path.as_str()),
-                    Told::Members(_) => FileDisk::open_made(&rt, path.as_str()),
-                };
-                let Ok(disk) = opened else {
-                    return ExitCode::from(NOT_OPENED);
-                };
-                if disks.push(Some(disk)).is_err() {
-                    return ExitCode::from(Status::Memory.code());
+                if let Err(code) = open_store(&rt, Some(told), *id, &mut disks) {
+                    return ExitCode::from(code);
                 }
             }
         }
@@ -139,14 +129,8 @@ fn main(rt: HostRuntime) -> ExitCode {
         }
         Some(Plan::Audit { ids }) => {
             for id in ids.as_slice() {
-                let Ok(path) = store_of(rt.alloc(), *id) else {
-                    return ExitCode::from(Status::Memory.code());
-                };
-                let Ok(disk) = FileDisk::open_old(&rt, path.as_str()) else {
-                    return ExitCode::from(NOT_OPENED);
-                };
-                if disks.push(Some(disk)).is_err() {
-                    return ExitCode::from(Status::Memory.code());
+                if let Err(code) = open_store(&rt, None, *id, &mut disks) {
+                    return ExitCode::from(code);
                 }
             }
         }
@@ -165,6 +149,31 @@ fn main(rt: HostRuntime) -> ExitCode {
         take_away(&rt, &made);
     }
     ExitCode::from(status.code())
+}
+
+/// Opens the store of a member and puts it behind the other disks: that of a node by what its members are told of
+/// the cluster, and one that is audited, whose members are told nothing, to be read. The exit code where it fails.
+fn open_store(
+    rt: &HostRuntime,
+    told: Option<&Told>,
+    id: u8,
+    disks: &mut Vec<Option<FileDisk>>,
+) -> Result<(), u8> {
+    let Ok(path) = store_of(rt.alloc(), id) else {
+        return Err(Status::Memory.code());
+    };
+    let opened = match told {
+        Some(Told::Size(_)) => FileDisk::open(rt, path.as_str()),
+        Some(Told::Members(_)) => FileDisk::open_made(rt, path.as_str()),
+        None => FileDisk::open_old(rt, path.as_str()),
+    };
+    let Ok(disk) = opened else {
+        return Err(NOT_OPENED);
+    };
+    if disks.push(Some(disk)).is_err() {
+        return Err(Status::Memory.code());
+    }
+    Ok(())
 }
 
 /// Does what the words say with these links and disks, and the standard streams. The clock sleeps where no link

@@ -2,31 +2,15 @@
 use Rattle.std.proofs.Common.{◌≡◌, ◌<◌, ℕ, ◌+◌, List, [], ◌∷◌, ◌++◌, refl, sym, ap, ◌∙◌, subst, append_assoc, append-nil, None, Some}
 use Rattle.replay_text.specs.declared.row.Row.{Row}
 use Rattle.replay_text.specs.declared.told.Told.{Told}
-use Rattle.replay_text.specs.declared.told.Told.TheVariants.{Opened, Stepped, Failed, Stopped, Armed, Popped, Outside, AOpened, AStepped, APopped, AEnded}
-use Rattle.replay_text.specs.Report.{told_line}
 use Rattle.replay_text.specs.Lines.{BeginsWith, BeginsWithNoRow, ReadsRows}
 use Rattle.cluster_spec.specs.Cluster.{Cluster, after_rows, after_row}
 use Rattle.cluster_spec.specs.Lawful.{Lawful, cause}
-use Rattle.cluster_spec.specs.Promise.{GivesOnce, KeepsItsWord, OffersItsOwn}
+use Rattle.cluster_spec.specs.OwnLogs.{GivesOnce, KeepsItsWord, OffersItsOwn}
 use Rattle.cluster_spec.specs.Report.{row_lines, line_of_row}
-use Rattle.cluster_spec.specs.ReportLine.{text_of_line, report_line_of}
+use Rattle.replay_text.specs.ReportLine.{text_of_line, report_line_of}
 use Rattle.cluster_spec.specs.declared.unlawful.Unlawful.{Unlawful}
 use Rattle.allocator_app.specs.Input.{FindsRow}
 use Rattle.allocator_app.specs.Report.{ReadsUpTo, ReadsKeepingPromise, IsBadRow, IsBeyond, IsRefused}
-
--- the line of what a row did is that of what the code tells
-pub line_of_told : (number : ℕ) (t : Told) → told_line number t ≡ text_of_line number (report_line_of t)
-line_of_told number (Opened n term vote last commit) = refl
-line_of_told number (Stepped n role term last commit queued seen sent) = refl
-line_of_told number (Failed n) = refl
-line_of_told number (Stopped n) = refl
-line_of_told number (Armed n) = refl
-line_of_told number (Popped n k frame) = refl
-line_of_told number (Outside k) = refl
-line_of_told number (AOpened a) = refl
-line_of_told number (AStepped a holds queued seen sent) = refl
-line_of_told number (APopped a k frame) = refl
-line_of_told number (AEnded a) = refl
 
 -- ---- lists of rows, one behind the other
 
@@ -96,11 +80,11 @@ goes-join u v w x y z l m p q = record {
 -- one row more is taken
 pub goes-more : (first w : Cluster) (row : Row) (t : Told) (waiting before behind lines line : List ℕ) (n : ℕ) →
     ((more : List ℕ) → ReadsKeepingPromise first (waiting ++ more) lines w (before ++ more)) → FindsRow row before behind →
-    cause w row ≡ None → report_line_of t ≡ line_of_row w row → GivesOnce w → OffersItsOwn w row → GivesOnce (after_row w row) → n ≡ w.rows + 1 → line ≡ told_line n t →
+    cause w row ≡ None → report_line_of t ≡ line_of_row w row → GivesOnce w → OffersItsOwn w row → GivesOnce (after_row w row) → n ≡ w.rows + 1 → line ≡ text_of_line n (report_line_of t) →
     (more : List ℕ) → ReadsKeepingPromise first (waiting ++ more) (lines ++ line) (after_row w row) (behind ++ more)
 goes-more first w row t waiting before behind lines line n came found lawful tells once own then count is_line more =
     let one = goes-one w row (before ++ more) (behind ++ more) (found.begins more) lawful once own then in
-    let told_so = is_line ∙ line_of_told n t ∙ ap (text_of_line n) tells ∙ ap (λ k. text_of_line k (line_of_row w row)) count in
+    let told_so = is_line ∙ ap (text_of_line n) tells ∙ ap (λ k. text_of_line k (line_of_row w row)) count in
     goes-join first w (after_row w row) (waiting ++ more) (before ++ more) (behind ++ more) lines line (came more)
     (subst (λ l. ReadsKeepingPromise w (before ++ more) l (after_row w row) (behind ++ more)) (sym told_so) one)
 

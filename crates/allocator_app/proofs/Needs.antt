@@ -25,8 +25,8 @@ no_links_used (Node told base turns ids) words links disks planned uses has none
 no_links_used (Soak told seed rounds size) words links disks planned uses has none = uses
 no_links_used (New ids) words links disks planned uses has none = uses
 no_links_used (Audit ids) words links disks planned uses has none = uses
-no_links_used (Watch candump lines ids) words links disks planned uses has none = uses
-no_links_used (Convert from_candump to_candump lines) words links disks planned uses has none = uses
+no_links_used (Watch form lines ids) words links disks planned uses has none = uses
+no_links_used (Convert from to lines) words links disks planned uses has none = uses
 no_links_used (Decode name part payload) words links disks planned uses has none = uses
 
 pub no_disks_used : {L D : Type 0} (plan : Plan) (words : List (List ℕ)) (links : List L) (disks : List (Option D)) → IsPlan plan words → UsesDisks plan
@@ -36,6 +36,6 @@ no_disks_used (Node told base turns ids) words links disks planned uses has none
 no_disks_used (Soak told seed rounds size) words links disks planned uses has none = uses
 no_disks_used (New ids) words links disks planned uses has none = some_stored ids.items links disks planned.members.some has none
 no_disks_used (Audit ids) words links disks planned uses has none = some_stored ids.items links disks planned.members.some has none
-no_disks_used (Watch candump lines ids) words links disks planned uses has none = uses
-no_disks_used (Convert from_candump to_candump lines) words links disks planned uses has none = uses
+no_disks_used (Watch form lines ids) words links disks planned uses has none = uses
+no_disks_used (Convert from to lines) words links disks planned uses has none = uses
 no_disks_used (Decode name part payload) words links disks planned uses has none = uses

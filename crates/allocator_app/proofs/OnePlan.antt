@@ -4,12 +4,15 @@ use Rattle.std.specs.Prelude.{◌==◌, if◌then◌else◌}
 use Rattle.std.proofs.lemmas.Fmt.{decimal_injective}
 use Rattle.arrayvec.specs.ArrayVec.{ArrayVec}
 use Rattle.raft_model.specs.Lists.{In}
+use Rattle.can_logs.specs.declared.form.Form.{Form}
+use Rattle.can_logs.specs.declared.form.Form.TheVariants.{Candump, Slcan}
+use Rattle.can_logs.specs.Forms.{form_word}
 use Rattle.replay_text.specs.Words.{IsHex}
 use Rattle.cluster_spec.specs.Cluster.{AreMembers}
 use Rattle.allocator_app.specs.declared.told.Told.{Told}
 use Rattle.allocator_app.specs.declared.told.Told.TheVariants.{Members, Size}
 use Rattle.allocator_app.specs.Told.{IsCluster, Spells, size_of}
-use Rattle.allocator_app.specs.Words.{AreFew, IsAudit, IsConvert, IsDecode, IsNew, IsNode, IsPlan, IsReplay, IsSize, IsSoak, IsSound, IsWatch, SpellsPayload, form_word}
+use Rattle.allocator_app.specs.Words.{AreFew, IsAudit, IsConvert, IsDecode, IsNew, IsNode, IsPlan, IsReplay, IsSize, IsSoak, IsSound, IsWatch, SpellsPayload}
 use Rattle.allocator_app.specs.declared.plans.Plan.{Plan}
 use Rattle.allocator_app.proofs.Listing.{same_numbers, same_told}
 use Rattle.allocator_app.specs.declared.plans.Plan.TheVariants.{Replay, Node, Soak, New, Audit, Watch, Convert, Decode}
@@ -25,23 +28,23 @@ sound (Node told base turns ids) words h = let size = sizes told h.cluster in (s
 sound (Soak told seed rounds size) words h = (h.rounds_most, h.sized.least, h.sized.most)
 sound (New ids) words h = h.members
 sound (Audit ids) words h = h.members
-sound (Watch candump lines ids) words h = (h.lines_least, h.lines_most, h.nodes)
-sound (Convert from_candump to_candump lines) words h = (h.lines_least, h.lines_most)
+sound (Watch form lines ids) words h = (h.lines_least, h.lines_most, h.nodes)
+sound (Convert from to lines) words h = (h.lines_least, h.lines_most)
 sound (Decode name part payload) words h = (h.named, h.part_least, h.part_most, h.short)
 
 -- words that have no plan by any mode have none
 pub unplanned : (words : List (List ℕ)) → ((rows : ℕ) (ids : List ℕ) → IsReplay rows ids words → ⊥)
     → ((told : Told) (base turns : ℕ) (ids : List ℕ) → IsNode told base turns ids words → ⊥) → ((told : Bool) (seed rounds size : ℕ) → IsSoak told seed rounds size words → ⊥)
-    → ((ids : List ℕ) → IsNew ids words → ⊥) → ((ids : List ℕ) → IsAudit ids words → ⊥) → ((candump : Bool) (lines : ℕ) (ids : List ℕ) → IsWatch candump lines ids words → ⊥)
-    → ((from_candump to_candump : Bool) (lines : ℕ) → IsConvert from_candump to_candump lines words → ⊥)
+    → ((ids : List ℕ) → IsNew ids words → ⊥) → ((ids : List ℕ) → IsAudit ids words → ⊥) → ((form : Form) (lines : ℕ) (ids : List ℕ) → IsWatch form lines ids words → ⊥)
+    → ((from to : Form) (lines : ℕ) → IsConvert from to lines words → ⊥)
     → ((name : List ℕ) (part : ℕ) (payload : List ℕ) → IsDecode name part payload words → ⊥) → (plan : Plan) → IsPlan plan words → ⊥
 unplanned words no_replay no_node no_soak no_new no_audit no_watch no_convert no_decode (Replay rows ids) is = no_replay rows ids.items is
 unplanned words no_replay no_node no_soak no_new no_audit no_watch no_convert no_decode (Node told base turns ids) is = no_node told base turns ids.items is
 unplanned words no_replay no_node no_soak no_new no_audit no_watch no_convert no_decode (Soak told seed rounds size) is = no_soak told seed rounds size is
 unplanned words no_replay no_node no_soak no_new no_audit no_watch no_convert no_decode (New ids) is = no_new ids.items is
 unplanned words no_replay no_node no_soak no_new no_audit no_watch no_convert no_decode (Audit ids) is = no_audit ids.items is
-unplanned words no_replay no_node no_soak no_new no_audit no_watch no_convert no_decode (Watch candump lines ids) is = no_watch candump lines ids.items is
-unplanned words no_replay no_node no_soak no_new no_audit no_watch no_convert no_decode (Convert from_candump to_candump lines) is = no_convert from_candump to_candump lines is
+unplanned words no_replay no_node no_soak no_new no_audit no_watch no_convert no_decode (Watch form lines ids) is = no_watch form lines ids.items is
+unplanned words no_replay no_node no_soak no_new no_audit no_watch no_convert no_decode (Convert from to lines) is = no_convert from to lines is
 unplanned words no_replay no_node no_soak no_new no_audit no_watch no_convert no_decode (Decode name part payload) is = no_decode name.items part payload.items is
 
 -- ---- the mode, as the first letter of the words tells it, and for `new` the number of letters
@@ -62,8 +65,8 @@ mode (Node told base turns ids) = running
 mode (Soak told seed rounds size) = soaking
 mode (New ids) = making
 mode (Audit ids) = auditing
-mode (Watch candump lines ids) = watching
-mode (Convert from_candump to_candump lines) = converting
+mode (Watch form lines ids) = watching
+mode (Convert from to lines) = converting
 mode (Decode name part payload) = decoding
 
 abbrev mode_of_letter : ℕ → Mode
@@ -87,8 +90,8 @@ mode_is (Node told base turns ids) words h = ap mode_of h.spelled
 mode_is (Soak told seed rounds size) words h = ap mode_of h.spelled
 mode_is (New ids) words h = ap mode_of h.spelled
 mode_is (Audit ids) words h = ap mode_of h.spelled
-mode_is (Watch candump lines ids) words h = ap mode_of h.spelled
-mode_is (Convert from_candump to_candump lines) words h = ap mode_of h.spelled
+mode_is (Watch form lines ids) words h = ap mode_of h.spelled
+mode_is (Convert from to lines) words h = ap mode_of h.spelled
 mode_is (Decode name part payload) words h = ap mode_of h.spelled
 
 -- a plan of this mode
@@ -98,8 +101,8 @@ IsOf running plan = (told : Told) × (base turns : ℕ) × (ids : ArrayVec ℕ) 
 IsOf soaking plan = (told : Bool) × (seed rounds size : ℕ) × (plan ≡ Soak told seed rounds size)
 IsOf making plan = (ids : ArrayVec ℕ) × (plan ≡ New ids)
 IsOf auditing plan = (ids : ArrayVec ℕ) × (plan ≡ Audit ids)
-IsOf watching plan = (candump : Bool) × (lines : ℕ) × (ids : ArrayVec ℕ) × (plan ≡ Watch candump lines ids)
-IsOf converting plan = (from_candump to_candump : Bool) × (lines : ℕ) × (plan ≡ Convert from_candump to_candump lines)
+IsOf watching plan = (form : Form) × (lines : ℕ) × (ids : ArrayVec ℕ) × (plan ≡ Watch form lines ids)
+IsOf converting plan = (from to : Form) × (lines : ℕ) × (plan ≡ Convert from to lines)
 IsOf decoding plan = (name : ArrayVec ℕ) × (part : ℕ) × (payload : ArrayVec ℕ) × (plan ≡ Decode name part payload)
 
 is_of : (plan : Plan) → IsOf (mode plan) plan
@@ -108,8 +111,8 @@ is_of (Node told base turns ids) = (told, base, turns, ids, refl)
 is_of (Soak told seed rounds size) = (told, seed, rounds, size, refl)
 is_of (New ids) = (ids, refl)
 is_of (Audit ids) = (ids, refl)
-is_of (Watch candump lines ids) = (candump, lines, ids, refl)
-is_of (Convert from_candump to_candump lines) = (from_candump, to_candump, lines, refl)
+is_of (Watch form lines ids) = (form, lines, ids, refl)
+is_of (Convert from to lines) = (from, to, lines, refl)
 is_of (Decode name part payload) = (name, part, payload, refl)
 
 -- two plans of the same words are of one mode
@@ -139,11 +142,11 @@ same_few xs ys p q e = same_numbers xs ys (nodes_of_few xs p) (nodes_of_few ys q
 same_members : (xs ys : List ℕ) → AreMembers xs → AreMembers ys → map decimal xs ≡ map decimal ys → xs ≡ ys
 same_members xs ys p q e = same_few xs ys (inr p) (inr q) e
 
-same_form : (a b : Bool) → form_word a ≡ form_word b → a ≡ b
-same_form true true e = refl
-same_form true false e = cc
-same_form false true e = cc
-same_form false false e = refl
+same_form : (a b : Form) → form_word a ≡ form_word b → a ≡ b
+same_form Candump Candump e = refl
+same_form Candump Slcan e = cc
+same_form Slcan Candump e = cc
+same_form Slcan Slcan e = refl
 
 -- (`-` is no hexadecimal digit)
 no_digits : (byte : ℕ) (bytes : List ℕ) → IsHex (byte ∷ bytes) (codes "-") → ⊥
@@ -243,26 +246,26 @@ module _ (plan : Plan) (words : List (List ℕ)) (planned : IsPlan plan words) w
       let is = by (Audit own.0) own.1 in
       own.1 ∙ ap (λ l. Audit (kept l)) (same_members own.0.items ids is.members asks.members (after_one (sym is.spelled ∙ asks.spelled)))
 
-  pub only_watch : (candump : Bool) (lines : ℕ) (ids : List ℕ) → IsWatch candump lines ids words → plan ≡ Watch candump lines (kept ids)
-  only_watch candump lines ids asks =
-      let own = of_mode plan (Watch candump lines (kept ids)) words planned asks in
+  pub only_watch : (form : Form) (lines : ℕ) (ids : List ℕ) → IsWatch form lines ids words → plan ≡ Watch form lines (kept ids)
+  only_watch form lines ids asks =
+      let own = of_mode plan (Watch form lines (kept ids)) words planned asks in
       let is = by (Watch own.0 own.1 own.2) own.3 in
       let same = sym is.spelled ∙ asks.spelled in
       let a = is.lines_most in let b = asks.lines_most in
-      own.3 ∙ ap (λ f. Watch f own.1 own.2) (same_form own.0 candump (second same))
-      ∙ ap (λ n. Watch candump n own.2) (one_number own.1 lines (omega (arith, a)) (omega (arith, b)) (third same))
-      ∙ ap (λ l. Watch candump lines (kept l)) (same_few own.2.items ids is.nodes asks.nodes (after_three same))
+      own.3 ∙ ap (λ f. Watch f own.1 own.2) (same_form own.0 form (second same))
+      ∙ ap (λ n. Watch form n own.2) (one_number own.1 lines (omega (arith, a)) (omega (arith, b)) (third same))
+      ∙ ap (λ l. Watch form lines (kept l)) (same_few own.2.items ids is.nodes asks.nodes (after_three same))
 
-  pub only_convert : (from_candump to_candump : Bool) (lines : ℕ) → IsConvert from_candump to_candump lines words
-      → plan ≡ Convert from_candump to_candump lines
-  only_convert from_candump to_candump lines asks =
-      let own = of_mode plan (Convert from_candump to_candump lines) words planned asks in
+  pub only_convert : (from to : Form) (lines : ℕ) → IsConvert from to lines words
+      → plan ≡ Convert from to lines
+  only_convert from to lines asks =
+      let own = of_mode plan (Convert from to lines) words planned asks in
       let is = by (Convert own.0 own.1 own.2) own.3 in
       let same = sym is.spelled ∙ asks.spelled in
       let a = is.lines_most in let b = asks.lines_most in
-      own.3 ∙ ap (λ f. Convert f own.1 own.2) (same_form own.0 from_candump (second same))
-      ∙ ap (λ f. Convert from_candump f own.2) (same_form own.1 to_candump (third same))
-      ∙ ap (λ n. Convert from_candump to_candump n) (one_number own.2 lines (omega (arith, a)) (omega (arith, b)) (fourth same))
+      own.3 ∙ ap (λ f. Convert f own.1 own.2) (same_form own.0 from (second same))
+      ∙ ap (λ f. Convert from f own.2) (same_form own.1 to (third same))
+      ∙ ap (λ n. Convert from to n) (one_number own.2 lines (omega (arith, a)) (omega (arith, b)) (fourth same))
 
   pub only_decode : (name : List ℕ) (part : ℕ) (payload : List ℕ) → IsDecode name part payload words → plan ≡ Decode (kept name) part (kept payload)
   only_decode name part payload asks =
@@ -282,6 +285,6 @@ module _ (plan : Plan) (words : List (List ℕ)) (planned : IsPlan plan words) w
   only (Soak told seed rounds size) asks = only_soak told seed rounds size asks
   only (New ids) asks = only_new ids.items asks
   only (Audit ids) asks = only_audit ids.items asks
-  only (Watch candump lines ids) asks = only_watch candump lines ids.items asks
-  only (Convert from_candump to_candump lines) asks = only_convert from_candump to_candump lines asks
+  only (Watch form lines ids) asks = only_watch form lines ids.items asks
+  only (Convert from to lines) asks = only_convert from to lines asks
   only (Decode name part payload) asks = only_decode name.items part payload.items asks

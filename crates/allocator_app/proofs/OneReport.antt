@@ -7,7 +7,7 @@ use Rattle.replay_text.specs.Schedule.{Reads}
 use Rattle.cluster_spec.specs.Cluster.{Cluster, after_rows, after_row}
 use Rattle.cluster_spec.specs.Lawful.{Lawful, cause, number_of}
 use Rattle.cluster_spec.specs.Report.{row_lines, line_of_row}
-use Rattle.cluster_spec.specs.ReportLine.{text_of_line}
+use Rattle.replay_text.specs.ReportLine.{text_of_line}
 use Rattle.cluster_spec.specs.declared.unlawful.Unlawful.{Unlawful}
 use Rattle.allocator_app.specs.InPart.{IsText, IsWrittenInPart}
 use Rattle.allocator_app.specs.InPart.IsText.{OfRows, OfAll}

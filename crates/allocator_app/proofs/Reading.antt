@@ -10,7 +10,7 @@ use Rattle.cmd_base.specs.Input.{ReadsMore}
 use Rattle.cmd_base.specs.NoFurther.{ReadsNoFurther}
 use Rattle.cmd_base.specs.Output.{Grows, WritesFront}
 use Rattle.cluster_spec.specs.Cluster.{Cluster}
-use Rattle.cluster_spec.specs.Promise.{GivesOnce}
+use Rattle.cluster_spec.specs.OwnLogs.{GivesOnce}
 use Rattle.allocator_app.specs.Report.{ReadsKeepingPromise, IsOfSchedule, IsReport, Says}
 use Rattle.allocator_app.specs.Rows.{BreaksOff, Ends, EndsAt, IsTold, ReadsRows, StopsAt, TakesRows, Waits, WaitsOn, last_of, status_of}
 use Rattle.cmd_base.specs.declared.status.Status.TheVariants.{Memory, ReadFault, WriteFault}

@@ -10,7 +10,7 @@ use Rattle.cluster_spec.specs.Cluster.{AreMembers, cluster}
 use Rattle.cmd_base.specs.declared.status.Status.TheVariants.{Done, Usage, BadRow, Unlawful, ReadFault, WriteFault, Memory, Limit, LinkFault, DiskFault, Damaged, Differ, NoPart, NoValue}
 use Rattle.cmd_node.specs.CutRun.{IsCutAtOpening, IsCutAtTurn, KeepsImages, KeepsOrOpens}
 use Rattle.cmd_node.specs.Nodes.{IsCutInTurn, IsDone, IsEnd, LeavesWith, RunsNodes}
-use Rattle.cmd_node.specs.Opening.{Given}
+use Rattle.cmd_node.specs.Opening.{RunInput}
 use Rattle.cmd_node.specs.WholeRun.{LeavesAll, Tell, after_turns}
 use Rattle.cmd_node_laws.specs.Processes.{Opening, Turning, together_at}
 use Rattle.cmd_node_laws.specs.Stands.{IsCutAsTold, IsCutOpeningAsTold, IsRunIn, LeavesAsTold, world_after}
@@ -24,21 +24,21 @@ module _ {L D : Type 0} (coming : L → Option (List Received)) (sent : L → Op
   abbrev Ended : Status → Type 0
   Ended = LeavesWith coming sent link_faults disk rules turns mine links_old links disks_old disks readings_old readings before now
 
-  module _ (done : (ids mine : List ℕ) (before during : List Event) (rules : Rules) (turns : ℕ) (given : Given) (links : List L) (disks : List (Option D)) (readings : Option (List ℕ)) →
+  module _ (done : (ids mine : List ℕ) (before during : List Event) (rules : Rules) (turns : ℕ) (given : RunInput) (links : List L) (disks : List (Option D)) (readings : Option (List ℕ)) →
       IsRunIn ids before during rules mine given (Turning turns 0) → LeavesAll coming sent disk links disks readings (length mine) (after_turns rules turns mine given) →
       let w = world_after ids before in LeavesAsTold sent disk links disks mine given w (world_after ids (before ++ during)) (all_rows during w))
-      (cut : (ids mine : List ℕ) (before during : List Event) (rules : Rules) (taken place : ℕ) (given : Given) (links : List L) (disks : List (Option D)) (readings : Option (List ℕ)) →
+      (cut : (ids mine : List ℕ) (before during : List Event) (rules : Rules) (taken place : ℕ) (given : RunInput) (links : List L) (disks : List (Option D)) (readings : Option (List ℕ)) →
       place < length mine → IsRunIn ids before during rules mine given (Turning taken place) → let all = together_at rules mine given taken place in
       IsCutAtTurn coming sent disk links disks readings (length mine) all place → let w = world_after ids before in
       IsCutAsTold coming sent disk links disks mine given w (world_after ids (before ++ during)) (all_rows during w) all place)
-      (opening : (ids mine : List ℕ) (before during : List Event) (rules : Rules) (given : Given) (links_old links : List L) (disks_old disks : List (Option D)) (readings_old readings : Option (List ℕ)) (id : ℕ) →
+      (opening : (ids mine : List ℕ) (before during : List Event) (rules : Rules) (given : RunInput) (links_old links : List L) (disks_old disks : List (Option D)) (readings_old readings : Option (List ℕ)) (id : ℕ) →
       Tell coming sent disk links_old disks_old readings_old given →
       (cut : IsCutAtOpening disk mine links_old links disks_old disks readings_old readings (KeepsOrOpens disk) id) →
       IsRunIn ids before during rules mine given (Opening cut.place) → let w = world_after ids before in
       IsCutOpeningAsTold disk disks_old disks rules mine given w (world_after ids (before ++ during)) (all_rows during w) cut.place)
       (promise : (ids : List ℕ) (trace : List Event) → AreMembers ids → MayAllHappen trace (cluster ids) → KeepsPromise ids (all_rows trace (cluster ids)))
       (on_bus : StandOnBus rules mine) where
-    cut_in_traces : (given : Given) (id : ℕ) → Tell coming sent disk links_old disks_old readings_old given →
+    cut_in_traces : (given : RunInput) (id : ℕ) → Tell coming sent disk links_old disks_old readings_old given →
         IsCutInTurn coming sent link_faults disk rules turns mine links_old links disks_old disks readings_old readings id → IsCutInTraces coming sent disk links disks rules mine given turns id
     cut_in_traces given id tell is =
         let left = is.left given tell in
@@ -55,10 +55,10 @@ module _ {L D : Type 0} (coming : L → Option (List Received)) (sent : L → Op
     abbrev AtOpening : ℕ → Type 0
     AtOpening id = IsCutAtOpening disk mine links_old links disks_old disks readings_old readings (KeepsOrOpens disk) id
 
-    abbrev OpeningInTraces : Given → ℕ → Type 0
+    abbrev OpeningInTraces : RunInput → ℕ → Type 0
     OpeningInTraces given id = IsCutOpeningInTraces coming sent disk links disks rules mine given links_old disks_old readings_old readings id
 
-    opening_in_traces : (given : Given) (id : ℕ) → Tell coming sent disk links_old disks_old readings_old given → AtOpening id → OpeningInTraces given id
+    opening_in_traces : (given : RunInput) (id : ℕ) → Tell coming sent disk links_old disks_old readings_old given → AtOpening id → OpeningInTraces given id
     opening_in_traces given id tell is = record {
       opening = is;
       told = λ ids first rest stands. opening ids mine first rest rules given links_old links disks_old disks readings_old readings id tell is stands;
@@ -77,13 +77,13 @@ module _ {L D : Type 0} (coming : L → Option (List Received)) (sent : L → Op
       others = o.others;
     }
 
-    done_in_traces : (given : Given) → Tell coming sent disk links_old disks_old readings_old given → IsDone coming sent link_faults disk rules turns mine links_old links disks_old disks readings_old readings → IsDoneInTraces coming sent disk links disks rules mine given turns
+    done_in_traces : (given : RunInput) → Tell coming sent disk links_old disks_old readings_old given → IsDone coming sent link_faults disk rules turns mine links_old links disks_old disks readings_old readings → IsDoneInTraces coming sent disk links disks rules mine given turns
     done_in_traces given tell is = record {
       told = λ ids first rest stands. done ids mine first rest rules turns given links disks readings stands (is.left given tell);
       promise = λ ids first rest stands. promise ids (first ++ rest) stands.members stands.may;
     }
 
-    by_end : (given : Given) → Tell coming sent disk links_old disks_old readings_old given → (ended : Status) → IsEnd coming sent link_faults disk rules turns mine links_old links disks_old disks readings_old readings ended →
+    by_end : (given : RunInput) → Tell coming sent disk links_old disks_old readings_old given → (ended : Status) → IsEnd coming sent link_faults disk rules turns mine links_old links disks_old disks readings_old readings ended →
         IsDoneInTraces coming sent disk links disks rules mine given turns ⊎ ((id : ℕ) × (OpeningInTraces given id ⊎ IsCutInTraces coming sent disk links disks rules mine given turns id))
     by_end given tell Done end = inl (done_in_traces given tell end)
     by_end given tell (LinkFault id) end = inr (id, inr (cut_in_traces given id tell end.1))

@@ -29,9 +29,9 @@ module _ {L D : Type 0} (coming : L → Option (List Received)) (sent : L → Op
   IsFollowed (Soak told seed rounds size) = Soaks told seed rounds size sink_old sink before now status
   IsFollowed (New ids) = MakesStores disk ids.items disks_old disks before now status
   IsFollowed (Audit ids) = Audits disk ids.items disks_old disks before now status
-  IsFollowed (Watch candump lines ids) =
-      Watches candump lines ids.items left_old left source_old source sink_old sink before now status
-  IsFollowed (Convert from_candump to_candump lines) =
-      Converts from_candump to_candump lines left_old left source_old source sink_old sink before now status
+  IsFollowed (Watch form lines ids) =
+      Watches form lines ids.items left_old left source_old source sink_old sink before now status
+  IsFollowed (Convert from to lines) =
+      Converts from to lines left_old left source_old source sink_old sink before now status
   IsFollowed (Decode name part payload) =
       Decodes name.items part payload.items left_old left source_old source sink_old sink before now status

@@ -8,7 +8,7 @@ use Rattle.cmd_base.specs.declared.status.Status.TheVariants.{Done, WriteFault}
 use Rattle.alloc_spec.specs.Rules.{Rules}
 use Rattle.cmd_node.specs.CutRun.{EndsAt, IsCutAtOpening, KeepsOrOpens}
 use Rattle.cmd_node.specs.Nodes.{RunsNodes}
-use Rattle.cmd_node.specs.Opening.{Given}
+use Rattle.cmd_node.specs.Opening.{RunInput}
 use Rattle.cmd_node.specs.WholeRun.{Tell}
 use Rattle.cmd_node_laws.specs.Processes.{Opening, Point, Turning, together_at}
 use Rattle.cmd_node_laws.specs.Stands.{IsCutAsTold, IsCutOpeningAsTold, IsRunIn, LeavesAsTold, world_after}
@@ -20,7 +20,7 @@ use Rattle.allocator_app.specs.Promise.{KeepsPromise}
 -- ---- the traces of a cluster in which the run of these members stands, which went on to a point
 
 module _ {L D : Type 0} (coming : L → Option (List Received)) (sent : L → Option (List RawFrame)) (disk : Ghosts D)
-    (links : List L) (disks : List (Option D)) (rules : Rules) (mine : List ℕ) (given : Given) where
+    (links : List L) (disks : List (Option D)) (rules : Rules) (mine : List ℕ) (given : RunInput) where
   -- the promise holds along the rows of each of them
   abbrev pub KeepsInTraces : Point → Type 0
   KeepsInTraces to = (ids : List ℕ) (before during : List Event) → IsRunIn ids before during rules mine given to →
@@ -68,13 +68,13 @@ pub record RunsInTraces {L D : Type 0} (coming : L → Option (List Received)) (
     (before now : Option (List ℕ)) (status : Status) : Type 0 where
   pub runs : RunsNodes coming sent link_faults disk rules turns ids links_old links disks_old disks readings_old readings
       faults_old faults before now status
-  pub done : (given : Given) → Tell coming sent disk links_old disks_old readings_old given → status ≡ Done →
+  pub done : (given : RunInput) → Tell coming sent disk links_old disks_old readings_old given → status ≡ Done →
       IsDoneInTraces coming sent disk links disks rules ids given turns
-  pub cut : (given : Given) (id : ℕ) → Tell coming sent disk links_old disks_old readings_old given →
+  pub cut : (given : RunInput) (id : ℕ) → Tell coming sent disk links_old disks_old readings_old given →
       EndsAt id status →
       IsCutOpeningInTraces coming sent disk links disks rules ids given links_old disks_old readings_old readings id
       ⊎ IsCutInTraces coming sent disk links disks rules ids given turns id
-  pub output_failed : (given : Given) → Tell coming sent disk links_old disks_old readings_old given → status ≡ WriteFault →
+  pub output_failed : (given : RunInput) → Tell coming sent disk links_old disks_old readings_old given → status ≡ WriteFault →
       IsDoneInTraces coming sent disk links disks rules ids given turns
       ⊎ ((id : ℕ) × (IsCutOpeningInTraces coming sent disk links disks rules ids given links_old disks_old readings_old
       readings id ⊎ IsCutInTraces coming sent disk links disks rules ids given turns id))

@@ -11,5 +11,5 @@ pub record KeepsPromise (ids : List ℕ) (rows : List Row) : Type 0 where
   -- what a device has is a pair of that list: an allocatee of the rows, or any other that takes a node ID by the
   -- standard's rule alone. So two with different unique IDs never have one node ID, and one unique ID never has two
   pub allocatees : HasAllocatees ids rows
-  -- the run of the message machine that the rows show is safe, with every leader that wins in a row and stops in it
+  -- the run of the Raft model that the rows show is safe, with every leader that wins in a row and stops in it
   pub safe : AreSafe ids rows

@@ -4,7 +4,7 @@ use Rattle.replay_text.specs.declared.row.Row.{Row}
 use Rattle.replay_text.specs.Lines.{BeginsWith, BeginsWithNoRow, ReadsRows}
 use Rattle.cluster_spec.specs.Cluster.{Cluster, after_rows}
 use Rattle.cluster_spec.specs.Lawful.{Lawful, cause, number_of}
-use Rattle.cluster_spec.specs.Promise.{KeepsItsWord}
+use Rattle.cluster_spec.specs.OwnLogs.{KeepsItsWord}
 use Rattle.cluster_spec.specs.Report.{end_lines, row_lines}
 use Rattle.cluster_spec.specs.declared.unlawful.Unlawful.{Unlawful}
 use Rattle.cmd_base.specs.declared.status.Status.{Status}

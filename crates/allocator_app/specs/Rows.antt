@@ -5,7 +5,7 @@ use Rattle.outside.specs.Faults.{Rose}
 use Rattle.replay_text.specs.Lines.{after_line}
 use Rattle.cluster_spec.specs.Cluster.{Cluster, cluster}
 use Rattle.cluster_spec.specs.Lawful.{number_of}
-use Rattle.cluster_spec.specs.Promise.{KeepsItsWord}
+use Rattle.cluster_spec.specs.OwnLogs.{KeepsItsWord}
 use Rattle.cluster_spec.specs.Report.{all_logs, end_line}
 use Rattle.allocator_app.specs.InPart.{IsReadInPart, IsWrittenInPart, ReadsAhead}
 use Rattle.cmd_base.specs.NoFurther.{ReadsNoFurther}

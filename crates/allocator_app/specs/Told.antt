@@ -1,6 +1,7 @@
 -- What the members of a cluster are told of it, as a word spells it.
 use Rattle.std.specs.Prelude.{◌≡◌, ◌≤◌, ◌==◌, ℕ, Bool, List, [], ◌∷◌, decimal, length, map, slice_index, EachIndex, if◌then◌else◌}
 use Rattle.std.specs.List.{Contains, slice_split}
+use Rattle.can_frame.specs.Sizes.{most_members}
 use Rattle.alloc_spec.specs.Rules.{Rules, rules_by}
 use Rattle.cluster_spec.specs.Cluster.{AreMembers}
 use Rattle.allocator_app.specs.declared.told.Told.{Told}
@@ -27,7 +28,7 @@ rest_of (Members members) ran_before = if ran_before then 5500 else 0
 
 -- 1 to 5 members, which have different node IDs where these are told
 abbrev pub IsCluster : Told → Type 0
-IsCluster (Size size) = (1 ≤ size) × (size ≤ 5)
+IsCluster (Size size) = (1 ≤ size) × (size ≤ most_members)
 IsCluster (Members members) = AreMembers members.items
 
 -- these nodes can be among the members

@@ -1,5 +1,8 @@
 -- The words of the program.
 use Rattle.std.specs.Prelude.{◌≡◌, ◌≤◌, ◌<◌, ◌⊎◌, ◌^◌, ℕ, Bool, true, false, IsTrue, List, [], ◌∷◌, ◌++◌, codes, decimal, length, map, EachIndex, slice_index_or, Option, None, IsNone, IsSome}
+use Rattle.can_frame.specs.Sizes.{longest_payload, most_members}
+use Rattle.can_logs.specs.declared.form.Form.{Form}
+use Rattle.can_logs.specs.Forms.{form_word}
 use Rattle.dsdl_text.specs.Words.{is_name}
 use Rattle.replay_text.specs.Words.{IsHex}
 use Rattle.cluster_spec.specs.Cluster.{AreMembers}
@@ -37,7 +40,7 @@ kind_words true = codes "configured" ∷ []
 pub record IsSize (told : Bool) (size : ℕ) (words : List (List ℕ)) : Type 0 where
   pub spelled : words ≡ kind_words told ++ decimal size ∷ []
   pub least : 1 ≤ size
-  pub most : size ≤ 5
+  pub most : size ≤ most_members
 
 -- the words `soak <seed> <rounds> <size>` or `soak <seed> <rounds> configured <size>`: what is drawn, how often, and of
 -- which cluster
@@ -58,27 +61,22 @@ pub record IsAudit (ids : List ℕ) (words : List (List ℕ)) : Type 0 where
   pub spelled : words ≡ codes "audit" ∷ map decimal ids
   pub members : AreMembers ids
 
--- the word of a log's form
-abbrev pub form_word : Bool → List ℕ
-form_word true = codes "candump"
-form_word false = codes "slcan"
-
 -- no node IDs, or 1 to 5 different ones
 abbrev pub AreFew : List ℕ → Type 0
 AreFew ids = (ids ≡ []) ⊎ AreMembers ids
 
 -- the words `watch <format> <lines> <id>..`: the form of the log, how many lines it may have, and to which nodes
 -- transfers are listed too
-pub record IsWatch (candump : Bool) (lines : ℕ) (ids : List ℕ) (words : List (List ℕ)) : Type 0 where
-  pub spelled : words ≡ codes "watch" ∷ form_word candump ∷ decimal lines ∷ map decimal ids
+pub record IsWatch (form : Form) (lines : ℕ) (ids : List ℕ) (words : List (List ℕ)) : Type 0 where
+  pub spelled : words ≡ codes "watch" ∷ form_word form ∷ decimal lines ∷ map decimal ids
   pub lines_least : 1 ≤ lines
   pub lines_most : lines ≤ 1000000
   pub nodes : AreFew ids
 
 -- the words `convert <format> <format> <lines>`: the form of the log, that which it is brought into, and how many lines
 -- it may have
-pub record IsConvert (from_candump to_candump : Bool) (lines : ℕ) (words : List (List ℕ)) : Type 0 where
-  pub spelled : words ≡ codes "convert" ∷ form_word from_candump ∷ form_word to_candump ∷ decimal lines ∷ []
+pub record IsConvert (from to : Form) (lines : ℕ) (words : List (List ℕ)) : Type 0 where
+  pub spelled : words ≡ codes "convert" ∷ form_word from ∷ form_word to ∷ decimal lines ∷ []
   pub lines_least : 1 ≤ lines
   pub lines_most : lines ≤ 1000000
 
@@ -95,7 +93,7 @@ pub record IsDecode (name : List ℕ) (part : ℕ) (payload : List ℕ) (words :
   pub part_least : 1 ≤ part
   pub part_most : part ≤ 2
   pub digits : SpellsPayload payload hex
-  pub short : length payload ≤ 376
+  pub short : length payload ≤ longest_payload
 
 -- the plan is what the words ask for
 abbrev pub IsPlan : Plan → List (List ℕ) → Type 0
@@ -104,22 +102,22 @@ IsPlan (Node told base turns ids) words = IsNode told base turns ids.items words
 IsPlan (Soak told seed rounds size) words = IsSoak told seed rounds size words
 IsPlan (New ids) words = IsNew ids.items words
 IsPlan (Audit ids) words = IsAudit ids.items words
-IsPlan (Watch candump lines ids) words = IsWatch candump lines ids.items words
-IsPlan (Convert from_candump to_candump lines) words = IsConvert from_candump to_candump lines words
+IsPlan (Watch form lines ids) words = IsWatch form lines ids.items words
+IsPlan (Convert from to lines) words = IsConvert from to lines words
 IsPlan (Decode name part payload) words = IsDecode name.items part payload.items words
 
 -- a plan that some words ask for
 abbrev pub IsSound : Plan → Type 0
 IsSound (Replay rows ids) = (rows ≤ 1000000) × AreMembers ids.items
 IsSound (Node told base turns ids) =
-    (1 ≤ size_of told) × (size_of told ≤ 5) × (turns ≤ 1000000000) × AreMembers ids.items
-IsSound (Soak told seed rounds size) = (rounds ≤ 20000) × (1 ≤ size) × (size ≤ 5)
+    (1 ≤ size_of told) × (size_of told ≤ most_members) × (turns ≤ 1000000000) × AreMembers ids.items
+IsSound (Soak told seed rounds size) = (rounds ≤ 20000) × (1 ≤ size) × (size ≤ most_members)
 IsSound (New ids) = AreMembers ids.items
 IsSound (Audit ids) = AreMembers ids.items
-IsSound (Watch candump lines ids) = (1 ≤ lines) × (lines ≤ 1000000) × AreFew ids.items
-IsSound (Convert from_candump to_candump lines) = (1 ≤ lines) × (lines ≤ 1000000)
+IsSound (Watch form lines ids) = (1 ≤ lines) × (lines ≤ 1000000) × AreFew ids.items
+IsSound (Convert from to lines) = (1 ≤ lines) × (lines ≤ 1000000)
 IsSound (Decode name part payload) =
-    IsTrue (is_name name.items) × (1 ≤ part) × (part ≤ 2) × (length payload.items ≤ 376)
+    IsTrue (is_name name.items) × (1 ≤ part) × (part ≤ 2) × (length payload.items ≤ longest_payload)
 
 -- no disk is there
 abbrev pub AreAbsent : {D : Type 0} → List (Option D) → Type 0

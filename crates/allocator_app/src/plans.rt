@@ -1,5 +1,7 @@
 use crate::told::Told;
 use arrayvec::ArrayVec;
+use can_frame::sizes::{LONGEST_PAYLOAD, MOST_MEMBERS};
+use can_logs::Form;
 
 /// What the words ask for.
 #[derive(Debug, Drop, PartialEq, Eq)]
@@ -8,7 +10,7 @@ pub enum Plan {
     /// rows, 1 to 1,000,000.
     Replay {
         rows: u64,
-        ids: ArrayVec<u8, 5>,
+        ids: ArrayVec<u8, MOST_MEMBERS>,
     },
 
     /// To run these members of a cluster, which are told so much of it, for so many turns, at most
@@ -19,7 +21,7 @@ pub enum Plan {
         told: Told,
         base: u16,
         turns: u64,
-        ids: ArrayVec<u8, 5>,
+        ids: ArrayVec<u8, MOST_MEMBERS>,
     },
 
     /// To run a cluster of the members 1 to `size`, 1 to 5, for so many rounds, at most 20,000, under
@@ -34,28 +36,26 @@ pub enum Plan {
 
     /// To make new stores for these nodes, 1 to 5 of 1 to 125 each.
     New {
-        ids: ArrayVec<u8, 5>,
+        ids: ArrayVec<u8, MOST_MEMBERS>,
     },
 
     /// To compare the stores of these nodes, 1 to 5 of 1 to 125 each.
     Audit {
-        ids: ArrayVec<u8, 5>,
+        ids: ArrayVec<u8, MOST_MEMBERS>,
     },
 
     /// To list the transfers of a log of at most so many lines, 1 to 1,000,000: those that everyone receives,
-    /// and those to these nodes, up to 5 of 1 to 125. The log has the form of candump, or else that of an
-    /// adapter that speaks SLCAN.
+    /// and those to these nodes, up to 5 of 1 to 125.
     Watch {
-        candump: bool,
+        form: Form,
         lines: u64,
-        ids: ArrayVec<u8, 5>,
+        ids: ArrayVec<u8, MOST_MEMBERS>,
     },
 
-    /// To write a log of at most so many lines, 1 to 1,000,000, in the form of candump or else in that of
-    /// SLCAN; which of them it has is told in the same way.
+    /// To write a log of at most so many lines, 1 to 1,000,000, in another form or the same.
     Convert {
-        from_candump: bool,
-        to_candump: bool,
+        from: Form,
+        to: Form,
         lines: u64,
     },
 
@@ -64,6 +64,6 @@ pub enum Plan {
     Decode {
         name: ArrayVec<u8, 40>,
         part: u8,
-        payload: ArrayVec<u8, 376>,
+        payload: ArrayVec<u8, LONGEST_PAYLOAD>,
     },
 }

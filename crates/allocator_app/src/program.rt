@@ -1,4 +1,5 @@
 ghost use Rattle.std.specs.Prelude.{◌≡◌, ◌≤◌, ◌↔◌, ◌⊎◌, ℕ, Bool, List, [], Some, length, map, string_bytes, IsTrue};
+ghost use Rattle.can_logs.specs.declared.form.Form.{Form};
 ghost use Rattle.cmd_decode.specs.Ends.{Decodes};
 ghost use Rattle.cmd_bus_logs.specs.Converted.{Converts};
 ghost use Rattle.cmd_bus_logs.specs.Watched.{Watches};
@@ -171,14 +172,14 @@ pub fn run<S: Source, K: Sink, L: Link, D: Disk, C: Clock>(
         (result ≡ Status.Usage) ⊎ Audits D.Disk ids disks.old disks.new
         (K.written sink.old) (K.written sink.new) result }
     // A log: what is listed of it, and what it is brought into.
-    ensures watch { (candump : Bool) (lines : ℕ) (ids : List ℕ) →
-        IsWatch candump lines ids (map string_bytes words.now) →
-        (result ≡ Status.Usage) ⊎ Watches candump lines ids (S.left source.old) (S.left source.new)
+    ensures watch { (form : Form) (lines : ℕ) (ids : List ℕ) →
+        IsWatch form lines ids (map string_bytes words.now) →
+        (result ≡ Status.Usage) ⊎ Watches form lines ids (S.left source.old) (S.left source.new)
         (S.faults source.old) (S.faults source.new) (K.faults sink.old) (K.faults sink.new)
         (K.written sink.old) (K.written sink.new) result }
-    ensures convert { (from_candump to_candump : Bool) (lines : ℕ) →
-        IsConvert from_candump to_candump lines (map string_bytes words.now) →
-        (result ≡ Status.Usage) ⊎ Converts from_candump to_candump lines
+    ensures convert { (from to : Form) (lines : ℕ) →
+        IsConvert from to lines (map string_bytes words.now) →
+        (result ≡ Status.Usage) ⊎ Converts from to lines
         (S.left source.old) (S.left source.new) (S.faults source.old) (S.faults source.new)
         (K.faults sink.old) (K.faults sink.new) (K.written sink.old) (K.written sink.new) result }
     // A text: what it makes of a payload.
@@ -309,16 +310,8 @@ fn follow<S: Source, K: Sink, L: Link, D: Disk, C: Clock>(
         } => soak(alloc, told, seed, rounds, size, sink),
         Plan::New { ids } => make_stores(&ids, disks, sink),
         Plan::Audit { ids } => audit_stores(&ids, disks, sink),
-        Plan::Watch {
-            candump,
-            lines,
-            ids,
-        } => watch(candump, lines, &ids, source, sink),
-        Plan::Convert {
-            from_candump,
-            to_candump,
-            lines,
-        } => convert(from_candump, to_candump, lines, source, sink),
+        Plan::Watch { form, lines, ids } => watch(form, lines, &ids, source, sink),
+        Plan::Convert { from, to, lines } => convert(from, to, lines, source, sink),
         Plan::Decode {
             name,
             part,

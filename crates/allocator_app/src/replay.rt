@@ -1,11 +1,12 @@
 ghost use Rattle.std.specs.Prelude.{◌≡◌, ◌≤◌, ◌<◌, ◌+◌, ◌⊎◌, ℕ, List, [], Some, IfOk, IfErr, OnErr, OnOk};
-ghost use Rattle.outside.specs.Faults.{HasCause, Rose};
+ghost use Rattle.outside.specs.Faults.{Rose};
 ghost use Rattle.bus_world.specs.World.{AcceptsAs, StandsFor, accepts, allocatees_accept, rows_taken};
 ghost use Rattle.allocatee.specs.Accepted as device;
 ghost use Rattle.alloc_spec.specs.Accepted as accepted;
 ghost use Rattle.transfer_rx.specs.Acceptance.{AnswersByRows, first_signature};
 ghost use Rattle.transfer_rx.specs.Memory.{ReceiverFitsInMemory};
 ghost use Rattle.cluster_spec.specs.Cluster.{AreMembers, Cluster, cluster};
+ghost use Rattle.cmd_base.specs.Counting.{CountsFaults};
 ghost use Rattle.cmd_base.specs.Output.{Grows};
 ghost use Rattle.allocator_app.specs.Reaching.{HasRoom, Reaches};
 ghost use Rattle.allocator_app.specs.Report.{IsOfSchedule};
@@ -187,8 +188,7 @@ fn take_rows<
     ensures grows { rows_taken world.old ≤ rows_taken world.new }
     ensures room { HasRoom limit world.new }
     ensures accepts { AcceptsAs world.new world.old }
-    ensures cause { HasCause (K.faults sink.old) (K.faults sink.new) result }
-    ensures kept { OnOk result (K.faults sink.new ≡ K.faults sink.old) }
+    ensures faults { CountsFaults (K.faults sink.old) (K.faults sink.new) result }
 {
     logs_give_once::<F, G>();
     let mut line = Line::new();

@@ -1,10 +1,10 @@
-ghost use Rattle.std.specs.Prelude.{◌≡◌, ◌≤◌, ◌<◌, ◌+◌, ◌++◌, ℕ, List, length, take, IfOk, OnOk, codes, decimal};
+ghost use Rattle.std.specs.Prelude.{◌≡◌, ◌≤◌, ◌<◌, ◌+◌, ◌++◌, ℕ, List, length, take, IfOk, codes, decimal};
 ghost use Rattle.can_frame.specs.declared.entry.Entry.{Entry};
-ghost use Rattle.outside.specs.Faults.{HasCause};
 ghost use Rattle.bus_world.specs.World.{StandsFor, rows_taken};
 ghost use Rattle.cluster_spec.specs.Cluster.{Cluster};
 ghost use Rattle.cluster_spec.specs.Report.{all_logs, entry_line, entry_lines, member_lines};
 ghost use Rattle.allocator_app.specs.Logs.{HasLog, log_head};
+ghost use Rattle.cmd_base.specs.Counting.{CountsFaults};
 ghost use Rattle.cmd_base.specs.Output.{Grows, Writes, WritesLast};
 ghost use Rattle.allocator_app.specs.Rows.{last_line_of, last_of, logs_before, status_of};
 
@@ -29,8 +29,7 @@ pub(crate) fn end_report<
     ensures told { (w : Cluster) → StandsFor world.now w →
         WritesLast (K.written sink.old) output.old (K.written sink.new) (last_of rows w) result }
     ensures status { IfOk result (λ status. status ≡ status_of rows (rows_taken world.now)) }
-    ensures cause { HasCause (K.faults sink.old) (K.faults sink.new) result }
-    ensures kept { OnOk result (K.faults sink.new ≡ K.faults sink.old) }
+    ensures faults { CountsFaults (K.faults sink.old) (K.faults sink.new) result }
 {
     write_logs_before(rows, world, output, sink)?;
     let taken = taken(world);
@@ -48,8 +47,7 @@ fn write_logs_before<
     ensures told { (w : Cluster) → StandsFor world.now w → Writes (K.written sink.old) output.old
         (K.written sink.new) output.new (logs_before rows w) result }
     ensures grew { Grows (K.written sink.old) (K.written sink.new) }
-    ensures cause { HasCause (K.faults sink.old) (K.faults sink.new) result }
-    ensures kept { OnOk result (K.faults sink.new ≡ K.faults sink.old) }
+    ensures faults { CountsFaults (K.faults sink.old) (K.faults sink.new) result }
 {
     match rows {
         Rows::Taken => write_logs(world, output, sink),
@@ -93,8 +91,7 @@ fn write_logs<
     ensures told { (w : Cluster) → StandsFor world.now w → Writes (K.written sink.old) output.old
         (K.written sink.new) output.new (all_logs w) result }
     ensures grew { Grows (K.written sink.old) (K.written sink.new) }
-    ensures cause { HasCause (K.faults sink.old) (K.faults sink.new) result }
-    ensures kept { OnOk result (K.faults sink.new ≡ K.faults sink.old) }
+    ensures faults { CountsFaults (K.faults sink.old) (K.faults sink.new) result }
 {
     let mut id = 1;
     'ids: while id <= LAST_ID {
@@ -113,8 +110,7 @@ fn write_log<
     ensures told { (w : Cluster) → StandsFor world.now w → Writes (K.written sink.old) output.old
         (K.written sink.new) output.new (member_lines w id) result }
     ensures grew { Grows (K.written sink.old) (K.written sink.new) }
-    ensures cause { HasCause (K.faults sink.old) (K.faults sink.new) result }
-    ensures kept { OnOk result (K.faults sink.new ≡ K.faults sink.old) }
+    ensures faults { CountsFaults (K.faults sink.old) (K.faults sink.new) result }
 {
     let Some(view) = world.view(id) else {
         return Ok(());
@@ -146,8 +142,7 @@ fn write_entries<
         Writes (K.written sink.old) output.old (K.written sink.new) output.new
         (entry_lines 1 (take commit log)) result }
     ensures grew { Grows (K.written sink.old) (K.written sink.new) }
-    ensures cause { HasCause (K.faults sink.old) (K.faults sink.new) result }
-    ensures kept { OnOk result (K.faults sink.new ≡ K.faults sink.old) }
+    ensures faults { CountsFaults (K.faults sink.old) (K.faults sink.new) result }
 {
     let mut written = 0;
     'entries: while written < commit {

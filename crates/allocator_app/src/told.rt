@@ -1,11 +1,13 @@
 ghost use Rattle.std.specs.Prelude.{◌≡◌, ◌≤◌, ◌<◌, ◌↔◌, ◌∷◌, [], ℕ, List, decimal, length, map, slice_index, EachIndex, IfSome, IsNone, IsTrue, ◌==◌};
 ghost use Rattle.std.specs.List.{Contains, position_or_len};
+ghost use Rattle.can_frame.specs.Sizes.{most_members};
 ghost use Rattle.raft_model.specs.Lists.{In};
 ghost use Rattle.allocator_app.specs.declared.told.Told.{Told};
 ghost use Rattle.allocator_app.specs.Told.{AreAmong, IsCluster, Spells, commas, list_of, list_parts, rest_of, size_of};
 
 use crate::words::number_within;
 use arrayvec::ArrayVec;
+use can_frame::sizes::MOST_MEMBERS;
 use cluster_spec::are_members;
 use replay_text::read_number;
 
@@ -23,13 +25,13 @@ pub enum Told {
     Size(u8),
 
     /// The node IDs of its members, 1 to 5 different ones of 1 to 125.
-    Members(ArrayVec<u8, 5>),
+    Members(ArrayVec<u8, MOST_MEMBERS>),
 }
 
 impl Told {
     /// How many members the cluster has.
     pub fn size(&self) -> u8
-        requires { size_of self.now ≤ 5 }
+        requires { size_of self.now ≤ most_members }
         ensures { result ≡ size_of self.now }
     {
         match self {
@@ -88,7 +90,7 @@ pub(crate) fn read_told(word: &[u8]) -> Option<Told>
     ensures some { IfSome result (λ told. Spells told word.now × IsCluster told) }
     ensures none { IsNone result → (told : Told) → IsCluster told → Spells told word.now → ⊥ }
 {
-    if let Some(size) = number_within(word, 1, 5) {
+    if let Some(size) = number_within(word, 1, MOST_MEMBERS as u64) {
         return Some(Told::Size(size as u8));
     }
     let members = read_list(word)?;
@@ -99,10 +101,10 @@ pub(crate) fn read_told(word: &[u8]) -> Option<Told>
 }
 
 /// The numbers, each up to 255, that the word of a list has.
-fn read_list(word: &[u8]) -> Option<ArrayVec<u8, 5>>
+fn read_list(word: &[u8]) -> Option<ArrayVec<u8, MOST_MEMBERS>>
     ensures some { IfSome result (λ ids. commas word.now ≡ list_parts ids.items) }
     ensures bytes { IfSome result (λ ids. EachIndex ids.items (λ i. slice_index ids.items i < 256)) }
-    ensures none { IsNone result → (ids : List ℕ) → length ids ≤ 5 →
+    ensures none { IsNone result → (ids : List ℕ) → length ids ≤ most_members →
         ((n : ℕ) → In n ids → n ≤ 255) → commas word.now ≡ list_parts ids → ⊥ }
 {
     if let Some(one) = before_last_comma(word) {
@@ -133,10 +135,10 @@ fn before_last_comma(word: &[u8]) -> Option<&[u8]>
 }
 
 /// The numbers, each up to 255, of at most five parts of a word.
-fn read_parts(word: &[u8]) -> Option<ArrayVec<u8, 5>>
+fn read_parts(word: &[u8]) -> Option<ArrayVec<u8, MOST_MEMBERS>>
     ensures some { IfSome result (λ ids. commas word.now ≡ map decimal ids.items) }
     ensures bytes { IfSome result (λ ids. EachIndex ids.items (λ i. slice_index ids.items i < 256)) }
-    ensures none { IsNone result → (ids : List ℕ) → length ids ≤ 5 →
+    ensures none { IsNone result → (ids : List ℕ) → length ids ≤ most_members →
         ((n : ℕ) → In n ids → n ≤ 255) → commas word.now ≡ map decimal ids → ⊥ }
 {
     let mut ids = ArrayVec::new();

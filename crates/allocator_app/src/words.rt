@@ -1,13 +1,17 @@
 ghost use Rattle.std.specs.Prelude.{◌≡◌, ◌≤◌, ◌<◌, ◌⊎◌, [], ℕ, Bool, List, map, string_bytes, decimal, length, slice_index, EachIndex, IfSome, IsNone, IsTrue};
+ghost use Rattle.can_frame.specs.Sizes.{longest_payload, most_members};
+ghost use Rattle.can_logs.specs.declared.form.Form.{Form as FormValue};
 ghost use Rattle.dsdl_text.specs.Words as text_words;
 ghost use Rattle.raft_model.specs.Lists.{In};
 ghost use Rattle.cluster_spec.specs.Cluster.{AreMembers};
 ghost use Rattle.allocator_app.specs.declared.told.Told.{Told};
-ghost use Rattle.allocator_app.specs.Words.{AreFew, IsAudit, IsConvert, IsDecode, IsNew, IsNode, IsPlan, IsReplay, IsSize, IsSoak, IsWatch, SpellsPayload, form_word};
+ghost use Rattle.allocator_app.specs.Words.{AreFew, IsAudit, IsConvert, IsDecode, IsNew, IsNode, IsPlan, IsReplay, IsSize, IsSoak, IsWatch, SpellsPayload};
 
 use crate::plans::Plan;
 use crate::told::read_told;
 use arrayvec::ArrayVec;
+use can_frame::sizes::{LONGEST_PAYLOAD, MOST_MEMBERS};
+use can_logs::Form;
 use cluster_spec::are_members;
 use dsdl_text::is_name;
 use replay_text::{read_bytes, read_number};
@@ -115,7 +119,7 @@ fn read_cluster(words: &[String]) -> Option<(bool, u8)>
         IsSize told size (map string_bytes words.now) → ⊥ }
 {
     if let [size] = words {
-        let size = number_within(size.as_bytes(), 1, 5)? as u8;
+        let size = number_within(size.as_bytes(), 1, MOST_MEMBERS as u64)? as u8;
         return Some((false, size));
     }
     let [kind, size] = words else {
@@ -124,7 +128,7 @@ fn read_cluster(words: &[String]) -> Option<(bool, u8)>
     if kind.as_str() != "configured" {
         return None;
     }
-    let size = number_within(size.as_bytes(), 1, 5)? as u8;
+    let size = number_within(size.as_bytes(), 1, MOST_MEMBERS as u64)? as u8;
     Some((true, size))
 }
 
@@ -160,8 +164,8 @@ fn audit_plan(words: &[String]) -> Option<Plan>
 
 fn watch_plan(words: &[String]) -> Option<Plan>
     ensures some { IfSome result (λ plan. IsPlan plan (map string_bytes words.now)) }
-    ensures none { IsNone result → (candump : Bool) (lines : ℕ) (ids : List ℕ) →
-        IsWatch candump lines ids (map string_bytes words.now) → ⊥ }
+    ensures none { IsNone result → (form : FormValue) (lines : ℕ) (ids : List ℕ) →
+        IsWatch form lines ids (map string_bytes words.now) → ⊥ }
 {
     let [mode, format, lines, ids @ ..] = words else {
         return None;
@@ -169,20 +173,16 @@ fn watch_plan(words: &[String]) -> Option<Plan>
     if mode.as_str() != "watch" {
         return None;
     }
-    let candump = read_form(format.as_str())?;
+    let form = Form::of_word(format.as_str())?;
     let lines = number_within(lines.as_bytes(), 1, 1_000_000)?;
     let ids = read_few(ids)?;
-    Some(Plan::Watch {
-        candump,
-        lines,
-        ids,
-    })
+    Some(Plan::Watch { form, lines, ids })
 }
 
 fn convert_plan(words: &[String]) -> Option<Plan>
     ensures some { IfSome result (λ plan. IsPlan plan (map string_bytes words.now)) }
-    ensures none { IsNone result → (from_candump to_candump : Bool) (lines : ℕ) →
-        IsConvert from_candump to_candump lines (map string_bytes words.now) → ⊥ }
+    ensures none { IsNone result → (from to : FormValue) (lines : ℕ) →
+        IsConvert from to lines (map string_bytes words.now) → ⊥ }
 {
     let [mode, from, to, lines] = words else {
         return None;
@@ -190,14 +190,10 @@ fn convert_plan(words: &[String]) -> Option<Plan>
     if mode.as_str() != "convert" {
         return None;
     }
-    let from_candump = read_form(from.as_str())?;
-    let to_candump = read_form(to.as_str())?;
+    let from = Form::of_word(from.as_str())?;
+    let to = Form::of_word(to.as_str())?;
     let lines = number_within(lines.as_bytes(), 1, 1_000_000)?;
-    Some(Plan::Convert {
-        from_candump,
-        to_candump,
-        lines,
-    })
+    Some(Plan::Convert { from, to, lines })
 }
 
 fn decode_plan(words: &[String]) -> Option<Plan>
@@ -221,20 +217,6 @@ fn decode_plan(words: &[String]) -> Option<Plan>
     })
 }
 
-/// Whether a word is that of candump's form; `None` where it is that of no form.
-fn read_form(word: &str) -> Option<bool>
-    ensures some { IfSome result (λ candump. word.now ≡ form_word candump) }
-    ensures none { IsNone result → (candump : Bool) → word.now ≡ form_word candump → ⊥ }
-{
-    if word == "candump" {
-        return Some(true);
-    }
-    if word == "slcan" {
-        return Some(false);
-    }
-    None
-}
-
 /// The name of a type.
 fn read_name(word: &[u8]) -> Option<ArrayVec<u8, 40>>
     ensures some { IfSome result (λ name. (name.items ≡ word.now) × IsTrue (text_words.is_name word.now)) }
@@ -249,16 +231,16 @@ fn read_name(word: &[u8]) -> Option<ArrayVec<u8, 40>>
 }
 
 /// The bytes of a payload that a word spells.
-fn read_payload(word: &[u8]) -> Option<ArrayVec<u8, 376>>
-    ensures some { IfSome result (λ payload. (length payload.items ≤ 376) ×
+fn read_payload(word: &[u8]) -> Option<ArrayVec<u8, LONGEST_PAYLOAD>>
+    ensures some { IfSome result (λ payload. (length payload.items ≤ longest_payload) ×
         SpellsPayload payload.items word.now) }
-    ensures none { IsNone result → (payload : List ℕ) → length payload ≤ 376 →
+    ensures none { IsNone result → (payload : List ℕ) → length payload ≤ longest_payload →
         SpellsPayload payload word.now → ⊥ }
 {
     if word == b"-".as_slice() {
         return Some(ArrayVec::new());
     }
-    let payload = read_bytes::<376>(word)?;
+    let payload = read_bytes::<LONGEST_PAYLOAD>(word)?;
     if payload.is_empty() {
         return None;
     }
@@ -266,7 +248,7 @@ fn read_payload(word: &[u8]) -> Option<ArrayVec<u8, 376>>
 }
 
 /// None, or the members of a cluster that the words spell.
-fn read_few(words: &[String]) -> Option<ArrayVec<u8, 5>>
+fn read_few(words: &[String]) -> Option<ArrayVec<u8, MOST_MEMBERS>>
     ensures some { IfSome result (λ ids. map string_bytes words.now ≡ map decimal ids.items) }
     ensures few { IfSome result (λ ids. AreFew ids.items) }
     ensures none { IsNone result → (ids : List ℕ) → AreFew ids →
@@ -279,7 +261,7 @@ fn read_few(words: &[String]) -> Option<ArrayVec<u8, 5>>
 }
 
 /// The members of a cluster that the words spell.
-fn read_members(words: &[String]) -> Option<ArrayVec<u8, 5>>
+fn read_members(words: &[String]) -> Option<ArrayVec<u8, MOST_MEMBERS>>
     ensures some { IfSome result (λ ids. map string_bytes words.now ≡ map decimal ids.items) }
     ensures members { IfSome result (λ ids. AreMembers ids.items) }
     ensures none { IsNone result → (ids : List ℕ) → AreMembers ids →
@@ -295,10 +277,10 @@ fn read_members(words: &[String]) -> Option<ArrayVec<u8, 5>>
 }
 
 /// The numbers of at most five words, each up to 255.
-fn read_ids(words: &[String]) -> Option<ArrayVec<u8, 5>>
+fn read_ids(words: &[String]) -> Option<ArrayVec<u8, MOST_MEMBERS>>
     ensures some { IfSome result (λ ids. map string_bytes words.now ≡ map decimal ids.items) }
     ensures bytes { IfSome result (λ ids. EachIndex ids.items (λ i. slice_index ids.items i < 256)) }
-    ensures none { IsNone result → (ids : List ℕ) → length ids ≤ 5 →
+    ensures none { IsNone result → (ids : List ℕ) → length ids ≤ most_members →
         ((n : ℕ) → In n ids → n ≤ 255) →
         map string_bytes words.now ≡ map decimal ids → ⊥ }
 {

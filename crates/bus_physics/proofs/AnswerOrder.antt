@@ -11,13 +11,14 @@ use Rattle.can_frame.specs.declared.step.What.TheVariants.{Alloc, App, Vote}
 use Rattle.can_frame.specs.declared.tail.Tail.{Tail}
 use Rattle.can_frame.specs.Cutting.{Piece, frames_before_last, frames_of as pieces_of}
 use Rattle.can_frame.specs.Identifier.{identifier_number}
+use Rattle.can_frame.specs.Kinds.{is_anonymous}
 use Rattle.raft_log.specs.KeyDisk.{are_put}
 use Rattle.raft_model.specs.Lists.{In}
 use Rattle.raft_model.specs.Runs as machine
 use Rattle.replay_text.specs.declared.row.Row.{Row}
 use Rattle.replay_text.specs.declared.row.Row.TheVariants.{AEnd, AOpen, ARx, ASend, ATick, Crash, Ext, Fault, Open, Rx, Send, Tick}
 use Rattle.transfer_rx.specs.declared.key.Key.{Key}
-use Rattle.transfer_rx.specs.Keys.{is_anonymous, key_of}
+use Rattle.transfer_rx.specs.Keys.{key_of}
 use Rattle.transfer_rx.specs.Reassembly.{Arrival, Gives, answer, piece_in}
 use Rattle.transfer_rx.specs.Run.{is_of}
 use Rattle.transfer_rx.specs.Sound.{Completes, IsAlone, IsDelivered}
@@ -40,7 +41,6 @@ use Rattle.cluster_spec.specs.Refinement.{transfers_of_offers, transfers_of_row,
 use Rattle.cluster_agreement.specs.LawsBelow.{FrameLaws}
 use Rattle.cluster_agreement.specs.Said.{carrier}
 use Rattle.cluster_agreement.specs.Shows.{Shows, ShowsMember, ShowsUp}
-use Rattle.cluster_agreement.proofs.Concatenations.{rows_joined}
 use Rattle.cluster_agreement.proofs.Deliveries.{listed_in}
 use Rattle.cluster_agreement.proofs.Idents.{IsWanted, one_what, to_for, wanted_is}
 use Rattle.cluster_agreement.proofs.Lists.{in_back, in_front, never}
@@ -50,9 +50,10 @@ use Rattle.cluster_agreement.proofs.OneRowMore.{lawful as one_more}
 use Rattle.cluster_agreement.proofs.Pieces.{no_piece, piece_read, theirs}
 use Rattle.cluster_agreement.proofs.RowsWithoutEvents.{is_one, past_first}
 use Rattle.cluster_agreement.proofs.WholeTransfers.{IsFrom, from_bus, members_own}
-use Rattle.bus_physics.specs.Physics.{Come, ComesAt, ComesInTurn, HasKeyAt, OfIt, heard_by, heard_in}
+use Rattle.bus_physics.specs.Physics.{Come, ComesAt, ComesInTurn, HasKeyAt, WhereIts, heard_by, heard_in}
 use Rattle.bus_physics.proofs.OncePerStep.{AreOnce}
 use Rattle.bus_physics.proofs.Short.{tail_is}
+use Rattle.bus_physics.proofs.LawfulRows.{rows_joined}
 
 -- the answer of a service
 abbrev pub answerer : Bool → What
@@ -270,7 +271,7 @@ module _ (append : Bool) (p n : ℕ) where
       other : (m : ℕ) → (p == m) ≡ false → m ≡ p → ⊥
       other m e same = elim (eqb_tells p m) [ inl s ↦ absurd (cc (sym e ∙ s.0)) | inr apart ↦ apart.1 (sym same) ]
 
-      rx_row : (m k ms : ℕ) → row ≡ Rx m k ms → (same : Bool) → (p == m) ≡ same → OfIt same (ComesInTurn p heard (frame_at w.frames k))
+      rx_row : (m k ms : ℕ) → row ≡ Rx m k ms → (same : Bool) → (p == m) ≡ same → WhereIts same (ComesInTurn p heard (frame_at w.frames k))
           → AreOrdered (transfers_of_step number m (receipt_of w k ms) (w.member m).status (w.member m) made) (heard ++ (if same then frame_at w.frames k ∷ [] else []))
       rx_row m k ms r false e turn_ = no_answer m (receipt_of w k ms) (heard ++ []) (λ f i. in_front f heard [] i)
           (λ t offer i same what. other m e same) (w.member m).status (w.member m)

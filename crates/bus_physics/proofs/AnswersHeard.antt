@@ -10,13 +10,14 @@ use Rattle.can_frame.specs.declared.step.What.{What}
 use Rattle.can_frame.specs.declared.step.What.TheVariants.{Alloc}
 use Rattle.can_frame.specs.Cutting.{frame_count}
 use Rattle.can_frame.specs.Identifier.{identifier_number, identifier_of}
+use Rattle.can_frame.specs.Kinds.{is_service, is_anonymous}
 use Rattle.raft_model.specs.Lists.{In}
 use Rattle.raft_model.specs.Runs as machine
 use Rattle.replay_text.specs.declared.row.Row.{Row}
 use Rattle.replay_text.specs.declared.row.Row.TheVariants.{AEnd, AOpen, ARx, ASend, ATick, Crash, Ext, Fault, Open, Rx, Send, Tick}
 use Rattle.transfer_rx.specs.declared.key.Key.{Key}
-use Rattle.transfer_rx.specs.Acceptance.{accepted, first_signature, is_for, is_service, wanted, with_signature}
-use Rattle.transfer_rx.specs.Keys.{is_anonymous, key_of, same_key}
+use Rattle.transfer_rx.specs.Acceptance.{accepted, first_signature, is_for, wanted, with_signature}
+use Rattle.transfer_rx.specs.Keys.{key_of, same_key}
 use Rattle.transfer_rx.specs.Run.{has_session_key, is_of}
 use Rattle.transfer_rx.proofs.Found.{same_key-equal}
 use Rattle.transfer_tx.specs.Queue.{Queued}
@@ -25,7 +26,8 @@ use Rattle.alloc_spec.specs.Transfers.{SentTransfer, ident_of, kind_of, number_o
 use Rattle.alloc_spec_laws.specs.Saying.{IsSaid}
 use Rattle.cluster_spec.specs.Allocatees.{next_from}
 use Rattle.cluster_spec.specs.Cluster.{AreMembers, Cluster, after_row, after_rows, arrival_at, frame_at, from_outside, in_list, is_member}
-use Rattle.cluster_spec.specs.Lawful.{Lawful, arrival_refusal, cause, is_forged, is_forged_by, is_members_service, no_node, no_such_frame, not_running, or_else}
+use Rattle.cluster_spec.specs.Lawful.{Lawful, arrival_refusal, cause, is_forged, is_forged_by, no_node, no_such_frame, not_running, or_else}
+use Rattle.alloc_spec.specs.Accepted.{is_members_service}
 use Rattle.cluster_spec.specs.Members.{next_frame}
 use Rattle.cluster_agreement.specs.Frames.{IsOnBus}
 use Rattle.cluster_agreement.specs.LawsBelow.{FrameLaws}

@@ -22,7 +22,7 @@ use Rattle.cluster_agreement.proofs.DeliveredTransfers.{IsOfKey}
 use Rattle.cluster_agreement.proofs.Lists.{in_front}
 use Rattle.cluster_agreement.proofs.OneRow.{stands}
 use Rattle.cluster_agreement.proofs.RowsWithoutEvents.{past_first}
-use Rattle.bus_physics.specs.Physics.{ArePhysical, ComesInTime, GoesOn, Limits, OfIt, Reading, RowIsPhysical, Timed, now_of, readings_after, rows_in, time_of}
+use Rattle.bus_physics.specs.Physics.{DeviceRowsArePhysical, ComesInTime, GoesOn, Limits, WhereIts, Reading, RowIsPhysical, Timed, now_of, readings_after, rows_in, time_of}
 use Rattle.bus_physics.proofs.InTime.{Heard, IsInTime, still, stepped}
 
 -- what the crate of allocatees says of a step's sessions, and that of receivers of keys
@@ -110,7 +110,7 @@ module _ (limits : Limits) (all : List Timed) where
 
     module _ (inv : Inv a w.frames past w.allocatee) where
       rx_by : (b k ms word : ℕ) (same : Bool) → (a == b) ≡ same → In (frame_at w.frames k) w.frames
-          → OfIt same (GoesOn limits past came (now_of (w.allocatee b) ms) × ComesInTime limits all came (frame_at w.frames k)) → (x : Device)
+          → WhereIts same (GoesOn limits past came (now_of (w.allocatee b) ms) × ComesInTime limits all came (frame_at w.frames k)) → (x : Device)
           → (if same then device_after_step (w.rows + 1) (receipt_at w k ms word) (w.allocatee b) else w.allocatee a) ≡ Some x
           → AllInTime w.frames (if same then record { at = came; now = now_of (w.allocatee b) ms } ∷ past else past) x.sessions
       rx_by b k ms word false e there phys x is = inv x is
@@ -202,7 +202,7 @@ module _ (limits : Limits) (all : List Timed) where
 
   module _ (laws : SessionLaws) (of_its_key : (key : Key) (b : Arrival) → is_of device.setting key b ≡ true → IsOfKey device.setting key b)
       (sane : limits.drift < 58000) (a : ℕ) (now : Timed) where
-    pub along : (before : List Timed) (w : Cluster) (past : List Reading) → Inv a w.frames past w.allocatee → ArePhysical limits all a past w (before ++ now ∷ [])
+    pub along : (before : List Timed) (w : Cluster) (past : List Reading) → Inv a w.frames past w.allocatee → DeviceRowsArePhysical limits all a past w (before ++ now ∷ [])
         → Lawful w (rows_in before) → StandsBefore a (after_rows w (rows_in before)) now
     along [] w past inv phys lawful = record { past = past; inv = inv; row = phys.0 }
     along (t ∷ ts) w past inv phys lawful =

@@ -18,7 +18,7 @@ use Rattle.alloc_spec.specs.StepState.{StepState}
 use Rattle.cluster_spec.specs.Cluster.{Cluster, after_row, after_rows, arrival_at, frame_at, receipt_of, rules_of, tick_of}
 use Rattle.cluster_spec.specs.Members.{Member, MemberStatus, after_crash, after_cut_off, after_failed_opening, after_opening, after_sending, member_after_step, puts_of, stopped_with, with_stop_armed}
 use Rattle.cluster_spec.specs.Members.MemberStatus.{Down, Failed, Up}
-use Rattle.bus_physics.specs.Physics.{ComeInOrder, ComesInOrder, IsInOrder, OfIt, heard_by, heard_in}
+use Rattle.bus_physics.specs.Physics.{ComeInOrder, ComesInOrder, IsInOrder, WhereIts, heard_by, heard_in}
 use Rattle.bus_physics.proofs.Members.{MemberLaws}
 use Rattle.bus_physics.proofs.Restarts.{NoneLater, restarted}
 
@@ -85,7 +85,7 @@ module _ (n : ℕ) where
       by (Up t) runs u up = subst (Keeps heard) (up_after t (tick_of ms word) (w.member m) u up)
           (ticks t (inv t (ap (λ (k : ℕ). (w.member k).status) (is_same m e) ∙ runs)) ms word)
 
-    rx_by : (m k ms : ℕ) (same : Bool) → (n == m) ≡ same → OfIt same (ComesInOrder n heard (frame_at w.frames k))
+    rx_by : (m k ms : ℕ) (same : Bool) → (n == m) ≡ same → WhereIts same (ComesInOrder n heard (frame_at w.frames k))
         → KeepsIn (heard ++ (if same then frame_at w.frames k ∷ [] else []))
         (if same then member_after_step number (receipt_of w k ms) (w.member m).status (w.member m) else w.member n).status
     rx_by m k ms false e order = nothing_more (w.member n).status inv

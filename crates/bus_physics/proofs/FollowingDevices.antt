@@ -12,7 +12,7 @@ use Rattle.allocatee.specs.Allocatee.{Device, opening, step}
 use Rattle.allocatee.specs.Allocatee.Event.{Tick as Ticks}
 use Rattle.cluster_spec.specs.Allocatees.{after_sending_from, device_after_step}
 use Rattle.cluster_spec.specs.Cluster.{Cluster, after_row, after_rows, arrival_at, frame_at, receipt_at}
-use Rattle.bus_physics.specs.Physics.{ComeInOrderToDevice, ComesInOrderToDevice, IsInOrderToDevice, OfIt, device_heard_by, device_heard_in}
+use Rattle.bus_physics.specs.Physics.{ComeInOrderToDevice, ComesInOrderToDevice, IsInOrderToDevice, WhereIts, device_heard_by, device_heard_in}
 use Rattle.bus_physics.proofs.Devices.{SessionLaws}
 use Rattle.bus_physics.proofs.Restarts.{NoneLater, restarted}
 
@@ -33,7 +33,7 @@ module _ (a : ℕ) where
     no_more : (o : Option Device) → KeptIn heard o → KeptIn (heard ++ []) o
     no_more o keeps = subst (λ (l : List Queued). KeptIn l o) (sym (append-nil heard)) keeps
 
-    rx_by : (b k ms word : ℕ) (same : Bool) → (a == b) ≡ same → OfIt same (ComesInOrderToDevice heard (frame_at w.frames k))
+    rx_by : (b k ms word : ℕ) (same : Bool) → (a == b) ≡ same → WhereIts same (ComesInOrderToDevice heard (frame_at w.frames k))
         → KeptIn (heard ++ (if same then frame_at w.frames k ∷ [] else []))
         (if same then device_after_step (w.rows + 1) (receipt_at w k ms word) (w.allocatee b) else w.allocatee a)
     rx_by b k ms word false e order = no_more (w.allocatee a) inv

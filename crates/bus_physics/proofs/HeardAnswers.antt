@@ -7,6 +7,7 @@ use Rattle.can_frame.specs.declared.identifier.Kind.TheVariants.{Response}
 use Rattle.can_frame.specs.declared.mark.Mark.{Mark}
 use Rattle.can_frame.specs.declared.step.What.{What}
 use Rattle.can_frame.specs.declared.step.Judged.TheVariants.{Fine, Stale, Torn}
+use Rattle.can_frame.specs.Kinds.{is_service, is_anonymous, is_response}
 use Rattle.raft_core.specs.Times.{Sending, Times, awaits}
 use Rattle.raft_model.specs.Lists.{In}
 use Rattle.raft_model.specs.Messages.{Request}
@@ -14,14 +15,13 @@ use Rattle.raft_model.specs.Runs as machine
 use Rattle.raft_model.specs.Server.{Memory}
 use Rattle.replay_text.specs.declared.row.Row.{Row}
 use Rattle.replay_text.specs.declared.row.Row.TheVariants.{Rx}
-use Rattle.transfer_rx.specs.Acceptance.{is_for, is_service}
-use Rattle.transfer_rx.specs.Keys.{is_anonymous}
+use Rattle.transfer_rx.specs.Acceptance.{is_for}
 use Rattle.transfer_rx.specs.Reassembly.{Answer, Arrival, Delivery, Gives, answer}
 use Rattle.transfer_rx.specs.Sound.{IsDelivered}
 use Rattle.transfer_tx.specs.Queue.{Queued}
 use Rattle.alloc_spec.specs.Accepted.{rows, setting_for}
 use Rattle.alloc_spec.specs.AllocatorState.{AllocatorState, members_of}
-use Rattle.alloc_spec.specs.Judging.{answer_judgement, arrival_judgement, is_response, is_stale, misses, service_of, would_take}
+use Rattle.alloc_spec.specs.Judging.{answer_judgement, arrival_judgement, is_stale, misses, service_of, would_take}
 use Rattle.alloc_spec.specs.Step.{begin_phase}
 use Rattle.alloc_spec.specs.Transfers.{SentTransfer, number_of}
 use Rattle.alloc_spec_laws.proofs.Choices.{eq_false, eq_true}

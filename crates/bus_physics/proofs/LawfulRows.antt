@@ -1,9 +1,14 @@
 -- Two lists of rows, one behind the other, that are lawful together.
-use Rattle.std.proofs.Common.{◌≡◌, List, [], ◌∷◌, ◌++◌}
+use Rattle.std.proofs.Common.{◌≡◌, List, [], ◌∷◌, ◌++◌, refl}
 use Rattle.std.specs.Prelude.{None}
 use Rattle.replay_text.specs.declared.row.Row.{Row}
 use Rattle.cluster_spec.specs.Cluster.{Cluster, after_row, after_rows}
 use Rattle.cluster_spec.specs.Lawful.{Lawful, cause}
+
+-- rows, and more rows behind them
+pub rows_joined : (w : Cluster) (rows more : List Row) → after_rows w (rows ++ more) ≡ after_rows (after_rows w rows) more
+rows_joined w [] more = refl
+rows_joined w (row ∷ rows) more = rows_joined (after_row w row) rows more
 
 pub first_lawful : (w : Cluster) (rows more : List Row) → Lawful w (rows ++ more) → Lawful w rows
 first_lawful w [] more all = tt

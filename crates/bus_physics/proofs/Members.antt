@@ -33,7 +33,7 @@ use Rattle.cluster_agreement.proofs.DeliveredTransfers.{IsOfKey}
 use Rattle.cluster_agreement.proofs.Lists.{in_front}
 use Rattle.cluster_agreement.proofs.OneRow.{stands}
 use Rattle.cluster_agreement.proofs.RowsWithoutEvents.{past_first}
-use Rattle.bus_physics.specs.Physics.{ClockGoesOn, ClockGoesOnAt, ComesInTime, FrameComesInTime, FramesComeInTime, GoesOn, Limits, OfIt, Reading, Timed, member_readings, now_in, rows_in, time_of}
+use Rattle.bus_physics.specs.Physics.{ClockGoesOn, ClockGoesOnAt, ComesInTime, FrameComesInTime, FramesComeInTime, GoesOn, Limits, WhereIts, Reading, Timed, member_readings, now_in, rows_in, time_of}
 use Rattle.bus_physics.proofs.Devices.{IsTimely, soon, width}
 use Rattle.bus_physics.proofs.InTime.{Heard, IsInTime, still, stepped}
 
@@ -193,7 +193,7 @@ module _ (limits : Limits) (all : List Timed) where
           (up_after (w.rows + 1) t (tick_of ms word) (w.member m) u f)
           (ticks laws of_its_key sane w.frames past came t (inv t (ap (λ (k : ℕ). (w.member k).status) (is_same m e) ∙ runs)) (w.rows + 1) its_time ms word)
 
-    rx_by : (m k ms : ℕ) (same : Bool) → (n == m) ≡ same → In (frame_at w.frames k) w.frames → OfIt same (GoesOn limits past came (now_in (w.member m).status ms))
+    rx_by : (m k ms : ℕ) (same : Bool) → (n == m) ≡ same → In (frame_at w.frames k) w.frames → WhereIts same (GoesOn limits past came (now_in (w.member m).status ms))
         → ComesInTime limits all came (frame_at w.frames k) → (u : AllocatorState)
         → (if same then member_after_step (w.rows + 1) (receipt_of w k ms) (w.member m).status (w.member m) else w.member n).status ≡ Up u
         → MemberInv w.frames (if same then record { at = came; now = now_in (w.member m).status ms } ∷ past else past) u

@@ -7,11 +7,12 @@ use Rattle.can_frame.specs.declared.step.Why.{Why}
 use Rattle.can_frame.specs.declared.step.Why.TheVariants.{NoSession, Start}
 use Rattle.can_frame.specs.declared.tail.Tail.{Tail}
 use Rattle.can_frame.specs.Cutting.{piece_from}
+use Rattle.can_frame.specs.Kinds.{is_anonymous}
 use Rattle.raft_model.specs.Lists.{In}
 use Rattle.transfer_rx.specs.declared.accept.Wanted.{Wanted}
 use Rattle.transfer_rx.specs.declared.key.Key.{Key}
 use Rattle.transfer_rx.specs.Acceptance.{wanted}
-use Rattle.transfer_rx.specs.Keys.{is_anonymous, key_of, same_key}
+use Rattle.transfer_rx.specs.Keys.{key_of, same_key}
 use Rattle.transfer_rx.specs.Outcome.{Delivers, Grows, Outcome, Spoils, out_of_turn, outcome}
 use Rattle.transfer_rx.specs.Reassembly.{Arrival, Setting, Step, at_session, in_turn, next, piece_in, session_after, session_step}
 use Rattle.transfer_rx.specs.Run.{has_session_key, is_of}

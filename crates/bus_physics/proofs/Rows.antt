@@ -7,11 +7,12 @@ use Rattle.can_frame.specs.declared.identifier.Kind.{Kind}
 use Rattle.can_frame.specs.declared.identifier.Kind.TheVariants.{Message, Anonymous, Request, Response}
 use Rattle.can_frame.specs.declared.mark.Mark.{Mark}
 use Rattle.can_frame.specs.declared.step.Judged.TheVariants.{Stale, Torn}
+use Rattle.can_frame.specs.Kinds.{is_service, is_anonymous}
 use Rattle.raft_model.specs.Lists.{In}
 use Rattle.raft_model.specs.Runs as machine
 use Rattle.replay_text.specs.declared.row.Row.TheVariants.{ARx, Rx}
-use Rattle.transfer_rx.specs.Acceptance.{first_signature, is_for, is_service}
-use Rattle.transfer_rx.specs.Keys.{is_anonymous, key_of}
+use Rattle.transfer_rx.specs.Acceptance.{first_signature, is_for}
+use Rattle.transfer_rx.specs.Keys.{key_of}
 use Rattle.transfer_rx.specs.Reassembly.{Arrival, Delivery, Gives, answer}
 use Rattle.transfer_rx.specs.Sessions.{Session}
 use Rattle.transfer_rx.specs.Sound.{IsDelivered}

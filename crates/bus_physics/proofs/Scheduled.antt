@@ -20,7 +20,7 @@ use Rattle.cluster_spec.specs.Refinement.{transfers_of_rows}
 use Rattle.cluster_agreement.proofs.Concatenations.{ids_stay}
 use Rattle.cluster_agreement.proofs.Lists.{never}
 use Rattle.cluster_agreement.proofs.OneRowMore.{grown, lawful as one_more}
-use Rattle.bus_physics.specs.Physics.{AllComeInTurn, Come, ComeInOrder, ComesAt, ComesInOrder, ComesInTurn, Limits, OfIt, Timed, heard_in, rows_in}
+use Rattle.bus_physics.specs.Physics.{AllComeInTurn, Come, ComeInOrder, ComesAt, ComesInOrder, ComesInTurn, Limits, WhereIts, Timed, heard_in, rows_in}
 use Rattle.bus_physics.specs.Reuse.{LacksFrames}
 use Rattle.bus_physics.specs.Schedule.{DeviceHears, MemberHears, HappenOnBus, HappensOnBus, LawfulButForBus, LosesFrames, is_of_bus}
 use Rattle.bus_physics.proofs.Refusals.{of_torn, refused}
@@ -168,7 +168,7 @@ module _ (limits : Limits) (ids : List ℕ) where
   -- frames that come in turn come in order
   in_order_at : (n : ℕ) (heard : List Queued) (w : Cluster) (row : Row) → ComesAt (ComesInTurn n) n heard w row → ComesAt (ComesInOrder n) n heard w row
   in_order_at n heard w (Rx m k ms) turn = by (n == m) turn where
-    by : (same : Bool) → OfIt same (ComesInTurn n heard (frame_at w.frames k)) → OfIt same (ComesInOrder n heard (frame_at w.frames k))
+    by : (same : Bool) → WhereIts same (ComesInTurn n heard (frame_at w.frames k)) → WhereIts same (ComesInOrder n heard (frame_at w.frames k))
     by true turn = turn.0
     by false turn = tt
   in_order_at n heard w row turn = tt

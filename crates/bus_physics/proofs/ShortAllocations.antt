@@ -25,12 +25,12 @@ use Rattle.cluster_spec.specs.Refinement.{events, transfers_of_offers, transfers
 use Rattle.cluster_agreement.specs.Continues.{Continues}
 use Rattle.cluster_agreement.specs.Said.{IsRunWritable, IsStoreWritable}
 use Rattle.cluster_agreement.specs.Shows.{Shows, ShowsMember, ShowsUp}
-use Rattle.cluster_agreement.proofs.Concatenations.{ids_stay, rows_joined}
+use Rattle.cluster_agreement.proofs.Concatenations.{ids_stay}
 use Rattle.cluster_agreement.proofs.Lists.{tell}
 use Rattle.cluster_agreement.proofs.MadeTransfers.{made_when}
 use Rattle.cluster_agreement.proofs.RowsWithoutEvents.{is_one, past_first}
 use Rattle.bus_physics.specs.Physics.{may_be_long}
-use Rattle.bus_physics.proofs.LawfulRows.{cause_at, first_lawful}
+use Rattle.bus_physics.proofs.LawfulRows.{cause_at, first_lawful, rows_joined}
 use Rattle.bus_physics.proofs.StepAllocations.{AreWhole, IsShort, IsShortAs, short}
 
 abbrev pub AreShortOf : List SentTransfer → Type 0

@@ -10,11 +10,11 @@ use Rattle.can_frame.specs.declared.step.What.{What}
 use Rattle.can_frame.specs.declared.step.What.TheVariants.{Alloc, Disc, Stat, InfoQ, Info, VoteQ, Vote, AppQ, App}
 use Rattle.can_frame.specs.Cutting.{frame_count}
 use Rattle.can_frame.specs.Identifier.{identifier_of}
+use Rattle.can_frame.specs.Kinds.{is_anonymous}
 use Rattle.raft_model.specs.Lists.{In, at}
 use Rattle.raft_model.specs.Runs as machine
 use Rattle.replay_text.specs.declared.row.Row.{Row}
 use Rattle.replay_text.specs.declared.row.Row.TheVariants.{AEnd, AOpen, ARx, ASend, ATick, Crash, Ext, Fault, Open, Rx, Send, Tick}
-use Rattle.transfer_rx.specs.Keys.{is_anonymous}
 use Rattle.transfer_tx.specs.Queue.{Queued, is_least, left_behind, next_out, queued_frames}
 use Rattle.allocatee.specs.Allocatee.{Device, Event, opening, step}
 use Rattle.allocatee.specs.Allocatee.Event.{Rx as Receives, Tick as Ticks}
@@ -32,13 +32,13 @@ use Rattle.cluster_spec.specs.Refinement.{transfers_of_rows}
 use Rattle.cluster_agreement.specs.Frames.{IsPiece}
 use Rattle.cluster_agreement.specs.LawsBelow.{FrameLaws}
 use Rattle.cluster_agreement.specs.Shows.{Shows, ShowsMember, ShowsUp}
-use Rattle.cluster_agreement.proofs.Concatenations.{ids_stay, rows_joined}
+use Rattle.cluster_agreement.proofs.Concatenations.{ids_stay}
 use Rattle.cluster_agreement.proofs.Lists.{in_append, of_each}
 use Rattle.cluster_agreement.proofs.Pieces.{IsPieceOf, no_piece, piece_of}
 use Rattle.cluster_agreement.proofs.RowsWithoutEvents.{is_one, out_of_queue, past_first}
 use Rattle.cluster_agreement.proofs.WholeTransfers.{members_own, read_back}
 use Rattle.transfer_rx.specs.Reassembly.{Arrival}
-use Rattle.bus_physics.proofs.LawfulRows.{cause_at, first_lawful}
+use Rattle.bus_physics.proofs.LawfulRows.{cause_at, first_lawful, rows_joined}
 
 -- the first of its transfer
 abbrev pub IsFirst : Queued → Type 0

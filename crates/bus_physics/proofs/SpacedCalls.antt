@@ -29,15 +29,15 @@ use Rattle.cluster_spec.specs.Members.{Member, MemberStatus, after_crash, after_
 use Rattle.cluster_spec.specs.Members.MemberStatus.{Down, Failed, Up}
 use Rattle.cluster_spec.specs.Refinement.{transfers_of_offers, transfers_of_row, transfers_of_rows, transfers_of_step}
 use Rattle.cluster_agreement.specs.Said.{carrier}
-use Rattle.cluster_agreement.proofs.Concatenations.{rows_joined}
 use Rattle.cluster_agreement.proofs.Lists.{in_front}
 use Rattle.cluster_agreement.proofs.OneRowMore.{lawful as one_more}
 use Rattle.cluster_agreement.proofs.MadeTransfers.{IsNew, made_when, still_made}
-use Rattle.bus_physics.specs.Physics.{HoldsAreShort, IsAnswered, IsNotFast, IsResponseOf, Limits, OfIt, Reading, Reads, ReadsAt, RestsBeforeOpening, Timed, heard_by, heard_in, member_readings, now_in, row_of, rows_in, time_of}
+use Rattle.bus_physics.specs.Physics.{HoldsAreShort, IsAnswered, IsNotFast, IsResponseOf, Limits, WhereIts, Reading, Reads, ReadsAt, RestsBeforeOpening, Timed, heard_by, heard_in, member_readings, now_in, row_of, rows_in, time_of}
 use Rattle.bus_physics.proofs.Scheduled.{rows_of_more}
 use Rattle.bus_physics.proofs.Now.{now_of_a_step}
 use Rattle.bus_physics.proofs.Waking.{IsAwake}
 use Rattle.bus_physics.proofs.StepCalls.{Called, IsAnswerOf, IsCall, IsQuietAt, IsSpaced, Open, Since, calls_of_a_step, ids_to}
+use Rattle.bus_physics.proofs.LawfulRows.{rows_joined}
 
 one_up : (a b : AllocatorState) → Up a ≡ Up b → a ≡ b
 one_up a b e = cc (e)
@@ -474,7 +474,7 @@ module _ (append : Bool) (p width : ℕ) (P : ℕ → ℕ → Memory → Times �
         open_row : (m : ℕ) (told : Bool) (ms word : ℕ) → row_of all (w.rows + 1) ≡ Opens m told ms word → After (Opens m told ms word)
         open_row m told ms word r = opened_row m told ms word r (rules_of w.ids told) (n == m) refl
 
-        tick_row : (m ms word : ℕ) (same : Bool) → (n == m) ≡ same → OfIt same (IsNotFast limits past came (now_in (w.member m).status ms))
+        tick_row : (m ms word : ℕ) (same : Bool) → (n == m) ≡ same → WhereIts same (IsNotFast limits past came (now_in (w.member m).status ms))
             → Next (transfers_of_step (w.rows + 1) m (tick_of ms word) (w.member m).status (w.member m) made) (heard ++ [])
             (if same then record { at = came; now = now_in (w.member m).status ms } ∷ past else past)
             (if same then member_after_step (w.rows + 1) (tick_of ms word) (w.member m).status (w.member m) else w.member n).status
@@ -485,7 +485,7 @@ module _ (append : Bool) (p width : ℕ) (P : ℕ → ℕ → Memory → Times �
             (record { at = came; now = now_in (w.member k).status ms } ∷ past) (member_after_step (w.rows + 1) (tick_of ms word) (w.member k).status (w.member k)).status)
             (is_same m e) (λ s. stepped_own short wide narrow (tick_of ms word) (heard ++ []) (λ f i. in_front f heard [] i) (w.member n).status refl s (λ t up a. absurd a)) slow_
 
-        rx_row : (m k ms : ℕ) → row ≡ Rx m k ms → (same : Bool) → (n == m) ≡ same → OfIt same (IsNotFast limits past came (now_in (w.member m).status ms))
+        rx_row : (m k ms : ℕ) → row ≡ Rx m k ms → (same : Bool) → (n == m) ≡ same → WhereIts same (IsNotFast limits past came (now_in (w.member m).status ms))
             → Next (transfers_of_step (w.rows + 1) m (receipt_of w k ms) (w.member m).status (w.member m) made) (heard ++ (if same then frame_at w.frames k ∷ [] else []))
             (if same then record { at = came; now = now_in (w.member m).status ms } ∷ past else past)
             (if same then member_after_step (w.rows + 1) (receipt_of w k ms) (w.member m).status (w.member m) else w.member n).status

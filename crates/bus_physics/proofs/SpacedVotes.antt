@@ -2,7 +2,7 @@
 use Rattle.std.proofs.Common.{◌≡◌, ℕ, suc, ◌+◌, ◌*◌, ◌≤◌, Bool, true, false, List, refl, sym, ap, subst, ◌∙◌, arith, ◌⊎◌, inl, inr, Option, Some, None}
 use Rattle.std.specs.Prelude.{◌-◌, ◌/◌, ◌%◌, ◌==◌, ◌&&◌, is_some, nat_lt, if◌then◌else◌}
 use Rattle.std.proofs.lemmas.Bool.Decides.{eqb_tells}
-use Rattle.raft_core.specs.Times.{Given, Sending, Times, begin_wait, end_call, end_vote_call, stand, step_down, times_after, win}
+use Rattle.raft_core.specs.Times.{HandedIn, Sending, Times, begin_wait, end_call, end_vote_call, stand, step_down, times_after, win}
 use Rattle.raft_model.specs.Messages.{Answer, Request}
 use Rattle.raft_model.specs.Moves.{Move, memory_after}
 use Rattle.raft_model.specs.Moves.Appending.{Verdict, acknowledges, matched_memory}
@@ -161,7 +161,7 @@ module _ (p M : ℕ) where
   -- ---- moves
 
   module _ (b : ℕ) (server : RaftServer) (times : Times) (now : ℕ) (o : Asked b server.memory times now) (members : List ℕ) (me number : ℕ)
-      (given : Given) (is : given.now ≡ now) where
+      (given : HandedIn) (is : given.now ≡ now) where
     abbrev m : Memory
     m = server.memory
 
@@ -306,7 +306,7 @@ module _ (p M : ℕ) where
   some_sending : (x y : Sending) → Some x ≡ Some y → x ≡ y
   some_sending x y e = cc (e)
 
-  module _ (server : RaftServer) (times : Times) (now : ℕ) (members : List ℕ) (me number : ℕ) (given : Given) (is : given.now ≡ now)
+  module _ (server : RaftServer) (times : Times) (now : ℕ) (members : List ℕ) (me number : ℕ) (given : HandedIn) (is : given.now ≡ now)
       (role : server.memory.role ≡ Candidate) where
     abbrev asked : Request
     asked = vote_request me number server.store p
@@ -367,7 +367,7 @@ spaced_votes p = record {
 }
   where
     calls : (M b : ℕ) (server : RaftServer) (times : Times) (now : ℕ) → Asked p M b server.memory times now → (members : List ℕ) (me number : ℕ)
-        (given : Given) → given.now ≡ now → (move : Move) → IsOwnCall false p server.memory move
+        (given : HandedIn) → given.now ≡ now → (move : Move) → IsOwnCall false p server.memory move
         → Asked p M (suc b) (memory_after members me number server move) (times_after members me given server move times) now
     calls M b server times now o members me number given is (CallForVote q) own = by q own.2 own.1 where
       by : (q : ℕ) → q ≡ p → server.memory.pending q ≡ None
@@ -377,7 +377,7 @@ spaced_votes p = record {
     calls M b server times now o members me number given is move own = absurd own
 
     begins : (server : RaftServer) (times : Times) (now : ℕ) → times.since ≤ now → (members : List ℕ) (me number : ℕ)
-        (given : Given) → given.now ≡ now → (move : Move) → IsOwnCall false p server.memory move
+        (given : HandedIn) → given.now ≡ now → (move : Move) → IsOwnCall false p server.memory move
         → Asked p now 0 (memory_after members me number server move) (times_after members me given server move times) now
     begins server times now low members me number given is (CallForVote q) own =
         subst (λ (n : ℕ). Asked p now 0 (memory_after members me number server (CallForVote n)) (times_after members me given server (CallForVote n) times) now)

@@ -2,7 +2,7 @@
 use Rattle.std.proofs.Common.{◌≡◌, ℕ, suc, ◌+◌, ◌*◌, ◌≤◌, Bool, true, false, List, refl, sym, ap, subst, ◌∙◌, arith, ◌⊎◌, inl, inr, Option, Some, None}
 use Rattle.std.specs.Prelude.{◌-◌, ◌==◌, ◌&&◌, is_some, nat_lt, if◌then◌else◌}
 use Rattle.std.proofs.lemmas.Bool.Decides.{eqb_tells}
-use Rattle.raft_core.specs.Times.{Given, Sending, Times, begin_wait, end_call, end_vote_call, stand, step_down, times_after, win}
+use Rattle.raft_core.specs.Times.{HandedIn, Sending, Times, begin_wait, end_call, end_vote_call, stand, step_down, times_after, win}
 use Rattle.raft_model.specs.Messages.{Answer, Request}
 use Rattle.raft_model.specs.Moves.{Move, memory_after}
 use Rattle.raft_model.specs.Moves.Appending.{Verdict, acknowledges, matched_memory}
@@ -113,7 +113,7 @@ module _ (p M : ℕ) where
     abbrev m : Memory
     m = server.memory
 
-    abbrev After : Given → Move → Type 0
+    abbrev After : HandedIn → Move → Type 0
     After given move = Open b (memory_after members me number server move) (times_after members me given server move times) now
 
     -- a call that ended
@@ -123,7 +123,7 @@ module _ (p M : ℕ) where
     ended q true e = inr (refl, refl)
     ended q false e = inl (refl, refl)
 
-    pub stands : (given : Given) → given.now ≡ now → (server.memory.role ≡ Leader → ⊥) → times.since + 2000 ≤ now → After given TimeOut
+    pub stands : (given : HandedIn) → given.now ≡ now → (server.memory.role ≡ Leader → ⊥) → times.since + 2000 ≤ now → After given TimeOut
     stands given is not_leading waited = by (has_quorum members (own_vote me)) where
       high : (role : Role) → server.memory.role ≡ role → floor b + 1000 ≤ now
       high Follower e = omega (arith, o.follower e, waited)
@@ -135,7 +135,7 @@ module _ (p M : ℕ) where
       by true = won b server.memory times now o _ _ refl (omega (arith, is)) refl refl (high server.memory.role refl)
       by false = stood b server.memory times now o _ _ refl is refl refl (high server.memory.role refl)
 
-    pub votes : (given : Given) → given.now ≡ now → (request : Request) (granted : Bool) → After given (TakeVoteRequest request granted)
+    pub votes : (given : HandedIn) → given.now ≡ now → (request : Request) (granted : Bool) → After given (TakeVoteRequest request granted)
     votes given is request granted = by (nat_lt server.store.term request.term) granted where
       fallen : floor b ≤ given.now
       fallen = omega (arith, is, o.low)
@@ -155,7 +155,7 @@ module _ (p M : ℕ) where
       by false true = stayed b server.memory times now o _ _ refl (omega (arith, is, o.since)) (omega (arith, is)) (inl (refl, refl)) o.leader
       by false false = o
 
-    pub appends : (given : Given) → given.now ≡ now → (request : Request) (verdict : Verdict) → After given (TakeAppendRequest request verdict)
+    pub appends : (given : HandedIn) → given.now ≡ now → (request : Request) (verdict : Verdict) → After given (TakeAppendRequest request verdict)
     appends given is request Outdated = o
     appends given is request Refused = fell b server.memory times now o _ _ refl (omega (arith, is, o.low)) (omega (arith, is)) (inl (refl, refl))
     appends given is request Held = fell b server.memory times now o _ _ refl (omega (arith, is, o.low)) (omega (arith, is)) (inl (refl, refl))
@@ -169,7 +169,7 @@ module _ (p M : ℕ) where
     down_of moment is later since Leader e = (omega (arith, is, o.low), omega (arith, is), refl)
 
     -- an answer of another node
-    pub append_answers : (given : Given) → given.now ≡ now → (answer : Answer) → (p == answer.from) ≡ false → After given (TakeAppendAnswer answer)
+    pub append_answers : (given : HandedIn) → given.now ≡ now → (answer : Answer) → (p == answer.from) ≡ false → After given (TakeAppendAnswer answer)
     append_answers given is answer other = by (nat_lt server.store.term answer.term) (acknowledges server answer) where
       pends : (if p == answer.from then None else server.memory.pending p) ≡ server.memory.pending p
       pends = ap (λ (c : Bool). if c then None else server.memory.pending p) other
@@ -196,7 +196,7 @@ module _ (p M : ℕ) where
     first_true false y e = never e
 
     -- an answer to a vote request
-    pub vote_answers : (given : Given) → given.now ≡ now → (answer : Answer)
+    pub vote_answers : (given : HandedIn) → given.now ≡ now → (answer : Answer)
         → ((p == answer.from) ≡ true → (r : Request) × (server.memory.pending p ≡ Some r) × (r.append ≡ false)) → After given (TakeVoteAnswer answer)
     vote_answers given is answer mine =
         by (nat_lt server.store.term answer.term) (counts server answer) refl (has_quorum members (votes_with server.memory answer)) where
@@ -230,7 +230,7 @@ module _ (p M : ℕ) where
           by false false e quorum = stayed b server.memory times now o _ _ refl (omega arith) o.since (ended answer.from (p == answer.from) refl)
               (λ leads none. idle leads (p == answer.from) refl none)
 
-    pub gives_up : (given : Given) (q : ℕ) → ((p == q) ≡ true → (s : Sending) → times.sending p ≡ Some s → 1000 ≤ now - s.moment) → After given (GiveUp q)
+    pub gives_up : (given : HandedIn) (q : ℕ) → ((p == q) ≡ true → (s : Sending) → times.sending p ≡ Some s → 1000 ≤ now - s.moment) → After given (GiveUp q)
     gives_up given q old = stayed b server.memory times now o _ _ refl (omega arith) o.since (ended q (p == q) refl) (λ leads none. idle leads (p == q) refl none) where
       waited : server.memory.role ≡ Leader → (p == q) ≡ true → (r : Option Request) → server.memory.pending p ≡ r → (s : Option Sending) → times.sending p ≡ s
           → floor b + 1000 ≤ now
@@ -242,7 +242,7 @@ module _ (p M : ℕ) where
       idle leads true e none = waited leads e (server.memory.pending p) refl (times.sending p) refl
       idle leads false e none = o.leader leads none
 
-    pub tells : (given : Given) → After given TellPair × After given TellNothing
+    pub tells : (given : HandedIn) → After given TellPair × After given TellNothing
     tells given = (unchanged b server.memory times now o _ _ refl refl refl refl, unchanged b server.memory times now o _ _ refl refl refl refl)
 
     some_request : (x y : Request) → Some x ≡ Some y → x ≡ y
@@ -251,7 +251,7 @@ module _ (p M : ℕ) where
     some_sending : (x y : Sending) → Some x ≡ Some y → x ≡ y
     some_sending x y e = cc (e)
 
-    pub calls_for_vote : (given : Given) (q : ℕ) → server.memory.role ≡ Candidate → After given (CallForVote q)
+    pub calls_for_vote : (given : HandedIn) (q : ℕ) → server.memory.role ≡ Candidate → After given (CallForVote q)
     calls_for_vote given q stands_now = record {
       low = o.low;
       since = o.since;
@@ -277,7 +277,7 @@ module _ (p M : ℕ) where
         waits_by false r s pending sent append = o.waits r s pending sent append
 
     -- one more call to the node, or one to another
-    pub calls_to_append : (given : Given) → given.now ≡ now → (q previous : ℕ) (with_entry : Bool) → server.memory.role ≡ Leader
+    pub calls_to_append : (given : HandedIn) → given.now ≡ now → (q previous : ℕ) (with_entry : Bool) → server.memory.role ≡ Leader
         → ((p == q) ≡ true → server.memory.pending p ≡ None)
         → Open (if p == q then suc b else b) (memory_after members me number server (CallToAppend q previous with_entry))
         (times_after members me given server (CallToAppend q previous with_entry) times) now
@@ -306,7 +306,7 @@ module _ (p M : ℕ) where
           (ap (λ (c : Bool). if c then Some (record { id = given.id; moment = given.now }) else times.sending p) e)
 
     -- any move that is no call to the node, and no answer of it to one
-    pub any_move : (given : Given) → given.now ≡ now → (move : Move) → IsReason true p server times now move → After given move
+    pub any_move : (given : HandedIn) → given.now ≡ now → (move : Move) → IsReason true p server times now move → After given move
     any_move given is TimeOut reason = stands given is reason.0 reason.1
     any_move given is (TakeVoteRequest request granted) reason = votes given is request granted
     any_move given is (TakeVoteAnswer answer) reason = vote_answers given is answer
@@ -341,7 +341,7 @@ module _ (p M : ℕ) where
   itself = elim (eqb_tells p p) [ inl s ↦ s.0 | inr apart ↦ absurd (apart.1 refl) ]
 
   -- the first call
-  pub first : (server : RaftServer) (times : Times) (now : ℕ) → M ≡ now → times.since ≤ now → (members : List ℕ) (me number : ℕ) (given : Given) → given.now ≡ now
+  pub first : (server : RaftServer) (times : Times) (now : ℕ) → M ≡ now → times.since ≤ now → (members : List ℕ) (me number : ℕ) (given : HandedIn) → given.now ≡ now
       → (previous : ℕ) (with_entry : Bool) → server.memory.role ≡ Leader
       → Open 0 (memory_after members me number server (CallToAppend p previous with_entry)) (times_after members me given server (CallToAppend p previous with_entry) times) now
   first server times now first_now since members me number given is previous with_entry leading =
@@ -377,7 +377,7 @@ spaced_appends p = record {
 }
   where
     calls : (M b : ℕ) (server : RaftServer) (times : Times) (now : ℕ) → Open p M b server.memory times now → (members : List ℕ) (me number : ℕ)
-        (given : Given) → given.now ≡ now → (move : Move) → IsOwnCall true p server.memory move
+        (given : HandedIn) → given.now ≡ now → (move : Move) → IsOwnCall true p server.memory move
         → Open p M (suc b) (memory_after members me number server move) (times_after members me given server move times) now
     calls M b server times now o members me number given is (CallToAppend q previous with_entry) own =
         let here : (p == q) ≡ true = ap (λ (n : ℕ). p == n) own.2 ∙ itself p M in
@@ -388,7 +388,7 @@ spaced_appends p = record {
     calls M b server times now o members me number given is move own = absurd own
 
     begins : (server : RaftServer) (times : Times) (now : ℕ) → times.since ≤ now → (members : List ℕ) (me number : ℕ)
-        (given : Given) → given.now ≡ now → (move : Move) → IsOwnCall true p server.memory move
+        (given : HandedIn) → given.now ≡ now → (move : Move) → IsOwnCall true p server.memory move
         → Open p now 0 (memory_after members me number server move) (times_after members me given server move times) now
     begins server times now low members me number given is (CallToAppend q previous with_entry) own =
         subst (λ (n : ℕ). Open p now 0 (memory_after members me number server (CallToAppend n previous with_entry))

@@ -7,6 +7,7 @@ use Rattle.can_frame.specs.declared.identifier.Kind.{Kind}
 use Rattle.can_frame.specs.declared.identifier.Kind.TheVariants.{Message, Anonymous, Request as RequestKind, Response}
 use Rattle.can_frame.specs.declared.step.What.{What}
 use Rattle.can_frame.specs.declared.step.What.TheVariants.{App, AppQ, Vote, VoteQ}
+use Rattle.can_frame.specs.Kinds.{is_response}
 use Rattle.raft_core.specs.Times.{Sending}
 use Rattle.raft_model.specs.Lists.{In}
 use Rattle.raft_model.specs.Messages.{Answer, Request}
@@ -14,10 +15,11 @@ use Rattle.raft_model.specs.Messages.Message.{Answers}
 use Rattle.transfer_rx.specs.Reassembly.{Delivery}
 use Rattle.alloc_spec_laws.specs.Saying.{IsSaid, SaysAnswer, append_bytes, vote_bytes}
 use Rattle.alloc_spec.specs.AllocatorState.{AllocatorState}
-use Rattle.alloc_spec.specs.Judging.{is_response, is_stale, misses, service_of, would_take}
+use Rattle.alloc_spec.specs.Judging.{is_stale, misses, service_of, would_take}
 use Rattle.alloc_spec.specs.Transfers.{SentTransfer, number_of}
 use Rattle.cluster_spec.specs.Cluster.{is_member}
-use Rattle.cluster_spec.specs.Lawful.{is_forged, is_forged_by, is_members_service}
+use Rattle.cluster_spec.specs.Lawful.{is_forged, is_forged_by}
+use Rattle.alloc_spec.specs.Accepted.{is_members_service}
 use Rattle.cluster_agreement.specs.Frames.{IsTransferOf}
 use Rattle.cluster_agreement.specs.Said.{AnswersEach, AreAnswered, AreCalled, IsCalled, carrier}
 use Rattle.cluster_agreement.proofs.Lists.{both, equal, never}

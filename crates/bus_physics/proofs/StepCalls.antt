@@ -26,7 +26,7 @@ use Rattle.node_discovery.specs.Watch.{next_query, some_unknown}
 use Rattle.raft_core.specs.Calls.{due, due_unless, owed}
 use Rattle.raft_core.specs.Handled.{append_request_of as asked_append, moves_of_expire, vote_request_of as asked_vote}
 use Rattle.raft_core.specs.Taken.{proposal}
-use Rattle.raft_core.specs.Times.{Given, Sending, Times, awaits, end_call, given_at, given_call, given_proposal, given_tick, has_waited, is_awaited, is_overdue, is_silent, overdue, times_after, times_after_all, wait}
+use Rattle.raft_core.specs.Times.{HandedIn, Sending, Times, awaits, end_call, given_at, given_call, given_proposal, given_tick, has_waited, is_awaited, is_overdue, is_silent, overdue, times_after, times_after_all, wait}
 use Rattle.raft_model.specs.Decisions.{commit_index, grants, verdict_on}
 use Rattle.raft_model.specs.Duty as duty
 use Rattle.raft_model.specs.Handlers.{server_after, server_after_all}
@@ -93,13 +93,13 @@ IsOwnCall append p m move = ⊥
 pub record IsSpaced (append : Bool) (p width : ℕ) (P : ℕ → ℕ → Memory → Times → ℕ → Type 0) : Type 0 where
   pub later : (M b : ℕ) (m : Memory) (times : Times) (now then_ : ℕ) → now ≤ then_ → P M b m times now → P M b m times then_
   pub moves : (M b : ℕ) (server : RaftServer) (times : Times) (now : ℕ) → P M b server.memory times now → (members : List ℕ) (me number : ℕ)
-      (given : Given) → given.now ≡ now → (move : Move) → IsReason append p server times now move
+      (given : HandedIn) → given.now ≡ now → (move : Move) → IsReason append p server times now move
       → P M b (memory_after members me number server move) (times_after members me given server move times) now
   pub calls : (M b : ℕ) (server : RaftServer) (times : Times) (now : ℕ) → P M b server.memory times now → (members : List ℕ) (me number : ℕ)
-      (given : Given) → given.now ≡ now → (move : Move) → IsOwnCall append p server.memory move
+      (given : HandedIn) → given.now ≡ now → (move : Move) → IsOwnCall append p server.memory move
       → P M (suc b) (memory_after members me number server move) (times_after members me given server move times) now
   pub begins : (server : RaftServer) (times : Times) (now : ℕ) → times.since ≤ now → (members : List ℕ) (me number : ℕ)
-      (given : Given) → given.now ≡ now → (move : Move) → IsOwnCall append p server.memory move
+      (given : HandedIn) → given.now ≡ now → (move : Move) → IsOwnCall append p server.memory move
       → P now 0 (memory_after members me number server move) (times_after members me given server move times) now
   pub far : (M b : ℕ) (m : Memory) (times : Times) (now : ℕ) → P M b m times now → (move : Move) → IsOwnCall append p m move → 31 ≤ b → M + width ≤ now
 
@@ -235,7 +235,7 @@ module _ (append : Bool) (p width : ℕ) (P : ℕ → ℕ → Memory → Times �
       → slice_index (ids_to append then_) p ≡ slice_index (ids_to append ids) p → Since append p P id M m times ids now → Since append p P id M m times then_ now
   same_ids id M m times ids then_ now e c = record { more = c.more; spaced = c.spaced; next = e ∙ c.next }
 
-  since_moved : (server : RaftServer) (times : Times) (ids : Ids) (now : ℕ) (members : List ℕ) (me : ℕ) (given : Given) → given.now ≡ now → (move : Move)
+  since_moved : (server : RaftServer) (times : Times) (ids : Ids) (now : ℕ) (members : List ℕ) (me : ℕ) (given : HandedIn) → given.now ≡ now → (move : Move)
       → IsReason append p server times now move → (id M : ℕ) → Since append p P id M server.memory times ids now
       → Since append p P id M (memory_after members me number server move) (times_after members me given server move times) ids now
   since_moved server times ids now members me given e move reason id M c = record {
@@ -244,7 +244,7 @@ module _ (append : Bool) (p width : ℕ) (P : ℕ → ℕ → Memory → Times �
     next = c.next;
   }
 
-  moved : (server : RaftServer) (times : Times) (ids : Ids) (now : ℕ) (members : List ℕ) (me : ℕ) (given : Given) → given.now ≡ now → (move : Move)
+  moved : (server : RaftServer) (times : Times) (ids : Ids) (now : ℕ) (members : List ℕ) (me : ℕ) (given : HandedIn) → given.now ≡ now → (move : Move)
       → IsReason append p server times now move → Open server.memory times ids now
       → Open (memory_after members me number server move) (times_after members me given server move times) ids now
   moved server times ids now members me given e move reason k = record {
@@ -321,14 +321,14 @@ module _ (append : Bool) (p width : ℕ) (P : ℕ → ℕ → Memory → Times �
       (λ e. sends Stat 0 (node_status_bytes (status_of g.allocator)) None g tt k) (λ e. k)
 
   -- a leader's blank
-  blank_added : (given : Given) (g : StepState) → given.now ≡ g.allocator.now → Opens g → Opens (adds_blank number given g)
+  blank_added : (given : HandedIn) (g : StepState) → given.now ≡ g.allocator.now → Opens g → Opens (adds_blank number given g)
   blank_added given g is k = moved g.allocator.raft_server g.allocator.times g.allocator.ids g.allocator.now (members_of g.allocator) g.allocator.me
       given is (ProposeEntry (blank g.allocator.raft_server.store.term)) tt k
 
   elects : (word : ℕ) (g : StepState) → Opens g → Opens (election_phase number word g)
   elects word g k = tick_with_blank Opens number word g stands (λ moment. blank_added given ticked refl stands)
     where
-      given : Given
+      given : HandedIn
       given = given_tick g.allocator.now word
 
       ticked : StepState
@@ -610,7 +610,7 @@ module _ (append : Bool) (p width : ℕ) (P : ℕ → ℕ → Memory → Times �
     own = λ offer j call. same_ids offer.id now m times ids then_ now next (k.own offer (one_more offers new none offer j call) call);
   }
 
-  after_move : (server : RaftServer) (times : Times) (ids : Ids) (now : ℕ) (offers : List Offer) (members : List ℕ) (me : ℕ) (given : Given) → given.now ≡ now → (move : Move)
+  after_move : (server : RaftServer) (times : Times) (ids : Ids) (now : ℕ) (offers : List Offer) (members : List ℕ) (me : ℕ) (given : HandedIn) → given.now ≡ now → (move : Move)
       → IsReason append p server times now move → Called server.memory times ids now offers
       → Called (memory_after members me number server move) (times_after members me given server move times) ids now offers
   after_move server times ids now offers members me given e move reason k = record {
@@ -673,7 +673,7 @@ module _ (append : Bool) (p width : ℕ) (P : ℕ → ℕ → Memory → Times �
     new : Offer
     new = sent what p payload (Some (Requests call)) g
 
-    given : Given
+    given : HandedIn
     given = given_call now (id_of ids what p)
 
     m_after : Memory

@@ -16,7 +16,7 @@ use Rattle.cluster_spec.specs.Members.{MemberStatus, is_running}
 use Rattle.cluster_spec.specs.Members.MemberStatus.{Down, Failed, Up}
 use Rattle.cluster_agreement.proofs.Concatenations.{ids_stay}
 use Rattle.cluster_agreement.proofs.Lists.{never}
-use Rattle.cmd_node_laws.specs.Traces.{Event, IsForeign, IsKilled, IsKilledAtOpening, MayAllHappen, MayHappen, OfAllocatee, Opens, Silence, Stops, Turns, WasSent, all_rows, came_rows, rows_of, RowsFrom, while_running}
+use Rattle.cmd_node_laws.specs.Traces.{Event, FromElsewhere, DiesInTurn, DiesAtOpening, MayAllHappen, MayHappen, OfOthers, Opens, Silence, Stops, Turns, WasSent, all_rows, came_rows, rows_of, RowsFrom, while_running}
 use Rattle.cmd_node_laws.proofs.Places.{after_both}
 use Rattle.bus_physics.specs.Physics.{Limits, Timed, rows_in}
 use Rattle.bus_physics.specs.Processes.{MayAllDo, MayDo}
@@ -147,9 +147,9 @@ module _ (limits : Limits) (ids : List ℕ) where
           ]
 
       -- a frame behind two rows, in a turn in which the member is killed
-      killed : (n moment word k puts : ℕ) (a : List Timed) → rows_in a ≡ rows_of (IsKilled n moment word (WasSent k) puts) w
-          → HappenOnBus limits ids before a → MayDo (IsKilled n moment word (WasSent k) puts) w
-          → MayHappen (IsKilled n moment word (WasSent k) puts) w ⊎ LosesFrames ids (before ++ (a ++ rest))
+      killed : (n moment word k puts : ℕ) (a : List Timed) → rows_in a ≡ rows_of (DiesInTurn n moment word (WasSent k) puts) w
+          → HappenOnBus limits ids before a → MayDo (DiesInTurn n moment word (WasSent k) puts) w
+          → MayHappen (DiesInTurn n moment word (WasSent k) puts) w ⊎ LosesFrames ids (before ++ (a ++ rest))
       killed n moment word k puts a rows happen may = by (is_running (ticked.member n).status) refl
         where
           ticked : Cluster
@@ -163,7 +163,7 @@ module _ (limits : Limits) (ids : List ℕ) where
 
           found : is_running (ticked.member n).status ≡ true → no_such_frame ticked k ≡ None → (a : List Timed) → HappenOnBus limits ids before a
               → (more : List Row) → rows_in a ≡ Crash n (4 * puts + 1) Old ∷ (Tick n moment word ∷ (Rx n k moment ∷ more))
-              → MayHappen (IsKilled n moment word (WasSent k) puts) w ⊎ LosesFrames ids (before ++ (a ++ rest))
+              → MayHappen (DiesInTurn n moment word (WasSent k) puts) w ⊎ LosesFrames ids (before ++ (a ++ rest))
           found runs there [] happen more rows = absurd (cc (rows))
           found runs there (c ∷ []) happen more rows = absurd (cc (rows))
           found runs there (c ∷ (t ∷ [])) happen more rows = absurd (cc (rows))
@@ -171,7 +171,7 @@ module _ (limits : Limits) (ids : List ℕ) where
               let crashes : c.row ≡ Crash n (4 * puts + 1) Old = cc (rows) in
               let ticks : t.row ≡ Tick n moment word = cc (rows) in
               let comes : r.row ≡ Rx n k moment = cc (rows) in
-              let quiet_rows = quiet (IsKilled n moment word Silence puts) (may.0, λ runs. tt) in
+              let quiet_rows = quiet (DiesInTurn n moment word Silence puts) (may.0, λ runs. tt) in
               let crashed = w_more before c (Crash n (4 * puts + 1) Old) w at crashes in
               let lawful_crash = lawful_more limits ids before c w at lawful (ap (λ (x : Row). cause w x) crashes ∙ lawful_row w (Crash n (4 * puts + 1) Old) refl quiet_rows.0) in
               elim (hears ((before ++ c ∷ []) ++ t ∷ []) (a ++ rest) r n k moment ticked
@@ -185,22 +185,22 @@ module _ (limits : Limits) (ids : List ℕ) where
               ]
 
           by : (b : Bool) → is_running (ticked.member n).status ≡ b
-              → MayHappen (IsKilled n moment word (WasSent k) puts) w ⊎ LosesFrames ids (before ++ (a ++ rest))
+              → MayHappen (DiesInTurn n moment word (WasSent k) puts) w ⊎ LosesFrames ids (before ++ (a ++ rest))
           by false e = inl (may.0, λ runs. never (sym e ∙ runs))
           by true e = found e (may.1 e) a happen (while_running n (λ w. Crash n 0 Old ∷ []) (after_rows ticked (while_running n comes ticked)))
               (rows ∙ ap (λ (l : List Row). Crash n (4 * puts + 1) Old ∷ (Tick n moment word ∷ (l ++ while_running n (λ w. Crash n 0 Old ∷ []) (after_rows ticked (while_running n comes ticked)))))
               (coming e))
 
       -- a row of an allocatee
-      of_allocatee : (row : Row) (a : List Timed) → rows_in a ≡ row ∷ [] → HappenOnBus limits ids before a → MayDo (OfAllocatee row) w
-          → MayHappen (OfAllocatee row) w ⊎ LosesFrames ids (before ++ (a ++ rest))
+      of_allocatee : (row : Row) (a : List Timed) → rows_in a ≡ row ∷ [] → HappenOnBus limits ids before a → MayDo (OfOthers row) w
+          → MayHappen (OfOthers row) w ⊎ LosesFrames ids (before ++ (a ++ rest))
       of_allocatee row [] rows happen may = absurd (cc (rows))
       of_allocatee row (t ∷ a) rows happen may = by (cause w row) refl
         where
           is : t.row ≡ row
           is = cc (rows)
 
-          by : (o : Option Unlawful) → cause w row ≡ o → MayHappen (OfAllocatee row) w ⊎ LosesFrames ids (before ++ (t ∷ (a ++ rest)))
+          by : (o : Option Unlawful) → cause w row ≡ o → MayHappen (OfOthers row) w ⊎ LosesFrames ids (before ++ (t ∷ (a ++ rest)))
           by None e = inl (may.0, e)
           by (Some why) e = inr (lost limits ids device_law torn_law stale_law before (a ++ rest) t why (may.1 why e) lawful happen.0
               (ap (λ (u : Cluster). cause u t.row) at ∙ (ap (λ (x : Row). cause w x) is ∙ e)))
@@ -208,15 +208,15 @@ module _ (limits : Limits) (ids : List ℕ) where
       pub event : (e : Event) (a : List Timed) → rows_in a ≡ rows_of e w → HappenOnBus limits ids before a → MayDo e w
           → MayHappen e w ⊎ LosesFrames ids (before ++ (a ++ rest))
       event (Opens n told moment word) a rows happen may = inl may
-      event (IsKilledAtOpening n told moment word puts) a rows happen may = inl may
+      event (DiesAtOpening n told moment word puts) a rows happen may = inl may
       event (Turns n moment word Silence) a rows happen may = inl may
       event (Turns n moment word (WasSent k)) a rows happen may = turn n moment word k a rows happen may
-      event (Turns n moment word (IsForeign frame)) a rows happen may = inl may
+      event (Turns n moment word (FromElsewhere frame)) a rows happen may = inl may
       event (Stops n) a rows happen may = inl may
-      event (IsKilled n moment word Silence puts) a rows happen may = inl may
-      event (IsKilled n moment word (WasSent k) puts) a rows happen may = killed n moment word k puts a rows happen may
-      event (IsKilled n moment word (IsForeign frame) puts) a rows happen may = inl may
-      event (OfAllocatee row) a rows happen may = of_allocatee row a rows happen may
+      event (DiesInTurn n moment word Silence puts) a rows happen may = inl may
+      event (DiesInTurn n moment word (WasSent k) puts) a rows happen may = killed n moment word k puts a rows happen may
+      event (DiesInTurn n moment word (FromElsewhere frame) puts) a rows happen may = inl may
+      event (OfOthers row) a rows happen may = of_allocatee row a rows happen may
 
     -- ---- all events
 

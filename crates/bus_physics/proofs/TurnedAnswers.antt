@@ -14,7 +14,8 @@ use Rattle.alloc_spec.specs.Transfers.{number_of}
 use Rattle.alloc_spec_laws.specs.Apart.{AreAllApart}
 use Rattle.alloc_spec_laws.specs.Responses.{ResponsesAnswer}
 use Rattle.cluster_spec.specs.Cluster.{AreMembers, cluster, frame_at, world_of}
-use Rattle.cluster_spec.specs.Lawful.{Lawful, cause, is_members_service, no_such_frame}
+use Rattle.cluster_spec.specs.Lawful.{Lawful, cause, no_such_frame}
+use Rattle.alloc_spec.specs.Accepted.{is_members_service}
 use Rattle.cluster_spec.specs.Refinement.{transfers_of_rows}
 use Rattle.cluster_agreement.specs.LawsBelow.{FrameLaws}
 use Rattle.cluster_agreement.proofs.Concatenations.{ids_stay}

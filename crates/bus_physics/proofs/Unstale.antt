@@ -10,19 +10,19 @@ use Rattle.replay_text.specs.declared.row.Row.TheVariants.{Rx}
 use Rattle.transfer_tx.specs.Queue.{Queued}
 use Rattle.alloc_spec.specs.Transfers.{SentTransfer, number_of}
 use Rattle.cluster_spec.specs.Cluster.{Cluster, frame_at}
-use Rattle.cluster_spec.specs.Lawful.{is_members_service}
+use Rattle.alloc_spec.specs.Accepted.{is_members_service}
 use Rattle.cluster_spec.specs.Members.{MemberStatus}
 use Rattle.cluster_agreement.specs.Said.{carrier}
 use Rattle.alloc_spec_laws.proofs.DistinctTransfers.{rank}
 use Rattle.cluster_agreement.proofs.Lists.{never}
-use Rattle.bus_physics.specs.Physics.{ClockGoesOnAt, ComesInTime, FrameComesInTime, GoesOn, Limits, OfIt, IsAnswered, AnswersInOrder, IsResponseOf, Timed, WaitsForAnswers, now_in, time_of}
+use Rattle.bus_physics.specs.Physics.{ClockGoesOnAt, ComesInTime, FrameComesInTime, GoesOn, Limits, WhereIts, IsAnswered, AnswersInOrder, IsResponseOf, Timed, WaitsForAnswers, now_in, time_of}
 use Rattle.bus_physics.specs.Reuse.{IsStaleAt}
 use Rattle.bus_physics.proofs.Members.{MemberBefore}
 use Rattle.bus_physics.proofs.Waiting.{WaitsLast}
 
-pub of_it : {A : Type 0} (a : ℕ) → OfIt (a == a) A → A
+pub of_it : {A : Type 0} (a : ℕ) → WhereIts (a == a) A → A
 of_it {A} a is = by (a == a) refl is where
-  by : (b : Bool) → (a == a) ≡ b → OfIt b A → A
+  by : (b : Bool) → (a == a) ≡ b → WhereIts b A → A
   by true e x = x
   by false e x = elim (eqb_tells a a) [ inl s ↦ never (sym e ∙ s.0) | inr n ↦ absurd (n.1 refl) ]
 

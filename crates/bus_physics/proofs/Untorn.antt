@@ -18,13 +18,14 @@ use Rattle.can_frame.specs.declared.step.Judged.TheVariants.{Torn}
 use Rattle.can_frame.specs.declared.step.What.TheVariants.{Alloc}
 use Rattle.can_frame.specs.declared.step.Why.TheVariants.{Start, Toggle, TransferId}
 use Rattle.can_frame.specs.Cutting.{Piece, frames_of as pieces_of, piece_from}
+use Rattle.can_frame.specs.Kinds.{is_anonymous}
 use Rattle.raft_model.specs.Lists.{In}
 use Rattle.raft_model.specs.Runs as machine
 use Rattle.replay_text.specs.declared.row.Row.{Row}
 use Rattle.replay_text.specs.declared.row.Row.TheVariants.{ARx}
 use Rattle.transfer_rx.specs.declared.key.Key.{Key}
 use Rattle.transfer_rx.specs.Acceptance.{first_signature, wanted}
-use Rattle.transfer_rx.specs.Keys.{is_anonymous, key_of}
+use Rattle.transfer_rx.specs.Keys.{key_of}
 use Rattle.transfer_rx.specs.Marks.{is_whole}
 use Rattle.transfer_rx.specs.Origin.{IsIdleOrOf}
 use Rattle.transfer_rx.specs.Reassembly.{Arrival, Delivery, Drops, Gives, Setting, Step, alone, answer, at_session, in_turn, piece_in, session_step}
@@ -46,7 +47,7 @@ use Rattle.cluster_agreement.proofs.Idents.{IsWanted, one_what, wanted_is}
 use Rattle.cluster_agreement.proofs.Lists.{equal, in_append, never, tell}
 use Rattle.cluster_agreement.proofs.OneRow.{stands}
 use Rattle.cluster_agreement.proofs.WholeTransfers.{forged_allocation}
-use Rattle.bus_physics.specs.Physics.{AllocatesApart, AreApart, ComesInOrderToDevice, ComesInTime, HasKey, IsParted, GoesOn, Limits, OfIt, Reading, Timed, now_of, time_of}
+use Rattle.bus_physics.specs.Physics.{AllocatesApart, AreApart, ComesInOrderToDevice, ComesInTime, HasKey, IsParted, GoesOn, Limits, WhereIts, Reading, Timed, now_of, time_of}
 use Rattle.bus_physics.specs.Reuse.{AreOfOne, AreOfTwo, IsFrameOf}
 use Rattle.bus_physics.proofs.Devices.{IsKnown, IsTimely, StandsBefore, soon, width}
 use Rattle.bus_physics.proofs.InTime.{AreClose, Heard, IsIdle, IsInTime, IsYoung, close_more, comes, filtered, found}
@@ -239,9 +240,9 @@ first_alone mark e = by (nat_eq mark.step mark.step) (nat_eq mark.place 0) (same
   by true false f g = never g
   by false b f g = never f
 
-of_it : {A : Type 0} (a : ℕ) → OfIt (a == a) A → A
+of_it : {A : Type 0} (a : ℕ) → WhereIts (a == a) A → A
 of_it {A} a is = by (a == a) refl is where
-  by : (b : Bool) → (a == a) ≡ b → OfIt b A → A
+  by : (b : Bool) → (a == a) ≡ b → WhereIts b A → A
   by true e x = x
   by false e x = elim (eqb_tells a a) [ inl s ↦ never (sym e ∙ s.0) | inr n ↦ absurd (n.1 refl) ]
 

@@ -14,12 +14,13 @@ use Rattle.can_frame.specs.declared.step.Judged.TheVariants.{Torn}
 use Rattle.can_frame.specs.declared.step.What.{What}
 use Rattle.can_frame.specs.declared.step.What.TheVariants.{Alloc, App, AppQ, Disc, Info, InfoQ, Stat, Vote, VoteQ}
 use Rattle.can_frame.specs.Cutting.{Piece, frame_count, frames_of as pieces_of, piece_from}
+use Rattle.can_frame.specs.Kinds.{is_anonymous}
 use Rattle.raft_model.specs.Lists.{In}
 use Rattle.raft_model.specs.Runs as machine
 use Rattle.replay_text.specs.declared.row.Row.{Row}
 use Rattle.replay_text.specs.declared.row.Row.TheVariants.{Rx}
 use Rattle.transfer_rx.specs.declared.key.Key.{Key}
-use Rattle.transfer_rx.specs.Keys.{is_anonymous, key_of}
+use Rattle.transfer_rx.specs.Keys.{key_of}
 use Rattle.transfer_rx.specs.Origin.{IsIdleOrOf}
 use Rattle.transfer_rx.specs.Reassembly.{Arrival, Delivery, Gives, Setting, Step, answer, piece_in}
 use Rattle.transfer_rx.specs.Sessions.{Session, is_recent, next_id, recent_sessions, restarts, session_of}

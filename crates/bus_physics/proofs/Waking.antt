@@ -1,7 +1,7 @@
 -- A member that was opened follows for 2,000 ms at the least: what a move keeps of it.
 use Rattle.std.proofs.Common.{◌≡◌, ℕ, ◌+◌, ◌≤◌, Bool, true, false, List, refl, sym, ap, subst, ◌∙◌, arith, ◌⊎◌, inl, inr}
 use Rattle.std.specs.Prelude.{⊤, ◌==◌, ◌&&◌, nat_lt, if◌then◌else◌}
-use Rattle.raft_core.specs.Times.{Given, Times, end_call, end_vote_call, stand, step_down, times_after, win}
+use Rattle.raft_core.specs.Times.{HandedIn, Times, end_call, end_vote_call, stand, step_down, times_after, win}
 use Rattle.raft_model.specs.Moves.{Move, memory_after}
 use Rattle.raft_model.specs.Moves.Appending.{acknowledges, matched_memory}
 use Rattle.raft_model.specs.Moves.Appending.Verdict.{Added, Held, Outdated, Refused}
@@ -26,7 +26,7 @@ down_if : (lower : Bool) (now : ℕ) (role : Role) (first times : Times) → tim
 down_if true now role first times same = down now role first times same
 down_if false now role first times same = inl same
 
-module _ (members : List ℕ) (me number now : ℕ) (given : Given) (is : given.now ≡ now) (server : RaftServer) where
+module _ (members : List ℕ) (me number now : ℕ) (given : HandedIn) (is : given.now ≡ now) (server : RaftServer) where
   goes : (times : Times) (move : Move) → Goes now times (times_after members me given server move times)
   goes times TimeOut = by (has_quorum members (own_vote me)) where
     by : (quorum : Bool) → Goes now times (if quorum then win (stand given times) else stand given times)
@@ -76,7 +76,7 @@ pub record IsAwake (opening : ℕ) (m : Memory) (times : Times) (now : ℕ) : Ty
   pub wait : opening ≤ times.since
   pub follows : (m.role ≡ Follower) ⊎ (opening + 2000 ≤ now)
 
-module _ (opening : ℕ) (members : List ℕ) (me number now : ℕ) (given : Given) (is : given.now ≡ now) (server : RaftServer) (times : Times) where
+module _ (opening : ℕ) (members : List ℕ) (me number now : ℕ) (given : HandedIn) (is : given.now ≡ now) (server : RaftServer) (times : Times) where
   -- a follower stays one
   stays : server.memory.role ≡ Follower → opening ≤ times.since → (move : Move) → HasWaited times now move
       → ((memory_after members me number server move).role ≡ Follower) ⊎ (opening + 2000 ≤ now)

@@ -8,6 +8,7 @@ use Rattle.can_frame.specs.declared.step.What.{What}
 use Rattle.can_frame.specs.declared.step.What.TheVariants.{Alloc, AppQ, Info, VoteQ}
 use Rattle.can_frame.specs.Cutting.{piece_from}
 use Rattle.can_frame.specs.Identifier.{identifier_number, identifier_of}
+use Rattle.can_frame.specs.Timing.{call_timeout, election_wait, transfer_timeout}
 use Rattle.raft_model.specs.Lists.{In}
 use Rattle.replay_text.specs.declared.row.Row.{Row}
 use Rattle.replay_text.specs.declared.row.Row.TheVariants.{AOpen, ATick, ARx, Open, Rx, Send, Tick}
@@ -20,7 +21,7 @@ use Rattle.allocatee.specs.Allocatee.{Device}
 use Rattle.alloc_spec.specs.Accepted.{setting_for}
 use Rattle.alloc_spec.specs.Transfers.{SentTransfer, ident_of, number_of}
 use Rattle.cluster_spec.specs.Cluster.{Cluster, after_row, arrival_at, frame_at}
-use Rattle.cluster_spec.specs.Lawful.{is_members_service}
+use Rattle.alloc_spec.specs.Accepted.{is_members_service}
 use Rattle.cluster_spec.specs.Members.{MemberStatus}
 use Rattle.cluster_spec.specs.Members.MemberStatus.{Down, Failed, Up}
 
@@ -79,34 +80,41 @@ pub record ComesInTime (limits : Limits) (all : List Timed) (at : ℕ) (frame : 
 
 -- ---- rows
 
-abbrev pub OfIt : Bool → Type 0 → Type 0
-OfIt true A = A
-OfIt false A = ⊤
+-- what is asked where a row is of this allocatee, or of this member; of other rows nothing is
+abbrev pub WhereIts : Bool → Type 0 → Type 0
+WhereIts true A = A
+WhereIts false A = ⊤
 
 abbrev pub RowIsPhysical : Limits → List Timed → ℕ → List Reading → Cluster → ℕ → Row → Type 0
 RowIsPhysical limits all a past w at (ARx b k ms word) =
-    OfIt (a == b) (GoesOn limits past at (now_of (w.allocatee b) ms) × ComesInTime limits all at (frame_at w.frames k))
+    WhereIts (a == b) (GoesOn limits past at (now_of (w.allocatee b) ms) × ComesInTime limits all at (frame_at w.frames k))
 RowIsPhysical limits all a past w at row = ⊤
 
 -- each frame that allocatee a takes comes in time, and its clock had gone on by then; of its ticks nothing is asked
-abbrev pub ArePhysical : Limits → List Timed → ℕ → List Reading → Cluster → List Timed → Type 0
-ArePhysical limits all a past w [] = ⊤
-ArePhysical limits all a past w (timed ∷ rest) = RowIsPhysical limits all a past w timed.at timed.row
-    × ArePhysical limits all a (readings_after a past w timed.at timed.row) (after_row w timed.row) rest
+abbrev pub DeviceRowsArePhysical : Limits → List Timed → ℕ → List Reading → Cluster → List Timed → Type 0
+DeviceRowsArePhysical limits all a past w [] = ⊤
+DeviceRowsArePhysical limits all a past w (timed ∷ rest) = RowIsPhysical limits all a past w timed.at timed.row
+    × DeviceRowsArePhysical limits all a (readings_after a past w timed.at timed.row) (after_row w timed.row) rest
 
 -- ---- the members
 
 -- for so long after a transfer was made a receiver may put frames of it together with those of another one: they are
--- held, and it keeps a transfer that is begun for two seconds
+-- held, and it keeps a transfer that is begun for the transfer timeout
 abbrev pub joining_span : Limits → ℕ
-joining_span limits = limits.hold + 2000 + limits.drift
+joining_span limits = limits.hold + transfer_timeout + limits.drift
 
--- Two holds and the drift take less than 21 s, in which no transfer ID of vote requests comes round; and less than a
--- rest and 2,000 ms more, for which a member that is opened calls nobody. A clock goes wrong by less than 2,000 ms.
+-- No transfer ID of vote requests comes round sooner (21 s): the 32 requests to one member that make it
+-- come round take ten elections and one call more.
+abbrev pub vote_round : ℕ
+vote_round = 10 * election_wait + call_timeout
+
+-- Two holds and the drift are over before a transfer ID of vote requests comes round; and before a member that rested
+-- calls anybody, which no member does before its first wait for an election is over. A clock goes wrong by less than
+-- that wait.
 pub record HoldsAreShort (limits : Limits) : Type 0 where
-  pub round : 2 * limits.hold + limits.drift < 21000
-  pub rested : 2 * limits.hold + limits.drift < limits.rest + 2000
-  pub clock : limits.drift < 2000
+  pub round : 2 * limits.hold + limits.drift < vote_round
+  pub rested : 2 * limits.hold + limits.drift < limits.rest + election_wait
+  pub clock : limits.drift < election_wait
 
 -- so far apart, one way or the other
 abbrev pub AreApart : ℕ → ℕ → ℕ → Type 0
@@ -140,8 +148,8 @@ member_readings n past w at row = past
 
 -- what is asked of a reading, by the earlier ones, its time and its moment, is so of each one of member n
 abbrev pub ReadsAt : (List Reading → ℕ → ℕ → Type 0) → ℕ → List Reading → Cluster → ℕ → Row → Type 0
-ReadsAt Asked n past w at (Tick m ms word) = OfIt (n == m) (Asked past at (now_in (w.member m).status ms))
-ReadsAt Asked n past w at (Rx m k ms) = OfIt (n == m) (Asked past at (now_in (w.member m).status ms))
+ReadsAt Asked n past w at (Tick m ms word) = WhereIts (n == m) (Asked past at (now_in (w.member m).status ms))
+ReadsAt Asked n past w at (Rx m k ms) = WhereIts (n == m) (Asked past at (now_in (w.member m).status ms))
 ReadsAt Asked n past w at row = ⊤
 
 abbrev pub Reads : (List Reading → ℕ → ℕ → Type 0) → ℕ → List Reading → Cluster → List Timed → Type 0
@@ -235,7 +243,7 @@ ComesInOrder n heard frame = (other : Queued) (key : Key) → In other heard →
 
 -- what is asked of a frame, by those that were heard before, is so of each one of member n
 abbrev pub ComesAt : (List Queued → Queued → Type 0) → ℕ → List Queued → Cluster → Row → Type 0
-ComesAt Asked n heard w (Rx m k ms) = OfIt (n == m) (Asked heard (frame_at w.frames k))
+ComesAt Asked n heard w (Rx m k ms) = WhereIts (n == m) (Asked heard (frame_at w.frames k))
 ComesAt Asked n heard w row = ⊤
 
 abbrev pub Come : (List Queued → Queued → Type 0) → ℕ → List Queued → Cluster → List Row → Type 0
@@ -311,7 +319,7 @@ ComesInOrderToDevice heard frame = (other : Queued) (key : Key) → In other hea
     → other.mark.step ≤ frame.mark.step
 
 abbrev pub IsInOrderToDevice : ℕ → List Queued → Cluster → Row → Type 0
-IsInOrderToDevice a heard w (ARx b k ms word) = OfIt (a == b) (ComesInOrderToDevice heard (frame_at w.frames k))
+IsInOrderToDevice a heard w (ARx b k ms word) = WhereIts (a == b) (ComesInOrderToDevice heard (frame_at w.frames k))
 IsInOrderToDevice a heard w row = ⊤
 
 -- to allocatee a, which heard these before

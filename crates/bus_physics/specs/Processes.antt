@@ -7,25 +7,25 @@ use Rattle.cluster_spec.specs.declared.unlawful.Unlawful.{Unlawful}
 use Rattle.cluster_spec.specs.Cluster.{Cluster, after_row, after_rows}
 use Rattle.cluster_spec.specs.Lawful.{cause, is_forged, no_such_frame}
 use Rattle.cluster_spec.specs.Members.{is_running}
-use Rattle.cmd_node_laws.specs.Traces.{Came, Event, IsForeign, IsKilled, IsKilledAtOpening, MayOpen, MayTurn, OfAllocatee, Opens, Silence, Stops, Turns, WasSent, is_of_allocatee, rows_of}
+use Rattle.cmd_node_laws.specs.Traces.{Came, Event, FromElsewhere, DiesInTurn, DiesAtOpening, MayOpen, MayTurn, OfOthers, Opens, Silence, Stops, Turns, WasSent, is_of_others, rows_of}
 use Rattle.bus_physics.specs.Schedule.{is_of_bus}
 
 -- of a frame of the bus: that it was sent, and no more
 abbrev pub MayCome : Came → Cluster → Type 0
 MayCome Silence w = ⊤
 MayCome (WasSent k) w = no_such_frame w k ≡ None
-MayCome (IsForeign frame) w = is_forged w.ids (identifier_of frame.id) ≡ false
+MayCome (FromElsewhere frame) w = is_forged w.ids (identifier_of frame.id) ≡ false
 
 abbrev pub MayDo : Event → Cluster → Type 0
 MayDo (Opens n told moment word) w = MayOpen n w
-MayDo (IsKilledAtOpening n told moment word puts) w = MayOpen n w
+MayDo (DiesAtOpening n told moment word puts) w = MayOpen n w
 MayDo (Turns n moment word came) w = MayTurn n w × MayCome came (after_row w (Tick n moment word))
 MayDo (Stops n) w = MayTurn n w
-MayDo (IsKilled n moment word came puts) w =
+MayDo (DiesInTurn n moment word came puts) w =
     let ticked : Cluster = after_rows w (Crash n (4 * puts + 1) Old ∷ Tick n moment word ∷ []) in
     MayTurn n w × (is_running (ticked.member n).status ≡ true → MayCome came ticked)
-MayDo (OfAllocatee row) w =
-    (is_of_allocatee row ≡ true) × ((why : Unlawful) → cause w row ≡ Some why → is_of_bus why ≡ true)
+MayDo (OfOthers row) w =
+    (is_of_others row ≡ true) × ((why : Unlawful) → cause w row ≡ Some why → is_of_bus why ≡ true)
 
 abbrev pub MayAllDo : List Event → Cluster → Type 0
 MayAllDo [] w = ⊤

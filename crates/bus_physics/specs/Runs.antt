@@ -2,7 +2,7 @@
 use Rattle.std.specs.Prelude.{◌≡◌, ◌⊎◌, ℕ, List, [], ◌++◌}
 use Rattle.alloc_spec.specs.Rules.{Rules}
 use Rattle.cluster_spec.specs.Cluster.{AreMembers, cluster}
-use Rattle.cmd_node.specs.Opening.{Given}
+use Rattle.cmd_node.specs.Opening.{RunInput}
 use Rattle.cmd_node_laws.specs.Processes.{Point}
 use Rattle.cmd_node_laws.specs.Stands.{IsRunIn}
 use Rattle.cmd_node_laws.specs.Traces.{Event, MayAllHappen, all_rows}
@@ -13,7 +13,7 @@ use Rattle.bus_physics.specs.Schedule.{HappenOnBus, LosesFrames}
 -- The rows of the trace happen at these times on such a bus. All that `IsRunIn` asks holds, but that nothing which is
 -- taken from the bus is torn or stale: of that it is asked alone that it was sent.
 pub record IsRunOnBus (limits : Limits) (timed : List Timed) (ids : List ℕ) (before during : List Event) (rules : Rules)
-    (mine : List ℕ) (given : Given) (to : Point) : Type 0 where
+    (mine : List ℕ) (given : RunInput) (to : Point) : Type 0 where
   pub members : AreMembers ids
   pub short : HoldsAreShort limits
   pub times : rows_in timed ≡ all_rows (before ++ during) (cluster ids)
@@ -23,6 +23,6 @@ pub record IsRunOnBus (limits : Limits) (timed : List Timed) (ids : List ℕ) (b
 
 -- such a run stands in the trace, or a row of it is torn, since a transfer lost frames
 abbrev pub StandOnBus : Rules → List ℕ → Type 0
-StandOnBus rules mine = (limits : Limits) (timed : List Timed) (ids : List ℕ) (before during : List Event) (given : Given)
+StandOnBus rules mine = (limits : Limits) (timed : List Timed) (ids : List ℕ) (before during : List Event) (given : RunInput)
     (to : Point) → IsRunOnBus limits timed ids before during rules mine given to →
     IsRunIn ids before during rules mine given to ⊎ LosesFrames ids timed

@@ -7,7 +7,7 @@ use Rattle.cluster_spec.specs.declared.unlawful.Unlawful.TheVariants.{Stale, Tor
 use Rattle.cluster_spec.specs.Cluster.{Cluster, after_row, arrival_at, cluster, frame_at, world_of}
 use Rattle.cluster_spec.specs.Lawful.{Lawful, cause}
 use Rattle.cluster_spec.specs.Refinement.{transfers_of_rows}
-use Rattle.bus_physics.specs.Physics.{AllComeInTurn, AllocatesApart, ArePhysical, ClockGoesOn, ClockIsNotFast, ComeInOrderToDevice, ComesInOrderToDevice, ComesInTurn, FramesComeInTime, device_heard_by, Limits, RestsBeforeOpening, Timed, UsesIdsApart, heard_by, rows_in}
+use Rattle.bus_physics.specs.Physics.{AllComeInTurn, AllocatesApart, DeviceRowsArePhysical, ClockGoesOn, ClockIsNotFast, ComeInOrderToDevice, ComesInOrderToDevice, ComesInTurn, FramesComeInTime, device_heard_by, Limits, RestsBeforeOpening, Timed, UsesIdsApart, heard_by, rows_in}
 use Rattle.bus_physics.specs.Reuse.{LacksFrames}
 
 -- ---- the premises
@@ -26,7 +26,7 @@ pub record MemberHears (limits : Limits) (ids : List ℕ) (before : List Timed) 
 
 -- allocatee a receives frame k
 pub record DeviceHears (limits : Limits) (ids : List ℕ) (before : List Timed) (now : Timed) (a k : ℕ) : Type 0 where
-  pub comes : ArePhysical limits (before ++ now ∷ []) a [] (cluster ids) (before ++ now ∷ [])
+  pub comes : DeviceRowsArePhysical limits (before ++ now ∷ []) a [] (cluster ids) (before ++ now ∷ [])
   pub slow : AllocatesApart limits (before ++ now ∷ []) (transfers_of_rows (cluster ids) (rows_in before) [])
       (device_heard_by a (cluster ids) (rows_in before)) (ComeInOrderToDevice a [] (cluster ids) (rows_in before)
       × ComesInOrderToDevice (device_heard_by a (cluster ids) (rows_in before))

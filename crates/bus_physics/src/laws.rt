@@ -13,7 +13,7 @@ ghost use Rattle.cluster_spec.specs.Cluster.{AreMembers, arrival_at, cluster, fr
 ghost use Rattle.cluster_spec.specs.Lawful.{Lawful, cause, no_such_frame};
 ghost use Rattle.cluster_spec.specs.Refinement.{transfers_of_rows};
 ghost use Rattle.bus_physics.specs.Physics.{AllComeInTurn, ComesInTurn, ComesOnce};
-ghost use Rattle.bus_physics.specs.Physics.{AllocatesApart, AnswersInOrder, ArePhysical, ClockGoesOn, ComeInOrder};
+ghost use Rattle.bus_physics.specs.Physics.{AllocatesApart, AnswersInOrder, DeviceRowsArePhysical, ClockGoesOn, ComeInOrder};
 ghost use Rattle.bus_physics.specs.Physics.{ComeInOrderToDevice, ComesInOrderToDevice, device_heard_by};
 ghost use Rattle.bus_physics.specs.Physics.{ComesInOrder, FramesComeInTime};
 ghost use Rattle.bus_physics.specs.Physics.{ClockIsNotFast, HoldsAreShort, Limits, RestsBeforeOpening, Timed, UsesIdsApart, WaitsForAnswers, heard_by};
@@ -81,7 +81,7 @@ pub fn other_transfers_have_one_frame()
 pub fn a_device_puts_nothing_together_of_two()
     ensures { (limits : Limits) (ids : List ℕ) (before : List Timed) (now : Timed) (a k ms word : ℕ) →
         AreMembers ids → limits.drift < 58000 → now.row ≡ ARx a k ms word → Lawful (cluster ids) (rows_in before) →
-        ArePhysical limits (before ++ now ∷ []) a [] (cluster ids) (before ++ now ∷ []) →
+        DeviceRowsArePhysical limits (before ++ now ∷ []) a [] (cluster ids) (before ++ now ∷ []) →
         AllocatesApart limits (before ++ now ∷ []) (transfers_of_rows (cluster ids) (rows_in before) [])
         (device_heard_by a (cluster ids) (rows_in before)) (ComeInOrderToDevice a [] (cluster ids) (rows_in before) ×
         ComesInOrderToDevice (device_heard_by a (cluster ids) (rows_in before))
@@ -188,7 +188,7 @@ pub fn premises_can_be_met()
     ensures clock { ClockGoesOn some_limits 2 [] (cluster two) (first_rows ++ at_member ∷ []) }
     ensures comes { FramesComeInTime some_limits (first_rows ++ at_member ∷ []) (cluster two)
         (first_rows ++ at_member ∷ []) }
-    ensures physical { ArePhysical some_limits (first_rows ++ at_allocatee ∷ []) 1 [] (cluster two)
+    ensures physical { DeviceRowsArePhysical some_limits (first_rows ++ at_allocatee ∷ []) 1 [] (cluster two)
         (first_rows ++ at_allocatee ∷ []) }
     ensures apart { UsesIdsApart some_limits (first_rows ++ at_member ∷ [])
         (transfers_of_rows (cluster two) (rows_in first_rows) []) (heard_by 2 (cluster two) (rows_in first_rows)) 2 }

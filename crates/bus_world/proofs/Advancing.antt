@@ -21,8 +21,8 @@ use Rattle.alloc_spec.specs.Delivered.{StepResult}
 use Rattle.alloc_spec.specs.AllocatorState.{AllocatorState}
 use Rattle.alloc_server.specs.declared.server.Server.{Server}
 use Rattle.alloc_server.specs.Server.{StepsTo, disk_of, durable_of, fault_of}
-use Rattle.cluster_spec.specs.Report.{line_of_failure}
-use Rattle.cluster_spec.specs.ReportLine.ReportLine.{HasFailed, HasStepped, HasStopped}
+use Rattle.cluster_spec.specs.Report.{line_of_failure, line_of_outcome}
+use Rattle.replay_text.specs.ReportLine.ReportLine.{HasFailed, HasStopped}
 use Rattle.bus_world.specs.OnDisk.{IsClosedOn, IsUpOn}
 
 abbrev pub LawOfMemberPuts : Ghosts MemoryDisk → Type 0
@@ -66,12 +66,11 @@ module _ {F : Type 0} {disk : Ghosts MemoryDisk} (server new : Server MemoryDisk
       ap (λ (z : Bool). if z then HasStopped n else HasFailed n)
       (sym e ∙ ap (λ (calls : Calls). calls.stopped) (follows_err why steps).0.on.calls)
 
-pub told_same : (n : ℕ) (a b : View) (seen s : Seen) (sent l : List Sent) → a ≡ b → seen ≡ s → sent ≡ l
-    → HasStepped n a.role a.term a.last a.commit a.queued seen sent ≡ HasStepped n b.role b.term b.last b.commit b.queued s l
+-- the same numbers give the same line
+pub told_same : (n : ℕ) (a b : View) (seen s : Seen) (sent l : List Sent) → a ≡ b → seen ≡ s → sent ≡ l → line_of_outcome n a seen sent ≡ line_of_outcome n b s l
 told_same n a b seen s sent l e f g =
-    ap (λ (v : View). HasStepped n v.role v.term v.last v.commit v.queued seen sent) e
-    ∙ (ap (λ (x : Seen). HasStepped n b.role b.term b.last b.commit b.queued x sent) f
-    ∙ ap (λ (x : List Sent). HasStepped n b.role b.term b.last b.commit b.queued s x) g)
+    ap (λ (v : View). line_of_outcome n v seen sent) e
+    ∙ (ap (λ (x : Seen). line_of_outcome n b x sent) f ∙ ap (λ (x : List Sent). line_of_outcome n b s x) g)
 
 -- a server that had failed answers the same again
 pub again_by : (P : Fault → Type 0) (o : Option Fault) → IsSome o → IfSome o P → (why : Fault) × P why

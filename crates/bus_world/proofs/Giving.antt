@@ -19,7 +19,7 @@ use Rattle.alloc_spec_laws.specs.Giving as law
 use Rattle.alloc_spec.specs.StepState.{StepState, pairs}
 use Rattle.alloc_spec.specs.Step.{Event, step}
 use Rattle.alloc_spec.specs.AllocatorState.{AllocatorState}
-use Rattle.alloc_spec.specs.Transfers.{Given}
+use Rattle.alloc_spec.specs.Transfers.{GivenPair}
 use Rattle.alloc_server.specs.declared.server.Server.{Server}
 use Rattle.cluster_spec.specs.declared.unlawful.Unlawful.{Unlawful}
 use Rattle.cluster_spec.specs.declared.unlawful.Unlawful.TheVariants.{NoNode}
@@ -27,7 +27,7 @@ use Rattle.cluster_spec.specs.Cluster.{Cluster, effect_of, is_member, receipt_of
 use Rattle.cluster_spec.specs.Lawful.{because, cause, or_else}
 use Rattle.cluster_spec.specs.Members.{MemberStatus, Member as MemberState, after_cut_off, puts_of, member_after_step}
 use Rattle.cluster_spec.specs.Members.MemberStatus.{Down, Up, Failed}
-use Rattle.cluster_spec.specs.Promise.{AreOwn, OffersItsOwn, pairs_of_step}
+use Rattle.cluster_spec.specs.OwnLogs.{AreOwn, OffersItsOwn, pairs_of_step}
 use Rattle.bus_world.specs.OnDisk.{IsUpOn}
 use Rattle.bus_world.specs.Places.{HasStatus}
 use Rattle.bus_world.specs.Stands.{StandsFor as StandsForMember}
@@ -39,7 +39,7 @@ use Rattle.bus_world.proofs.Promising.{one_of, same_log}
 
 abbrev pub LawOfPairs : Type 0
 LawOfPairs = (t : AllocatorState) (number : ℕ) (event : Event) → t.raft_server.store.commit ≤ length t.raft_server.store.log →
-    (given : Given) → In given (pairs (step t number event).step_state) →
+    (given : GivenPair) → In given (pairs (step t number event).step_state) →
     law.IsGivenIn (committed (step t number event).step_state.allocator.raft_server.store) given
 
 -- ---- the commit index lies in the log
@@ -91,7 +91,7 @@ formed_at {F} own c are ids n there =
 -- ---- a step
 
 -- an entry that is given to a device is a pair
-own_pair : (store : Store) (given : Given) → ((place : ℕ) → place < length store.log → IsWellFormed (slice_index_or store.log place (blank 0)))
+own_pair : (store : Store) (given : GivenPair) → ((place : ℕ) → place < length store.log → IsWellFormed (slice_index_or store.log place (blank 0)))
     → law.IsGivenIn (committed store) given → HasPair (committed store) given.0 given.1
 own_pair store given formed is =
     let few : is.place < store.commit = grind (arith, length-take, is.inside) in

@@ -14,7 +14,7 @@ use Rattle.alloc_server.specs.declared.server.Server.{Server}
 use Rattle.cluster_spec.specs.Cluster.{Cluster}
 use Rattle.cluster_spec.specs.Members.{MemberStatus}
 use Rattle.cluster_spec.specs.Members.MemberStatus.{Down, Up, Failed}
-use Rattle.cluster_spec.specs.Promise.{GivesOnce, log_on}
+use Rattle.cluster_spec.specs.OwnLogs.{GivesOnce, log_on}
 use Rattle.bus_world.specs.OnDisk.{IsUpOn}
 use Rattle.bus_world.specs.Places.{HasStatus}
 use Rattle.bus_world.specs.Stands.{StandsFor as StandsForMember}

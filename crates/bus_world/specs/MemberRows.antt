@@ -6,7 +6,7 @@ use Rattle.cluster_spec.specs.declared.unlawful.Unlawful.{Unlawful}
 use Rattle.cluster_spec.specs.Cluster.{Cluster, effect_of}
 use Rattle.cluster_spec.specs.Lawful.{cause}
 use Rattle.cluster_spec.specs.Report.{line_of_row as told_by}
-use Rattle.cluster_spec.specs.ReportLine.{report_line_of}
+use Rattle.replay_text.specs.ReportLine.{report_line_of}
 use Rattle.bus_world.specs.Members.{Holds, StandsFor}
 use Rattle.bus_world.specs.declared.members.Members.{Members}
 

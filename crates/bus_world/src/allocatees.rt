@@ -2,12 +2,10 @@
 
 ghost use Rattle.std.specs.Prelude.{◌≡◌, ◌<◌, suc, None, Some, IfOk, IfErr, IsErr, OnOk, length};
 ghost use Rattle.replay_text.specs.declared.row.Row.TheVariants.{AOpen, ATick, ARx, ASend, AEnd};
-ghost use Rattle.transfer_rx.specs.Acceptance.{AnswersByRows};
-ghost use Rattle.transfer_rx.specs.Memory.{ReceiverFitsInMemory};
-ghost use Rattle.allocatee.specs.Accepted as accepted;
 ghost use Rattle.allocatee.specs.Stands.{event_of};
 ghost use Rattle.cluster_spec.specs.Cluster.{Cluster, receipt_at};
 ghost use Rattle.cluster_spec.specs.Lawful.{absent, cause, no_allocatee, or_else, present};
+ghost use Rattle.cluster_spec.specs.Receivers.{AllocateeReceives};
 
 use crate::rows::copy_of;
 use crate::world::World;
@@ -83,9 +81,7 @@ impl<F: Fn(Kind, u16) -> Option<u64> + Copy, G: Fn(Kind, u16) -> Option<u64> + C
         word: u32,
     ) -> Result<Told, Unlawful>
         requires preferred { preferred < 128 }
-        requires memory { ReceiverFitsInMemory G.row 8 8 }
-        requires callable { G.IsAlwaysCallable self.old.accept }
-        requires answers { AnswersByRows (G.post self.old.accept) accepted.rows }
+        requires receives { AllocateeReceives G.row G.IsAlwaysCallable G.post self.old.accept }
         ensures refused { IfErr result (Refuses self.old (AOpen a uid preferred moment word)) }
         ensures told { IfOk result (Tells self.old (AOpen a uid preferred moment word)) }
         ensures leaves { OnOk result (Leaves self.old self.new
@@ -105,9 +101,7 @@ impl<F: Fn(Kind, u16) -> Option<u64> + Copy, G: Fn(Kind, u16) -> Option<u64> + C
 
     /// An allocatee reads its clock.
     pub(crate) fn ask(&mut self, a: u8, moment: u64, word: u32) -> Result<Told, Unlawful>
-        requires memory { ReceiverFitsInMemory G.row 8 8 }
-        requires callable { G.IsAlwaysCallable self.old.accept }
-        requires answers { AnswersByRows (G.post self.old.accept) accepted.rows }
+        requires receives { AllocateeReceives G.row G.IsAlwaysCallable G.post self.old.accept }
         requires room { self.old.members.taken < 18446744073709551615 }
         ensures refused { IfErr result (Refuses self.old (ATick a moment word)) }
         ensures told { IfOk result (Tells self.old (ATick a moment word)) }
@@ -127,9 +121,7 @@ impl<F: Fn(Kind, u16) -> Option<u64> + Copy, G: Fn(Kind, u16) -> Option<u64> + C
 
     /// An allocatee receives frame `k`.
     pub(crate) fn hear(&mut self, a: u8, k: u32, moment: u64, word: u32) -> Result<Told, Unlawful>
-        requires memory { ReceiverFitsInMemory G.row 8 8 }
-        requires callable { G.IsAlwaysCallable self.old.accept }
-        requires answers { AnswersByRows (G.post self.old.accept) accepted.rows }
+        requires receives { AllocateeReceives G.row G.IsAlwaysCallable G.post self.old.accept }
         requires room { self.old.members.taken < 18446744073709551615 }
         ensures refused { IfErr result (Refuses self.old (ARx a k moment word)) }
         ensures told { IfOk result (Tells self.old (ARx a k moment word)) }
@@ -146,9 +138,7 @@ impl<F: Fn(Kind, u16) -> Option<u64> + Copy, G: Fn(Kind, u16) -> Option<u64> + C
 
     /// Where the allocatee stands that may take a frame, and the event that it is.
     fn coming(&self, a: u8, k: u32, moment: u64, word: u32) -> Result<(usize, AEvent), Unlawful>
-        requires memory { ReceiverFitsInMemory G.row 8 8 }
-        requires callable { G.IsAlwaysCallable self.now.accept }
-        requires answers { AnswersByRows (G.post self.now.accept) accepted.rows }
+        requires receives { AllocateeReceives G.row G.IsAlwaysCallable G.post self.now.accept }
         ensures place { IfOk result (λ found. suc found.0 ≡ a) }
         ensures inside { IfOk result (λ found. found.0 < 8) }
         ensures event { IfOk result (λ found. (c : Cluster) → StandsFor self.now c →

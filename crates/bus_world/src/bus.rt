@@ -3,18 +3,15 @@
 ghost use Rattle.std.specs.Prelude.{◌≡◌, ◌≤◌, ◌<◌, ◌+◌, ◌++◌, ◌∷◌, [], None, Some, IfOk, IfErr, IsErr, OnOk, length, vec_capacity};
 ghost use Rattle.can_frame.specs.Identifier.{identifier_of};
 ghost use Rattle.replay_text.specs.declared.row.Row.TheVariants.{Rx, Send, Ext};
-ghost use Rattle.transfer_rx.specs.Acceptance.{AnswersByRows};
-ghost use Rattle.transfer_rx.specs.Memory.{ReceiverFitsInMemory};
-ghost use Rattle.alloc_spec.specs.Accepted as accepted;
 ghost use Rattle.alloc_server.specs.Server.{event_of};
 ghost use Rattle.cluster_spec.specs.Cluster.{Cluster, receipt_of};
 ghost use Rattle.cluster_spec.specs.Lawful.{cause, is_forged, no_node, not_running, or_else};
+ghost use Rattle.cluster_spec.specs.Receivers.{MemberReceives};
 
 use crate::members::Members;
 use alloc_server::Event;
-use can_frame::{
-    ALLOCATION, APPEND_ENTRIES, DISCOVERY, Frame, Ident, Judged, Kind, Mark, REQUEST_VOTE,
-};
+use alloc_spec::is_of_members;
+use can_frame::{Frame, Ident, Judged, Kind, Mark};
 use cluster_spec::Unlawful;
 use replay_text::Told;
 use transfer_tx::Marked;
@@ -25,9 +22,7 @@ impl<F: Fn(Kind, u16) -> Option<u64> + Copy> Members<F> {
 
     /// A running member receives frame `k`.
     pub(crate) fn receive(&mut self, n: u8, k: u32, moment: u64) -> Result<Told, Unlawful>
-        requires memory { ReceiverFitsInMemory F.row 160 128 }
-        requires callable { F.IsAlwaysCallable self.old.accept }
-        requires answers { AnswersByRows (F.post self.old.accept) accepted.rows }
+        requires receives { MemberReceives F.row F.IsAlwaysCallable F.post self.old.accept }
         requires room { self.old.taken < 18446744073709551615 }
         ensures refused { IfErr result (Refuses self.old (Rx n k moment)) }
         ensures told { IfOk result (Tells self.old (Rx n k moment)) }
@@ -44,9 +39,7 @@ impl<F: Fn(Kind, u16) -> Option<u64> + Copy> Members<F> {
 
     /// The member that may take a frame, and the event that it is.
     fn arrival(&self, n: u8, k: u32, moment: u64) -> Result<(usize, Event), Unlawful>
-        requires memory { ReceiverFitsInMemory F.row 160 128 }
-        requires callable { F.IsAlwaysCallable self.now.accept }
-        requires answers { AnswersByRows (F.post self.now.accept) accepted.rows }
+        requires receives { MemberReceives F.row F.IsAlwaysCallable F.post self.now.accept }
         ensures place { IfOk result (λ found. place_of self.now.members.items n ≡ Some found.0) }
         ensures inside { IfOk result (λ found. found.0 < length self.now.members.items) }
         ensures event { IfOk result (λ found. (c : Cluster) → StandsFor self.now c →
@@ -132,16 +125,7 @@ impl<F: Fn(Kind, u16) -> Option<u64> + Copy> Members<F> {
         };
         match ident.kind {
             Kind::Anonymous => false,
-            Kind::Message => {
-                self.is_member(ident.source)
-                    || ident.number == DISCOVERY.number
-                    || ident.number == ALLOCATION.number
-            }
-            Kind::Request | Kind::Response => {
-                self.is_member(ident.source)
-                    || ident.number == APPEND_ENTRIES.number
-                    || ident.number == REQUEST_VOTE.number
-            }
+            kind => self.is_member(ident.source) || is_of_members(kind, ident.number),
         }
     }
 }

@@ -1,7 +1,7 @@
 ghost use Rattle.std.specs.Prelude.{◌≡◌, ◌≤◌, ◌<◌, ℕ, true, false, length, IsNone, option_map, if◌then◌else◌};
+ghost use Rattle.can_frame.specs.Sizes.{blocks, most_members, sessions};
 ghost use Rattle.kv_store.specs.KeyDisk.{KeyDisk, restarted_on};
 ghost use Rattle.raft_log.specs.Stored.{Stored};
-ghost use Rattle.transfer_rx.specs.Acceptance.{AnswersByRows};
 ghost use Rattle.transfer_rx.specs.Memory.{ReceiverFitsInMemory};
 ghost use Rattle.transfer_rx.specs.Reassembly.{arrival_of};
 ghost use Rattle.transfer_tx.specs.Views.{queued_of};
@@ -11,9 +11,10 @@ ghost use Rattle.alloc_server.specs.Server.{event_of};
 ghost use Rattle.cluster_spec.specs.Lawful.{arrival_refusal, cause_of_judgement};
 ghost use Rattle.cluster_spec.specs.Members.{Member as MemberState, after_sending, with_stop_armed, with_failure_armed, fresh_member, is_running, next_frame, after_opening as opened_member, member_after_step as stepped_member, stopped_with};
 ghost use Rattle.cluster_spec.specs.Members.MemberStatus.{Down};
+ghost use Rattle.cluster_spec.specs.Receivers.{MemberReceives};
 ghost use Rattle.cluster_spec.specs.Report.{line_of_failure, running_entry, running_view, line_of_opening, line_of_step};
-ghost use Rattle.cluster_spec.specs.ReportLine.{is_stop, report_line_of};
-ghost use Rattle.cluster_spec.specs.ReportLine.ReportLine.{HasOpened, HasStopped, IsArmed};
+ghost use Rattle.replay_text.specs.ReportLine.{is_stop, report_line_of};
+ghost use Rattle.replay_text.specs.ReportLine.ReportLine.{HasOpened, HasStopped, WasArmed};
 ghost use Rattle.bus_world.specs.Patterns.{IsFilled};
 
 use crate::patterns::copy_of;
@@ -54,11 +55,9 @@ impl<F: Fn(Kind, u16) -> Option<u64> + Copy> Member<F> {
         requires least { 1 ≤ id }
         requires most { id ≤ 125 }
         requires some { 1 ≤ size }
-        requires five { size ≤ 5 }
+        requires five { size ≤ most_members }
         requires rows { rows.items ≡ accepted.rows }
-        requires memory { ReceiverFitsInMemory F.row 160 128 }
-        requires callable { F.IsAlwaysCallable accept }
-        requires answers { AnswersByRows (F.post accept) rows.items }
+        requires receives { MemberReceives F.row F.IsAlwaysCallable F.post accept }
         ensures stands { StandsFor result fresh_member }
         ensures id { result.id ≡ id }
         ensures accepts { closure_of result.place ≡ accept }
@@ -86,9 +85,9 @@ impl<F: Fn(Kind, u16) -> Option<u64> + Copy> Member<F> {
     /// has them.
     pub fn open(&mut self, size: u8, told: &[u8], moment: u64, word: u32) -> Told
         requires some { 1 ≤ size }
-        requires five { size ≤ 5 }
-        requires few { length told.now ≤ 5 }
-        requires memory { ReceiverFitsInMemory F.row 160 128 }
+        requires five { size ≤ most_members }
+        requires few { length told.now ≤ most_members }
+        requires memory { ReceiverFitsInMemory F.row sessions blocks }
         ensures told { (x : MemberState) → StandsFor self.old x → is_running x.status ≡ false →
             report_line_of result ≡ line_of_opening self.old.id x.disk }
         ensures stands { (x : MemberState) → StandsFor self.old x → is_running x.status ≡ false →
@@ -130,9 +129,7 @@ impl<F: Fn(Kind, u16) -> Option<u64> + Copy> Member<F> {
 
     /// A step with a number. It may end in a stop, and then the member is stopped, or in a failure.
     pub fn step(&mut self, event: Event, number: u64) -> Told
-        requires memory { ReceiverFitsInMemory F.row 160 128 }
-        requires callable { F.IsAlwaysCallable (closure_of self.old.place) }
-        requires answers { AnswersByRows (F.post (closure_of self.old.place)) accepted.rows }
+        requires receives { MemberReceives F.row F.IsAlwaysCallable F.post (closure_of self.old.place) }
         ensures told { (x : MemberState) → StandsFor self.old x → is_running x.status ≡ true →
             report_line_of result ≡ line_of_step self.old.id number (event_of event) x.status x }
         ensures stands { (x : MemberState) → StandsFor self.old x → is_running x.status ≡ true →
@@ -162,9 +159,7 @@ impl<F: Fn(Kind, u16) -> Option<u64> + Copy> Member<F> {
 
     /// What a frame would deliver. Nothing changes.
     pub fn judge(&self, frame: &Frame, mark: Mark, moment: u64) -> Judged
-        requires memory { ReceiverFitsInMemory F.row 160 128 }
-        requires callable { F.IsAlwaysCallable (closure_of self.now.place) }
-        requires answers { AnswersByRows (F.post (closure_of self.now.place)) accepted.rows }
+        requires receives { MemberReceives F.row F.IsAlwaysCallable F.post (closure_of self.now.place) }
         ensures { (x : MemberState) → StandsFor self.now x →
             cause_of_judgement result ≡ arrival_refusal x.status (arrival_of frame.now mark moment) }
     {
@@ -189,7 +184,7 @@ impl<F: Fn(Kind, u16) -> Option<u64> + Copy> Member<F> {
     /// Its disk stops in place of that call of it.
     pub fn stop_at(&mut self, call: u32, pattern: &Pattern) -> Told
         requires { IsFilled pattern.now }
-        ensures told { report_line_of result ≡ IsArmed self.old.id }
+        ensures told { report_line_of result ≡ WasArmed self.old.id }
         ensures stands { (x : MemberState) → StandsFor self.old x →
             StandsFor self.new (with_stop_armed call pattern.now x) }
         ensures id { self.new.id ≡ self.old.id }
@@ -202,7 +197,7 @@ impl<F: Fn(Kind, u16) -> Option<u64> + Copy> Member<F> {
 
     /// That call of its disk fails.
     pub fn fail_at(&mut self, call: u32) -> Told
-        ensures told { report_line_of result ≡ IsArmed self.old.id }
+        ensures told { report_line_of result ≡ WasArmed self.old.id }
         ensures stands { (x : MemberState) → StandsFor self.old x →
             StandsFor self.new (with_failure_armed call x) }
         ensures id { self.new.id ≡ self.old.id }

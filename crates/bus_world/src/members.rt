@@ -1,8 +1,8 @@
 ghost use Rattle.std.specs.Prelude.{◌≡◌, ◌≤◌, ◌<◌, ◌+◌, ◌++◌, ◌∷◌, [], ◌↔◌, ◌^◌, ℕ, IfOk, IfErr, IfSome, OnOk, length, slice_index_or, vec_capacity};
-ghost use Rattle.transfer_rx.specs.Acceptance.{AnswersByRows};
-ghost use Rattle.transfer_rx.specs.Memory.{ReceiverFitsInMemory};
+ghost use Rattle.can_frame.specs.Sizes.{most_members};
 ghost use Rattle.alloc_spec.specs.Accepted as accepted;
 ghost use Rattle.cluster_spec.specs.Cluster.{AreMembers, Cluster, cluster};
+ghost use Rattle.cluster_spec.specs.Receivers.{MemberReceives};
 ghost use Rattle.cluster_spec.specs.Report.{entry_of, view_at};
 ghost use Rattle.cluster_spec.specs.declared.unlawful.WorldFault.TheVariants.{BadIds};
 ghost use Rattle.bus_world.specs.Fresh.{AreFresh};
@@ -38,7 +38,7 @@ pub(crate) struct Members<F> {
     ghost fits: { length frames.items ≤ room },
     ghost kept: { room ≤ vec_capacity frames },
     ghost some: { 1 ≤ length members.items },
-    ghost five: { length members.items ≤ 5 },
+    ghost five: { length members.items ≤ most_members },
     ghost alike: { (i : ℕ) (d : Member F) → i < length members.items →
         closure_of (slice_index_or members.items i d).place ≡ accept },
 }
@@ -58,9 +58,7 @@ impl<F: Fn(Kind, u16) -> Option<u64> + Copy> Members<F> {
     ) -> Result<Members<F>, WorldFault>
         requires frames { frames < 2 ^ 32 }
         requires rows { rows.items ≡ accepted.rows }
-        requires memory { ReceiverFitsInMemory F.row 160 128 }
-        requires callable { F.IsAlwaysCallable accept }
-        requires answers { AnswersByRows (F.post accept) rows.items }
+        requires receives { MemberReceives F.row F.IsAlwaysCallable F.post accept }
         ensures stands { IfOk result (λ world. StandsFor world (cluster ids.now)) }
         ensures frames { IfOk result (λ world. frames_left world ≡ frames) }
         ensures room { IfOk result (λ world. frame_room world ≡ frames) }
@@ -145,9 +143,7 @@ fn stopped_members<F: Fn(Kind, u16) -> Option<u64> + Copy>(
 ) -> Option<Vec<Member<F>>>
     requires members { AreMembers ids.now }
     requires rows { rows.now.items ≡ accepted.rows }
-    requires memory { ReceiverFitsInMemory F.row 160 128 }
-    requires callable { F.IsAlwaysCallable accept }
-    requires answers { AnswersByRows (F.post accept) accepted.rows }
+    requires receives { MemberReceives F.row F.IsAlwaysCallable F.post accept }
     ensures { IfSome result (λ members. AreFresh ids.now accept members.items) }
 {
     let Ok(mut members) = Vec::with_capacity(alloc, ids.len()) else {

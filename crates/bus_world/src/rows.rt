@@ -1,19 +1,20 @@
 //! The rows that are for one member.
 
 ghost use Rattle.std.specs.Prelude.{◌≡◌, ◌<◌, ◌≤◌, length, IfOk, IfErr, IsErr, OnOk};
+ghost use Rattle.can_frame.specs.Sizes.{blocks, most_members, sessions};
 ghost use Rattle.replay_text.specs.declared.row.Row.TheVariants.{Open, Tick, Crash, Fault};
-ghost use Rattle.transfer_rx.specs.Acceptance.{AnswersByRows};
 ghost use Rattle.transfer_rx.specs.Memory.{ReceiverFitsInMemory};
-ghost use Rattle.alloc_spec.specs.Accepted as accepted;
 ghost use Rattle.bus_world.specs.Members.{ids_of};
 ghost use Rattle.bus_world.specs.Patterns.{IsFilled};
 ghost use Rattle.cluster_spec.specs.Cluster.{rules_of};
+ghost use Rattle.cluster_spec.specs.Receivers.{MemberReceives};
 
 use crate::member::Member;
 use crate::members::Members;
 use alloc_server::Event;
 use arrayvec::ArrayVec;
 use can_frame::Kind;
+use can_frame::sizes::MOST_MEMBERS;
 use cluster_spec::Unlawful;
 use outside::Pattern;
 use replay_text::Told;
@@ -30,7 +31,7 @@ impl<F: Fn(Kind, u16) -> Option<u64> + Copy> Members<F> {
         moment: u64,
         word: u32,
     ) -> Result<Told, Unlawful>
-        requires memory { ReceiverFitsInMemory F.row 160 128 }
+        requires memory { ReceiverFitsInMemory F.row sessions blocks }
         ensures refused { IfErr result (Refuses self.old (Open n told moment word)) }
         ensures told { IfOk result (Tells self.old (Open n told moment word)) }
         ensures leaves { OnOk result (Leaves self.old self.new (Open n told moment word)) }
@@ -48,9 +49,7 @@ impl<F: Fn(Kind, u16) -> Option<u64> + Copy> Members<F> {
 
     /// A running member reads its clock.
     pub(crate) fn tick(&mut self, n: u8, moment: u64, word: u32) -> Result<Told, Unlawful>
-        requires memory { ReceiverFitsInMemory F.row 160 128 }
-        requires callable { F.IsAlwaysCallable self.old.accept }
-        requires answers { AnswersByRows (F.post self.old.accept) accepted.rows }
+        requires receives { MemberReceives F.row F.IsAlwaysCallable F.post self.old.accept }
         requires room { self.old.taken < 18446744073709551615 }
         ensures refused { IfErr result (Refuses self.old (Tick n moment word)) }
         ensures told { IfOk result (Tells self.old (Tick n moment word)) }
@@ -102,10 +101,10 @@ impl<F: Fn(Kind, u16) -> Option<u64> + Copy> Members<F> {
 }
 
 /// Whom a member is told: all of these members, in their order, or nobody.
-fn told_ids<F>(members: &[Member<F>], told: bool) -> ArrayVec<u8, 5>
-    requires { length members.now ≤ 5 }
+fn told_ids<F>(members: &[Member<F>], told: bool) -> ArrayVec<u8, MOST_MEMBERS>
+    requires { length members.now ≤ most_members }
     ensures told { result.items ≡ (rules_of (ids_of members.now) told).told }
-    ensures few { length result.items ≤ 5 }
+    ensures few { length result.items ≤ most_members }
 {
     if told {
         ids_of(members)
@@ -115,10 +114,10 @@ fn told_ids<F>(members: &[Member<F>], told: bool) -> ArrayVec<u8, 5>
 }
 
 /// The node IDs of these members, in their order.
-fn ids_of<F>(members: &[Member<F>]) -> ArrayVec<u8, 5>
-    requires { length members.now ≤ 5 }
+fn ids_of<F>(members: &[Member<F>]) -> ArrayVec<u8, MOST_MEMBERS>
+    requires { length members.now ≤ most_members }
     ensures ids { result.items ≡ ids_of members.now }
-    ensures few { length result.items ≤ 5 }
+    ensures few { length result.items ≤ most_members }
 {
     let mut ids = ArrayVec::new();
     for member in members {

@@ -1,6 +1,4 @@
 ghost use Rattle.std.specs.Prelude.{◌≡◌, ◌<◌, None, Some, Option, IsNone, is_some, option_map};
-ghost use Rattle.transfer_rx.specs.Acceptance.{AnswersByRows};
-ghost use Rattle.transfer_rx.specs.Memory.{ReceiverFitsInMemory};
 ghost use Rattle.transfer_rx.specs.Reassembly.{arrival_of};
 ghost use Rattle.transfer_tx.specs.Views.{queued_of};
 ghost use Rattle.allocatee.specs.Accepted as accepted;
@@ -8,9 +6,10 @@ ghost use Rattle.allocatee.specs.Allocatee.{Device, opening};
 ghost use Rattle.allocatee.specs.Stands.{event_of};
 ghost use Rattle.cluster_spec.specs.Allocatees.{after_sending_from, next_from, device_after_step};
 ghost use Rattle.cluster_spec.specs.Lawful.{arrival_refusal_at, cause_of_judgement};
+ghost use Rattle.cluster_spec.specs.Receivers.{AllocateeReceives};
 ghost use Rattle.cluster_spec.specs.Report.{line_of_step_at};
-ghost use Rattle.cluster_spec.specs.ReportLine.{report_line_of};
-ghost use Rattle.cluster_spec.specs.ReportLine.ReportLine.{HasCome, HasLeft};
+ghost use Rattle.replay_text.specs.ReportLine.{report_line_of};
+ghost use Rattle.replay_text.specs.ReportLine.ReportLine.{HasCome, HasLeft};
 
 use allocatee::{AEvent, Allocatee};
 use arrayvec::ArrayVec;
@@ -55,9 +54,7 @@ impl<G: Fn(Kind, u16) -> Option<u64> + Copy> Seat<G> {
     ) -> Told
         requires preferred { preferred < 128 }
         requires rows { rows.items ≡ accepted.rows }
-        requires memory { ReceiverFitsInMemory G.row 8 8 }
-        requires callable { G.IsAlwaysCallable accept }
-        requires answers { AnswersByRows (G.post accept) rows.items }
+        requires receives { AllocateeReceives G.row G.IsAlwaysCallable G.post accept }
         ensures told { report_line_of result ≡ HasCome a }
         ensures stands { StandsFor self.new (Some (opening uid preferred moment word)) }
         ensures accepts { Accepts self.new accept }
@@ -68,10 +65,7 @@ impl<G: Fn(Kind, u16) -> Option<u64> + Copy> Seat<G> {
 
     /// The allocatee takes an event, in the step with this number; what that tells.
     pub fn step(&mut self, a: u8, event: AEvent, number: u64) -> Told
-        requires memory { ReceiverFitsInMemory G.row 8 8 }
-        requires callable { Serves (λ accept. G.IsAlwaysCallable accept) self.old }
-        requires answers { Serves (λ accept. AnswersByRows (G.post accept) accepted.rows)
-            self.old }
+        requires receives { Serves (AllocateeReceives G.row G.IsAlwaysCallable G.post) self.old }
         ensures told { (x : Option Device) → StandsFor self.old x →
             report_line_of result ≡ line_of_step_at a number (event_of event) x }
         ensures stands { (x : Option Device) → StandsFor self.old x →
@@ -95,10 +89,7 @@ impl<G: Fn(Kind, u16) -> Option<u64> + Copy> Seat<G> {
 
     /// Whether a frame may be given to the allocatee. Nothing changes.
     pub fn judge(&self, frame: &Frame, mark: Mark, moment: u64) -> Judged
-        requires memory { ReceiverFitsInMemory G.row 8 8 }
-        requires callable { Serves (λ accept. G.IsAlwaysCallable accept) self.now }
-        requires answers { Serves (λ accept. AnswersByRows (G.post accept) accepted.rows)
-            self.now }
+        requires receives { Serves (AllocateeReceives G.row G.IsAlwaysCallable G.post) self.now }
         ensures { (x : Option Device) → StandsFor self.now x →
             cause_of_judgement result ≡ arrival_refusal_at x (arrival_of frame.now mark moment) }
     {

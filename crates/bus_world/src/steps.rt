@@ -3,19 +3,18 @@ ghost use Rattle.kv_store.specs.KeyDisk.{KeyDisk};
 ghost use Rattle.raft_core.specs.StoredPuts.{stored_puts};
 ghost use Rattle.raft_log.specs.KeyDisk.{are_put, puts_on};
 ghost use Rattle.raft_log.specs.Stored.{Stored};
-ghost use Rattle.transfer_rx.specs.Acceptance.{AnswersByRows};
-ghost use Rattle.transfer_rx.specs.Memory.{ReceiverFitsInMemory};
-ghost use Rattle.alloc_spec.specs.Accepted as accepted;
 ghost use Rattle.alloc_spec.specs.Step.{step as step_of};
 ghost use Rattle.alloc_spec.specs.AllocatorState.{AllocatorState, view_of};
 ghost use Rattle.alloc_server.specs.Server.{accepts, event_of};
+ghost use Rattle.cluster_spec.specs.Receivers.{MemberReceives};
 ghost use Rattle.cluster_spec.specs.Report.{line_of_failure, line_of_view};
-ghost use Rattle.cluster_spec.specs.ReportLine.{report_line_of};
-ghost use Rattle.cluster_spec.specs.ReportLine.ReportLine.{HasFailed, HasStepped};
+ghost use Rattle.replay_text.specs.ReportLine.{report_line_of};
+ghost use Rattle.replay_text.specs.ReportLine.ReportLine.{HasFailed};
 ghost use Rattle.bus_world.specs.OnDisk.{HasFailedOn, IsClosedOn, IsUpOn};
 
-use alloc_server::{Event, Outcome, Server, View};
+use alloc_server::{Event, Server};
 use can_frame::Kind;
+use cluster_spec::told_of_step;
 use disk_model::MemoryDisk;
 use raft_log::laws::a_member_on_the_disk_by_states;
 use replay_text::Told;
@@ -27,9 +26,7 @@ pub(crate) fn advance<F: Fn(Kind, u16) -> Option<u64> + Copy>(
     event: Event,
     number: u64,
 ) -> Told
-    requires memory { ReceiverFitsInMemory F.row 160 128 }
-    requires callable { F.IsAlwaysCallable (accepts server.old) }
-    requires answers { AnswersByRows (F.post (accepts server.old)) accepted.rows }
+    requires receives { MemberReceives F.row F.IsAlwaysCallable F.post (accepts server.old) }
     ensures finished { (t : AllocatorState) (key_disk : KeyDisk Stored) → IsUpOn server.old t key_disk →
         let step_result = step_of t number (event_of event) in
         let puts = stored_puts step_result.step_state.puts key_disk.store in are_put puts key_disk.calls ≡ true →
@@ -46,7 +43,7 @@ pub(crate) fn advance<F: Fn(Kind, u16) -> Option<u64> + Copy>(
 {
     a_member_on_the_disk_by_states();
     match server.step(event, number) {
-        Ok(outcome) => stepped(n, server.view(), outcome),
+        Ok(outcome) => told_of_step(n, server.view(), outcome),
         Err(_) => {
             if server.stopped() {
                 Told::Stopped { n }
@@ -54,22 +51,5 @@ pub(crate) fn advance<F: Fn(Kind, u16) -> Option<u64> + Copy>(
                 Told::Failed { n }
             }
         }
-    }
-}
-
-/// What a step tells, with the numbers after it.
-fn stepped(n: u8, view: View, outcome: Outcome) -> Told
-    ensures { report_line_of result ≡ HasStepped n view.role view.term view.last view.commit
-        view.queued outcome.seen outcome.sent.items }
-{
-    Told::Stepped {
-        n,
-        role: view.role,
-        term: view.term,
-        last: view.last,
-        commit: view.commit,
-        queued: view.queued,
-        seen: outcome.seen,
-        sent: outcome.sent,
     }
 }

@@ -3,8 +3,6 @@ ghost use Rattle.disk_model.specs.Pattern.{IsUsable};
 ghost use Rattle.outside.specs.declared.pattern.Pattern.{Pattern};
 ghost use Rattle.replay_text.specs.declared.row.Row.{Row};
 ghost use Rattle.replay_text.specs.declared.row.Row.TheVariants.{AOpen, Crash};
-ghost use Rattle.transfer_rx.specs.Acceptance.{AnswersByRows};
-ghost use Rattle.transfer_rx.specs.Memory.{ReceiverFitsInMemory};
 ghost use Rattle.allocatee.specs.Accepted as device;
 ghost use Rattle.alloc_spec.specs.Accepted as accepted;
 ghost use Rattle.cluster_agreement.specs.Allocatees.{HasAllocatees};
@@ -13,9 +11,10 @@ ghost use Rattle.cluster_agreement.specs.Headline.{HasHeadline};
 ghost use Rattle.cluster_agreement.specs.Safe.{AreSafe};
 ghost use Rattle.cluster_spec.specs.Cluster.{AreMembers, Cluster, cluster, after_row, world_of};
 ghost use Rattle.cluster_spec.specs.Lawful.{Lawful, cause};
-ghost use Rattle.cluster_spec.specs.Promise.{OffersItsOwn};
+ghost use Rattle.cluster_spec.specs.OwnLogs.{OffersItsOwn};
+ghost use Rattle.cluster_spec.specs.Receivers.{AllocateeReceives, MemberReceives};
 ghost use Rattle.cluster_spec.specs.Report.{entry_of, line_of_row as told_by, view_at};
-ghost use Rattle.cluster_spec.specs.ReportLine.{report_line_of};
+ghost use Rattle.replay_text.specs.ReportLine.{report_line_of};
 ghost use Rattle.cluster_spec.specs.declared.unlawful.WorldFault.TheVariants.{BadIds};
 ghost use Rattle.bus_world.specs.Seats.{Accepts, AreEmpty};
 ghost use Rattle.bus_world.specs.declared.seat.Seat.{Seat};
@@ -72,13 +71,9 @@ impl<F: Fn(Kind, u16) -> Option<u64> + Copy, G: Fn(Kind, u16) -> Option<u64> + C
     ) -> Result<World<F, G>, WorldFault>
         requires frames { frames < 2 ^ 32 }
         requires rows { rows.items ≡ accepted.rows }
-        requires memory { ReceiverFitsInMemory F.row 160 128 }
-        requires callable { F.IsAlwaysCallable accept }
-        requires answers { AnswersByRows (F.post accept) rows.items }
+        requires members { MemberReceives F.row F.IsAlwaysCallable F.post accept }
         requires arows { arows.items ≡ device.rows }
-        requires amemory { ReceiverFitsInMemory G.row 8 8 }
-        requires acallable { G.IsAlwaysCallable aaccept }
-        requires aanswers { AnswersByRows (G.post aaccept) arows.items }
+        requires allocatees { AllocateeReceives G.row G.IsAlwaysCallable G.post aaccept }
         ensures stands { IfOk result (λ world. StandsFor world (cluster ids.now)) }
         ensures frames { IfOk result (λ world. frames_left world ≡ frames) }
         ensures room { IfOk result (λ world. frame_room world ≡ frames) }
@@ -112,17 +107,14 @@ impl<F: Fn(Kind, u16) -> Option<u64> + Copy, G: Fn(Kind, u16) -> Option<u64> + C
     /// of the log of every later leader whose term is at least that member's stored term (`HasHeadline` of
     /// `cluster_agreement`). The run of the Raft model that the rows show is lawful and safe (`AreSafe`).
     /// Each step does its duty: a leader commits as far as a quorum lets it and tells one place where there
-    /// is room, who has waited stands for election, who counts a quorum leads, who is asked answers, a leader
-    /// adds a blank only when it is due, and the node ID of a node that is heard is not given (`AreDutiful`).
+    /// is room, who has waited stands for election, who counts a quorum leads, who is asked offers an answer
+    /// to its queue, even where the answer finds no room there, a leader adds a blank only when it is due, and
+    /// the node ID of a node that is heard is not given (`AreDutiful`).
     /// What a device has that takes a node ID by the standard's rule is a pair of that list from then on, so
     /// two with different unique IDs never have the same node ID (`HasAllocatees`).
     pub fn row(&mut self, row: &Row) -> Result<Told, Unlawful>
-        requires memory { ReceiverFitsInMemory F.row 160 128 }
-        requires callable { F.IsAlwaysCallable (accepts self.old) }
-        requires answers { AnswersByRows (F.post (accepts self.old)) accepted.rows }
-        requires amemory { ReceiverFitsInMemory G.row 8 8 }
-        requires acallable { G.IsAlwaysCallable (allocatees_accept self.old) }
-        requires aanswers { AnswersByRows (G.post (allocatees_accept self.old)) device.rows }
+        requires members { MemberReceives F.row F.IsAlwaysCallable F.post (accepts self.old) }
+        requires allocatees { AllocateeReceives G.row G.IsAlwaysCallable G.post (allocatees_accept self.old) }
         requires frames { 1 ≤ frames_left self.old }
         requires rows { rows_taken self.old < 18446744073709551615 }
         requires filled { (n calls : ℕ) (pattern : Pattern) → row.now ≡ Crash n calls pattern →
@@ -174,12 +166,8 @@ impl<F: Fn(Kind, u16) -> Option<u64> + Copy, G: Fn(Kind, u16) -> Option<u64> + C
 
     /// Takes a row, but does not count it.
     fn change(&mut self, row: &Row) -> Result<Told, Unlawful>
-        requires memory { ReceiverFitsInMemory F.row 160 128 }
-        requires callable { F.IsAlwaysCallable self.old.members.accept }
-        requires answers { AnswersByRows (F.post self.old.members.accept) accepted.rows }
-        requires amemory { ReceiverFitsInMemory G.row 8 8 }
-        requires acallable { G.IsAlwaysCallable self.old.accept }
-        requires aanswers { AnswersByRows (G.post self.old.accept) device.rows }
+        requires members { MemberReceives F.row F.IsAlwaysCallable F.post self.old.members.accept }
+        requires allocatees { AllocateeReceives G.row G.IsAlwaysCallable G.post self.old.accept }
         requires frames { length self.old.members.frames.items < self.old.members.room }
         requires rows { self.old.members.taken < 18446744073709551615 }
         requires filled { (n calls : ℕ) (pattern : Pattern) → row.now ≡ Crash n calls pattern →

@@ -1,9 +1,9 @@
 ghost use Rattle.std.specs.Prelude.{◌≡◌, IsTrue};
 ghost use Rattle.disk_model.specs.Pattern.{IsUsable};
-ghost use Rattle.transfer_rx.specs.Acceptance.{AnswersByRows, first_signature};
-ghost use Rattle.transfer_rx.specs.Memory.{ReceiverFitsInMemory};
+ghost use Rattle.transfer_rx.specs.Acceptance.{first_signature};
 ghost use Rattle.allocatee.specs.Accepted as device;
 ghost use Rattle.alloc_spec.specs.Accepted as accepted;
+ghost use Rattle.cluster_spec.specs.Receivers.{AllocateeReceives, MemberReceives};
 ghost use Rattle.bus_world.specs.World.{AcceptsAs, accepts, allocatees_accept};
 ghost use Rattle.bus_world_tests.specs.Rows.{HasPattern};
 
@@ -32,12 +32,8 @@ pub(crate) fn give<F: Fn(Kind, u16) -> Option<u64> + Copy, G: Fn(Kind, u16) -> O
     world: &mut World<F, G>,
     row: &Row,
 ) -> Option<Told>
-    requires memory { ReceiverFitsInMemory F.row 160 128 }
-    requires callable { F.IsAlwaysCallable (accepts world.old) }
-    requires answers { AnswersByRows (F.post (accepts world.old)) accepted.rows }
-    requires amemory { ReceiverFitsInMemory G.row 8 8 }
-    requires acallable { G.IsAlwaysCallable (allocatees_accept world.old) }
-    requires aanswers { AnswersByRows (G.post (allocatees_accept world.old)) device.rows }
+    requires members { MemberReceives F.row F.IsAlwaysCallable F.post (accepts world.old) }
+    requires allocatees { AllocateeReceives G.row G.IsAlwaysCallable G.post (allocatees_accept world.old) }
     ensures { AcceptsAs world.new world.old }
 {
     if world.frames_left() == 0 || world.rows_left() == 0 {
@@ -114,12 +110,8 @@ pub(crate) fn open_again<
     F: Fn(Kind, u16) -> Option<u64> + Copy,
     G: Fn(Kind, u16) -> Option<u64> + Copy,
 >(world: &mut World<F, G>, told: &Told, ms: u64) -> bool
-    requires memory { ReceiverFitsInMemory F.row 160 128 }
-    requires callable { F.IsAlwaysCallable (accepts world.old) }
-    requires answers { AnswersByRows (F.post (accepts world.old)) accepted.rows }
-    requires amemory { ReceiverFitsInMemory G.row 8 8 }
-    requires acallable { G.IsAlwaysCallable (allocatees_accept world.old) }
-    requires aanswers { AnswersByRows (G.post (allocatees_accept world.old)) device.rows }
+    requires members { MemberReceives F.row F.IsAlwaysCallable F.post (accepts world.old) }
+    requires allocatees { AllocateeReceives G.row G.IsAlwaysCallable G.post (allocatees_accept world.old) }
     ensures { AcceptsAs world.new world.old }
 {
     match told {

@@ -1,7 +1,4 @@
-ghost use Rattle.transfer_rx.specs.Acceptance.{AnswersByRows};
-ghost use Rattle.transfer_rx.specs.Memory.{ReceiverFitsInMemory};
-ghost use Rattle.allocatee.specs.Accepted as device;
-ghost use Rattle.alloc_spec.specs.Accepted as accepted;
+ghost use Rattle.cluster_spec.specs.Receivers.{AllocateeReceives, MemberReceives};
 ghost use Rattle.bus_world.specs.World.{AcceptsAs, accepts, allocatees_accept};
 
 use crate::cluster::{all_agree, give, open_again};
@@ -72,12 +69,8 @@ pub(crate) fn take<F: Fn(Kind, u16) -> Option<u64> + Copy, G: Fn(Kind, u16) -> O
     ms: u64,
     course: &mut Course,
 ) -> bool
-    requires memory { ReceiverFitsInMemory F.row 160 128 }
-    requires callable { F.IsAlwaysCallable (accepts world.old) }
-    requires answers { AnswersByRows (F.post (accepts world.old)) accepted.rows }
-    requires amemory { ReceiverFitsInMemory G.row 8 8 }
-    requires acallable { G.IsAlwaysCallable (allocatees_accept world.old) }
-    requires aanswers { AnswersByRows (G.post (allocatees_accept world.old)) device.rows }
+    requires members { MemberReceives F.row F.IsAlwaysCallable F.post (accepts world.old) }
+    requires allocatees { AllocateeReceives G.row G.IsAlwaysCallable G.post (allocatees_accept world.old) }
     ensures { AcceptsAs world.new world.old }
 {
     let Some(told) = give(world, row) else {
@@ -98,12 +91,8 @@ pub(crate) fn play<F: Fn(Kind, u16) -> Option<u64> + Copy, G: Fn(Kind, u16) -> O
     schedule: &str,
     arming: &Row,
 ) -> Course
-    requires memory { ReceiverFitsInMemory F.row 160 128 }
-    requires callable { F.IsAlwaysCallable (accepts world.old) }
-    requires answers { AnswersByRows (F.post (accepts world.old)) accepted.rows }
-    requires amemory { ReceiverFitsInMemory G.row 8 8 }
-    requires acallable { G.IsAlwaysCallable (allocatees_accept world.old) }
-    requires aanswers { AnswersByRows (G.post (allocatees_accept world.old)) device.rows }
+    requires members { MemberReceives F.row F.IsAlwaysCallable F.post (accepts world.old) }
+    requires allocatees { AllocateeReceives G.row G.IsAlwaysCallable G.post (allocatees_accept world.old) }
 {
     let mut course = Course::BEGUN;
     'lines: for (i, line) in schedule.lines().enumerate() {
@@ -122,12 +111,8 @@ fn arm_at<F: Fn(Kind, u16) -> Option<u64> + Copy, G: Fn(Kind, u16) -> Option<u64
     i: usize,
     arming: &Row,
 )
-    requires memory { ReceiverFitsInMemory F.row 160 128 }
-    requires callable { F.IsAlwaysCallable (accepts world.old) }
-    requires answers { AnswersByRows (F.post (accepts world.old)) accepted.rows }
-    requires amemory { ReceiverFitsInMemory G.row 8 8 }
-    requires acallable { G.IsAlwaysCallable (allocatees_accept world.old) }
-    requires aanswers { AnswersByRows (G.post (allocatees_accept world.old)) device.rows }
+    requires members { MemberReceives F.row F.IsAlwaysCallable F.post (accepts world.old) }
+    requires allocatees { AllocateeReceives G.row G.IsAlwaysCallable G.post (allocatees_accept world.old) }
     ensures { AcceptsAs world.new world.old }
 {
     if i == 3 {

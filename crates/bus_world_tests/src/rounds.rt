@@ -1,8 +1,5 @@
 ghost use Rattle.std.specs.Prelude.{◌≤◌};
-ghost use Rattle.transfer_rx.specs.Acceptance.{AnswersByRows};
-ghost use Rattle.transfer_rx.specs.Memory.{ReceiverFitsInMemory};
-ghost use Rattle.allocatee.specs.Accepted as device;
-ghost use Rattle.alloc_spec.specs.Accepted as accepted;
+ghost use Rattle.cluster_spec.specs.Receivers.{AllocateeReceives, MemberReceives};
 ghost use Rattle.bus_world.specs.World.{AcceptsAs, accepts, allocatees_accept};
 
 use crate::cluster::give;
@@ -27,12 +24,8 @@ pub(crate) fn rounds<
     F: Fn(Kind, u16) -> Option<u64> + Copy,
     G: Fn(Kind, u16) -> Option<u64> + Copy,
 >(world: &mut World<F, G>, arming: &Row) -> Course
-    requires memory { ReceiverFitsInMemory F.row 160 128 }
-    requires callable { F.IsAlwaysCallable (accepts world.old) }
-    requires answers { AnswersByRows (F.post (accepts world.old)) accepted.rows }
-    requires amemory { ReceiverFitsInMemory G.row 8 8 }
-    requires acallable { G.IsAlwaysCallable (allocatees_accept world.old) }
-    requires aanswers { AnswersByRows (G.post (allocatees_accept world.old)) device.rows }
+    requires members { MemberReceives F.row F.IsAlwaysCallable F.post (accepts world.old) }
+    requires allocatees { AllocateeReceives G.row G.IsAlwaysCallable G.post (allocatees_accept world.old) }
 {
     let mut course = Course::BEGUN;
     'openings: for n in 1..=3 {
@@ -68,12 +61,8 @@ fn one_round<F: Fn(Kind, u16) -> Option<u64> + Copy, G: Fn(Kind, u16) -> Option<
     heard: u32,
     course: &mut Course,
 ) -> u32
-    requires memory { ReceiverFitsInMemory F.row 160 128 }
-    requires callable { F.IsAlwaysCallable (accepts world.old) }
-    requires answers { AnswersByRows (F.post (accepts world.old)) accepted.rows }
-    requires amemory { ReceiverFitsInMemory G.row 8 8 }
-    requires acallable { G.IsAlwaysCallable (allocatees_accept world.old) }
-    requires aanswers { AnswersByRows (G.post (allocatees_accept world.old)) device.rows }
+    requires members { MemberReceives F.row F.IsAlwaysCallable F.post (accepts world.old) }
+    requires allocatees { AllocateeReceives G.row G.IsAlwaysCallable G.post (allocatees_accept world.old) }
     requires few { round ≤ 1000 }
     ensures { AcceptsAs world.new world.old }
 {
@@ -101,12 +90,8 @@ fn send_all<F: Fn(Kind, u16) -> Option<u64> + Copy, G: Fn(Kind, u16) -> Option<u
     ms: u64,
     course: &mut Course,
 )
-    requires memory { ReceiverFitsInMemory F.row 160 128 }
-    requires callable { F.IsAlwaysCallable (accepts world.old) }
-    requires answers { AnswersByRows (F.post (accepts world.old)) accepted.rows }
-    requires amemory { ReceiverFitsInMemory G.row 8 8 }
-    requires acallable { G.IsAlwaysCallable (allocatees_accept world.old) }
-    requires aanswers { AnswersByRows (G.post (allocatees_accept world.old)) device.rows }
+    requires members { MemberReceives F.row F.IsAlwaysCallable F.post (accepts world.old) }
+    requires allocatees { AllocateeReceives G.row G.IsAlwaysCallable G.post (allocatees_accept world.old) }
     ensures { AcceptsAs world.new world.old }
 {
     'sends: for _ in 0..32 {
@@ -121,12 +106,8 @@ fn ask<F: Fn(Kind, u16) -> Option<u64> + Copy, G: Fn(Kind, u16) -> Option<u64> +
     world: &mut World<F, G>,
     round: u64,
 )
-    requires memory { ReceiverFitsInMemory F.row 160 128 }
-    requires callable { F.IsAlwaysCallable (accepts world.old) }
-    requires answers { AnswersByRows (F.post (accepts world.old)) accepted.rows }
-    requires amemory { ReceiverFitsInMemory G.row 8 8 }
-    requires acallable { G.IsAlwaysCallable (allocatees_accept world.old) }
-    requires aanswers { AnswersByRows (G.post (allocatees_accept world.old)) device.rows }
+    requires members { MemberReceives F.row F.IsAlwaysCallable F.post (accepts world.old) }
+    requires allocatees { AllocateeReceives G.row G.IsAlwaysCallable G.post (allocatees_accept world.old) }
     ensures { AcceptsAs world.new world.old }
 {
     let Some(place) = round.checked_sub(ASKS) else {

@@ -15,6 +15,7 @@ odd_sum (suc (suc m)) n p q = absurd (omega arith)
 odd_sum zero (suc (suc n)) p q = absurd (omega arith)
 odd_sum (suc zero) (suc (suc n)) p q = absurd (omega arith)
 
+-- the bits of an exclusive or are the sum of the bits
 pub bits_of-xor : (k a b : ℕ) → bits_of k (bit_xor a b) ≡ add_front (bits_of k a) (bits_of k b)
 unfolding bits_of
 bits_of-xor zero a b = refl
@@ -22,6 +23,7 @@ bits_of-xor (suc k) a b =
     let head = ap (λ n. nat_eq n 1) (bit_at_xor a b k) ∙ odd_sum (bit_at a k) (bit_at b k) (bit_at-lt a k) (bit_at-lt b k) in
     rw (head, bits_of-xor k a b) refl
 
+-- a double has one more bit, which is 0
 pub bits_of-double : (k x : ℕ) → bits_of (suc k) (x * 2) ≡ bits_of k x ++ false ∷ []
 unfolding bits_of
 bits_of-double zero x =
@@ -32,6 +34,7 @@ bits_of-double (suc k) x =
     let head = ap (λ n. nat_eq n 1) (bit_at-suc (x * 2) k ∙ ap (λ n. bit_at n k) e) in
     ap (λ b. b ∷ bits_of (suc k) (x * 2)) head ∙ ap (λ bs. nat_eq (bit_at x k) 1 ∷ bs) (bits_of-double k x)
 
+-- the low bits of a number do not depend on what stands above them
 pub bits_of-low : (j k hi lo : ℕ) → j ≤ k → bits_of j (hi * 2 ^ k + lo) ≡ bits_of j lo
 unfolding bits_of
 bits_of-low zero k hi lo h = refl
@@ -45,10 +48,7 @@ moved x h =
     let e : x ≡ x / 32768 * 2 ^ 15 + x % 32768 = omega arith in
     bits_of-double 15 (x % 32768) ∙ ap (λ bs. bs ++ false ∷ []) (sym (ap (bits_of 15) e ∙ bits_of-low 15 15 (x / 32768) (x % 32768) (omega arith)))
 
-divisor_bits : bits_of 16 4129 ≡ divisor
-unfolding bits_of
-divisor_bits = refl
-
+-- where the top bit and the new one are equal, a step of the register shifts in a 0
 pub next_same : (x : ℕ) (b : Bool) → x < 2 ^ 16 → xor (nat_eq (x / 32768) 1) b ≡ false → bits_of 16 (x % 32768 * 2) ≡ shift (bits_of 16 x) b
 unfolding bits_of shift
 next_same x b h e =
@@ -68,6 +68,7 @@ add_comm [] (y ∷ ys) e = absurd (omega arith)
 add_comm (x ∷ xs) [] e = absurd (omega arith)
 add_comm (x ∷ xs) (y ∷ ys) e = rw (xor_comm x y, add_comm xs ys (omega arith)) refl
 
+-- where they differ, a step of the register shifts, and adds the divisor
 pub next_other : (x : ℕ) (b : Bool) → x < 2 ^ 16 → xor (nat_eq (x / 32768) 1) b ≡ true → bits_of 16 (bit_xor (x % 32768 * 2) 4129) ≡ shift (bits_of 16 x) b
 unfolding bits_of shift
 next_other x b h e =

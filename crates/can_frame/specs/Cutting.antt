@@ -1,6 +1,7 @@
 -- Cutting a transfer into frames (UAVCAN v0 specification, "Transfer payload"). Sending and receiving both mean this.
 use Rattle.std.specs.Prelude.{◌≡◌, ◌≤◌, ℕ, zero, suc, ◌+◌, ◌-◌, ◌/◌, ◌%◌, nat_eq, nat_le, if◌then◌else◌, Bool, true, false, List, [], ◌∷◌, ◌++◌, length, map, take, drop, slice_index_or, flat_map}
 use Rattle.can_frame.specs.declared.tail.Tail.{Tail}
+use Rattle.can_frame.specs.Sizes.{longest_payload}
 use Rattle.can_frame.specs.Tail.{tail_byte, tail_of}
 use Rattle.can_frame.specs.TransferCrc.{transfer_crc}
 
@@ -68,5 +69,5 @@ frame_lengths pieces = map (λ piece. length piece.bytes) pieces
 
 -- the frames are the cutting of a payload, under a signature and with a transfer ID
 pub record IsCutting (signature id : ℕ) (payload : List ℕ) (pieces : List Piece) : Type 0 where
-  pub size : length payload ≤ 376
+  pub size : length payload ≤ longest_payload
   pub frames : pieces ≡ frames_of signature id payload

@@ -1,10 +1,12 @@
 pub mod Cutting
 pub mod DataTypes
 pub mod Identifier
+pub mod Kinds
 pub mod Log
 pub mod OneKind
 pub mod Piece
 pub mod Register
+pub mod Sizes
 pub mod Tail
 pub mod Timing
 pub mod TransferCrc

@@ -48,3 +48,9 @@ discovery_interval = 1000
 -- between two NodeStatus
 abbrev pub status_interval : ℕ
 status_interval = 1000
+
+-- ---- transfers
+
+-- a transfer of which no frame came for longer is forgotten
+abbrev pub transfer_timeout : ℕ
+transfer_timeout = 2000

@@ -1,6 +1,7 @@
 ghost use Rattle.std.specs.Prelude.{◌≡◌, ◌<◌, ◌^◌, Some, IfSome};
 ghost use Rattle.can_frame.specs.declared.identifier.Ident.{Ident};
 ghost use Rattle.can_frame.specs.Identifier.{IsIdentifier, Spells, identifier_number, identifier_of, service_of, message_of};
+ghost use Rattle.can_frame.specs.Kinds.{is_service, is_anonymous, is_response};
 
 /// What a transfer is: a broadcast, a broadcast by a node that has no ID yet, or one direction of a
 /// service call.
@@ -10,6 +11,38 @@ pub enum Kind {
     Anonymous,
     Request,
     Response,
+}
+
+impl Kind {
+    /// Whether it is one direction of a service call.
+    pub fn is_service(self) -> bool
+        ensures { result ≡ is_service self }
+    {
+        match self {
+            Kind::Message | Kind::Anonymous => false,
+            Kind::Request | Kind::Response => true,
+        }
+    }
+
+    /// Whether it is a broadcast by a node that has no ID yet.
+    pub fn is_anonymous(self) -> bool
+        ensures { result ≡ is_anonymous self }
+    {
+        match self {
+            Kind::Anonymous => true,
+            Kind::Message | Kind::Request | Kind::Response => false,
+        }
+    }
+
+    /// Whether it is the answer to a service call.
+    pub fn is_response(self) -> bool
+        ensures { result ≡ is_response self }
+    {
+        match self {
+            Kind::Message | Kind::Anonymous | Kind::Request => false,
+            Kind::Response => true,
+        }
+    }
 }
 
 /// The fields of a 29-bit identifier.

@@ -7,8 +7,10 @@
 //! Its CRC is the remainder of a division of polynomials (`specs/TransferCrc.antt`). `specs/Log.antt`
 //! has entries and logs: an entry is a blank, a reservation or a pair, and a log gives node IDs to unique
 //! IDs, none of them twice, and never one that it reserves. The data types stand in one table, with what
-//! each transfer of an allocator is ([`DataType`], `specs/DataTypes.antt`), and times of an allocator in
-//! another ([`timing`], `specs/Timing.antt`). [`laws`] has what follows from the definitions.
+//! each transfer of an allocator is ([`DataType`], `specs/DataTypes.antt`), times of an allocator in
+//! another ([`timing`], `specs/Timing.antt`), and the sizes that bound everything in a third ([`sizes`],
+//! `specs/Sizes.antt`). Code and definitions say these numbers apart, so that a slip in one of them is
+//! refused. [`laws`] has what follows from the definitions.
 //!
 //! The rules are those of the UAVCAN v0 specification, "CAN bus transport layer".
 #![tactic(auto)]
@@ -20,6 +22,7 @@ mod identifier;
 pub mod laws;
 mod mark;
 mod node_id;
+pub mod sizes;
 mod step;
 mod tail;
 pub mod timing;

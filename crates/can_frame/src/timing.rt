@@ -29,3 +29,7 @@ pub const DISCOVERY_INTERVAL: u64 = 1_000;
 
 /// The time between two NodeStatus.
 pub const STATUS_INTERVAL: u64 = 1_000;
+
+/// A transfer of which no frame came for more milliseconds is forgotten
+/// (UAVCAN v0 specification, "CAN bus transport layer").
+pub const TRANSFER_TIMEOUT: u64 = 2_000;

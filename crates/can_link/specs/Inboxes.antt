@@ -2,10 +2,7 @@
 use Rattle.std.specs.Prelude.{◌≡◌, ◌<◌, ◌≤◌, ◌⊎◌, ◌++◌, ◌∷◌, [], ℕ, List, length}
 use Rattle.outside.specs.declared.received.RawFrame.{RawFrame}
 
--- how many members one process has at most, and how many frames wait for each
-abbrev pub most_members : ℕ
-most_members = 5
-
+-- how many frames wait for each member of a process
 abbrev pub most_waiting : ℕ
 most_waiting = 64
 

@@ -1,12 +1,11 @@
 ghost use Rattle.std.specs.Prelude.{◌≡◌, ◌<◌, ℕ, Some, IfSome, IsNone, [], ◌∷◌, length, slice_index_or};
 ghost use Rattle.arrayvec.specs.ArrayVec.{array_vec_len};
-ghost use Rattle.can_link.specs.Inboxes.{Comes, most_members};
+ghost use Rattle.can_frame.specs.Sizes.{most_members};
+ghost use Rattle.can_link.specs.Inboxes.{Comes};
 
 use arrayvec::ArrayVec;
+use can_frame::sizes::MOST_MEMBERS;
 use outside::RawFrame;
-
-/// How many members one process has at most.
-pub const MOST_MEMBERS: usize = 5;
 
 /// How many frames wait for a member at most. Further ones are lost to it.
 const MOST_WAITING: usize = 64;

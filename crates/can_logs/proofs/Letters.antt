@@ -9,11 +9,6 @@ use Rattle.can_logs.specs.declared.slcan.SlLine.{SlLine}
 use Rattle.can_logs.specs.declared.slcan.SlLine.TheVariants.{Data, Skipped}
 use Rattle.can_logs.specs.Slcan.{Reads, other_letters}
 
--- the empty line
-pub only_empty : (read : SlLine) (line : List ℕ) → line ≡ [] → Reads read line → Some Skipped ≡ Some read
-only_empty (Data frame stamp) line empty reads = absurd (cc (sym empty ∙ reads.spelled))
-only_empty Skipped line empty reads = refl
-
 -- a letter that is found among others stands there, and one that is not does not
 pub found_in : (letters : List ℕ) (letter : ℕ) → list_any (λ other. nat_eq other letter) letters ≡ true → Contains letters letter
 found_in [] letter e = absurd (cc)
@@ -41,28 +36,3 @@ no_extended =
 
 pub first_letter : (line : List ℕ) (a b : ℕ) (x y : List ℕ) → line ≡ a ∷ x → line ≡ b ∷ y → a ≡ b
 first_letter line a b x y p q = ap (λ l. get_or l 0 0) (sym p ∙ q)
-
-pub by_letter : (result : Option SlLine) (line text : List ℕ) (letter : ℕ) → line ≡ letter ∷ text
-    → IfSome result (λ read. (read ≡ Skipped) × Contains other_letters letter) → IfSome result (λ read. Reads read line)
-by_letter None line text letter spelt found = tt
-by_letter (Some read) line text letter spelt found = rw found.0 (inr (inl (letter, text, spelt, found.1)))
-
-pub only_by_letter : (result : Option SlLine) (line text : List ℕ) (letter : ℕ) → line ≡ letter ∷ text → letter ≢ 84
-    → (Contains other_letters letter → result ≡ Some Skipped) → (read : SlLine) → Reads read line → result ≡ Some read
-only_by_letter result line text letter spelt other skips (Data frame stamp) reads =
-    absurd (other (first_letter line letter 84 text _ spelt reads.spelled))
-only_by_letter result line text letter spelt other skips Skipped reads =
-    elim reads [
-      | inl empty ↦ absurd (cc (sym spelt ∙ empty))
-      | inr more ↦
-          elim more [
-            | inl by ↦
-                let same = first_letter line letter by.0 text by.1 spelt by.2 in
-                skips (rw same by.3)
-            | inr frame ↦ absurd (other (first_letter line letter 84 text _ spelt frame.2.spelled))
-          ]
-    ]
-
--- an answer that is known is not none
-pub not_none : (result : Option SlLine) (read : SlLine) → result ≡ Some read → IsNone result → ⊥
-not_none result read is none = absurd (cc (rw is at none))

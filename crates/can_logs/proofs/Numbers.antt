@@ -25,13 +25,6 @@ decimal_short n word is = rw (← is.value) (digits_value_short digits word (len
 pub decimal_below : (n k : ℕ) (word : List ℕ) → IsDecimal n word → length word ≤ k → n < 10 ^ k
 decimal_below n k word is few = rw (← is.value) (digits_value_short digits word k is.digits.1 few)
 
--- a word of digits does not begin with a plus
-pub decimal_plain : (n : ℕ) (word : List ℕ) → IsDecimal n word → get_or word 0 0 ≢ 43
-decimal_plain n word is plus =
-    let some = is.digits.0 in
-    let first = digit_at word 0 is.digits.1 some in
-    absurd (omega (arith, first))
-
 pub decimal_ascii : (n : ℕ) (word : List ℕ) → IsDecimal n word → IsAscii word
 decimal_ascii n word is = IsAscii-from_digits word is.digits.1
 

@@ -1,3 +1,4 @@
 pub mod Candump
+pub mod Forms
 pub mod Slcan
 pub mod Words

@@ -5,8 +5,11 @@ ghost use Rattle.hex.specs.Hex.{IsBytes};
 ghost use Rattle.arrayvec.specs.ArrayVec.{ArrayVec};
 ghost use Rattle.can_frame.specs.declared.frame.Frame.{Frame};
 ghost use Rattle.can_logs.specs.declared.candump.LogLine.{LogLine};
+ghost use Rattle.can_logs.specs.declared.form.Form.{Form};
+ghost use Rattle.can_logs.specs.declared.form.Line.{Line};
 ghost use Rattle.can_logs.specs.declared.slcan.SlLine.{SlLine};
 ghost use Rattle.can_logs.specs.Candump as candump;
+ghost use Rattle.can_logs.specs.Forms.{IsLineWritable, Says};
 ghost use Rattle.can_logs.specs.Slcan as slcan;
 
 use can_frame::laws::frames_are_their_parts;
@@ -39,3 +42,19 @@ pub fn read_lines_are_writable()
         candump.Reads (LogLine.Data sec micros iface frame) line →
         candump.IsWritable (LogLine.Data sec micros iface frame) }
 {}
+
+/// A line of a form says one thing.
+pub fn a_line_says_one_thing()
+    ensures { (form : Form) (a b : Line) (text : List ℕ) → Says form a text → Says form b text →
+        a ≡ b }
+{
+    a_line_has_one_reading();
+}
+
+/// What a line of a form says may be written.
+pub fn said_lines_are_writable()
+    ensures { (form : Form) (said : Line) (text : List ℕ) → Says form said text →
+        IsLineWritable said }
+{
+    read_lines_are_writable();
+}

@@ -1,7 +1,7 @@
 -- All rows, one after another: their events continue the run.
 use Rattle.std.proofs.Common.{ℕ, Bool, List, [], ◌∷◌, ◌++◌, sym, subst, arith}
 use Rattle.raft_model.specs.Invariants.{Invariants}
-use Rattle.raft_model.specs.Runs as machine
+use Rattle.raft_model.specs.Runs as raft
 use Rattle.raft_model.specs.Runs.{Event, InEveryRun, initial_world}
 use Rattle.replay_text.specs.declared.row.Row.{Row}
 use Rattle.alloc_spec.specs.Transfers.{SentTransfer}
@@ -16,17 +16,17 @@ use Rattle.cluster_agreement.proofs.Concatenations.{lawful_joined, run_joined, s
 
 -- what is known of any row
 abbrev pub EachRow : Type 0
-EachRow = (choice : ℕ → Bool) (made : List SentTransfer) (w : Cluster) (run : machine.World) → AreMembers w.ids → Shows choice made w run
+EachRow = (choice : ℕ → Bool) (made : List SentTransfer) (w : Cluster) (run : raft.World) → AreMembers w.ids → Shows choice made w run
     → Invariants run → IsRunWritable w.ids run → (row : Row) → DoesNoHarm w row → RowAgreesWithDisk choice w row
     → Continues choice (transfers_of_row w row made) (after_row w row) run (row_events choice w row)
 
 -- first some events, then others
-pub joined : (choice : ℕ → Bool) (made : List SentTransfer) (w : Cluster) (run : machine.World) (first rest : List Event) → machine.Lawful run first
-    → Continues choice made w (machine.run run first) rest → Continues choice made w run (first ++ rest)
+pub joined : (choice : ℕ → Bool) (made : List SentTransfer) (w : Cluster) (run : raft.World) (first rest : List Event) → raft.Lawful run first
+    → Continues choice made w (raft.run run first) rest → Continues choice made w run (first ++ rest)
 joined choice made w run first rest lawful is = record {
   lawful = lawful_joined run first rest lawful is.lawful;
-  shows = subst (λ (r : machine.World). Shows choice made w r) (sym (run_joined run first rest)) is.shows;
-  writable = subst (λ (r : machine.World). IsRunWritable w.ids r) (sym (run_joined run first rest)) is.writable;
+  shows = subst (λ (r : raft.World). Shows choice made w r) (sym (run_joined run first rest)) is.shows;
+  writable = subst (λ (r : raft.World). IsRunWritable w.ids r) (sym (run_joined run first rest)) is.writable;
 }
 
 module _ (each : EachRow) (sound : InEveryRun Invariants) (choice : ℕ → Bool) (ids : List ℕ) where
@@ -36,8 +36,8 @@ module _ (each : EachRow) (sound : InEveryRun Invariants) (choice : ℕ → Bool
 
   module _ (w : Cluster) (earlier : List SentTransfer) (so_far : List Event) (members : AreMembers w.ids) (is : IsReached w earlier so_far)
       (row : Row) (harmless : DoesNoHarm w row) (fits : RowAgreesWithDisk choice w row) where
-    abbrev now : machine.World
-    now = machine.run (initial_world ids) so_far
+    abbrev now : raft.World
+    now = raft.run (initial_world ids) so_far
 
     abbrev own : List Event
     own = row_events choice w row
@@ -49,15 +49,15 @@ module _ (each : EachRow) (sound : InEveryRun Invariants) (choice : ℕ → Bool
     one_more = joined choice (transfers_of_row w row earlier) (after_row w row) (initial_world ids) so_far own is.lawful one
 
     -- the events of one row, and then those of other rows
-    followed : (made : List SentTransfer) (later : Cluster) (rest : List Event) → Continues choice made later (machine.run (initial_world ids) (so_far ++ own)) rest
+    followed : (made : List SentTransfer) (later : Cluster) (rest : List Event) → Continues choice made later (raft.run (initial_world ids) (so_far ++ own)) rest
         → Continues choice made later now (own ++ rest)
     followed made later rest is_so = joined choice made later now own rest one.lawful
-        (subst (λ (r : machine.World). Continues choice made later r rest) (run_joined (initial_world ids) so_far own) is_so)
+        (subst (λ (r : raft.World). Continues choice made later r rest) (run_joined (initial_world ids) so_far own) is_so)
 
   -- the rows that are left
   pub onward : (rows : List Row) (w : Cluster) (earlier : List SentTransfer) (so_far : List Event) → AreMembers w.ids → IsReached w earlier so_far
       → DoNoHarm w rows → AgreesWithDisk choice w rows
-      → Continues choice (transfers_of_rows w rows earlier) (after_rows w rows) (machine.run (initial_world ids) so_far) (events choice w rows)
+      → Continues choice (transfers_of_rows w rows earlier) (after_rows w rows) (raft.run (initial_world ids) so_far) (events choice w rows)
   onward [] w earlier so_far members is harmless fits = record { lawful = tt; shows = is.shows; writable = is.writable }
   onward (row ∷ rows) w earlier so_far members is harmless fits =
       followed w earlier so_far members is row harmless.0 fits.0 (transfers_of_rows w (row ∷ rows) earlier) (after_rows w (row ∷ rows)) (events choice (after_row w row) rows)

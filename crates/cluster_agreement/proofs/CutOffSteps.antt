@@ -12,7 +12,7 @@ use Rattle.raft_model.specs.Invariants.{Invariants}
 use Rattle.raft_model.specs.Lists.{In, at, at_here, at_other}
 use Rattle.raft_model.specs.Messages.{Message}
 use Rattle.raft_model.specs.Moves.{Move, puts}
-use Rattle.raft_model.specs.Runs as machine
+use Rattle.raft_model.specs.Runs as raft
 use Rattle.raft_model.specs.Runs.{MayOccur, after, local_state_after, local_state_of}
 use Rattle.raft_model.specs.Runs.Event.{StopsWithin}
 use Rattle.raft_model.specs.Server.{RaftServer, Put, Store, memory_when_down, put_all}
@@ -69,7 +69,7 @@ one_few true = omega arith
 one_few false = omega arith
 
 module _ (laws : StepLaws) (more : MoreLaws) (cuts : CutLaws) (frame_laws : FrameLaws) (codec : CodecLaws) (choice : ℕ → Bool) (made : List SentTransfer) (w : Cluster)
-    (run : machine.World) (shows : Shows choice made w run) (members : AreMembers w.ids) (sound : Invariants run) (written : IsRunWritable w.ids run)
+    (run : raft.World) (shows : Shows choice made w run) (members : AreMembers w.ids) (sound : Invariants run) (written : IsRunWritable w.ids run)
     (t : AllocatorState) (listed : In t.me w.ids) (is : ShowsUp made w.ids w.frames run t.me t (w.member t.me).disk) (event : Event)
     (may : MayHappen w.frames t event) (narrow : IsOnTheBus event)
     (failed : are_put (stored_puts (step t (w.rows + 1) event).step_state.puts (w.member t.me).disk.store) (w.member t.me).disk.calls ≡ false) where
@@ -126,7 +126,7 @@ module _ (laws : StepLaws) (more : MoreLaws) (cuts : CutLaws) (frame_laws : Fram
     stop : IsOneStop w.ids t.me number t.raft_server [] step_state.moves count extra (cut_event w.ids t.me number t.raft_server [] step_state.moves count extra)
     stop = one_stop w.ids t.me number extra few t.raft_server [] step_state.moves count inside
 
-    abbrev event_of : machine.Event
+    abbrev event_of : raft.Event
     event_of = StopsWithin t.me number stop.before stop.next (stop.count + extra)
 
     abbrev AreComing : List ℕ → Type 0
@@ -140,7 +140,7 @@ module _ (laws : StepLaws) (more : MoreLaws) (cuts : CutLaws) (frame_laws : Fram
     may_stop : MayOccur run event_of
     may_stop = (ap (λ (p : RaftServer). p.memory.up) is.runs.raft_server ∙ is.runs.up, coming.0, coming.1.0)
 
-    abbrev run_then : machine.World
+    abbrev run_then : raft.World
     run_then = after run event_of
 
     abbrev stopped_local_state : List ℕ → LocalState
@@ -187,7 +187,7 @@ module _ (laws : StepLaws) (more : MoreLaws) (cuts : CutLaws) (frame_laws : Fram
 
   -- the member stopped with its disk, or stays as one that failed
   pub record IsCutOff : Type 0 where
-    pub stopping : machine.Event
+    pub stopping : raft.Event
     pub one_event : cut_event w.ids t.me number t.raft_server [] step_state.moves count (more_done choice number (w.member t.me).pattern disk_after) ≡ stopping ∷ []
     pub comes_now : MayOccur run stopping
     pub written_then : IsRunWritable w.ids (after run stopping)
@@ -196,7 +196,7 @@ module _ (laws : StepLaws) (more : MoreLaws) (cuts : CutLaws) (frame_laws : Fram
   abbrev By : Bool → Type 0
   By b = let extra = if b then found_by (w.member t.me).pattern disk_after else one_if (choice number) in
       let x = if b then stopped_with (w.member t.me).pattern disk_after (w.member t.me) else record (w.member t.me) { status = Failed failure; disk = disk_after } in
-      (e : machine.Event) × (cut_event w.ids t.me number t.raft_server [] step_state.moves count extra ≡ e ∷ []) × MayOccur run e
+      (e : raft.Event) × (cut_event w.ids t.me number t.raft_server [] step_state.moves count extra ≡ e ∷ []) × MayOccur run e
       × IsRunWritable w.ids (after run e) × Shows choice made (record w { member = at w.member t.me x; rows = number }) (after run e)
 
   by : (b : Bool) → By b
@@ -229,7 +229,7 @@ module _ (laws : StepLaws) (more : MoreLaws) (cuts : CutLaws) (frame_laws : Fram
 -- ---- of a member by its node ID
 
 module _ (laws : StepLaws) (more : MoreLaws) (cuts : CutLaws) (frame_laws : FrameLaws) (codec : CodecLaws) (choice : ℕ → Bool) (made : List SentTransfer) (w : Cluster)
-    (run : machine.World) (shows : Shows choice made w run) (members : AreMembers w.ids) (sound : Invariants run) (written : IsRunWritable w.ids run)
+    (run : raft.World) (shows : Shows choice made w run) (members : AreMembers w.ids) (sound : Invariants run) (written : IsRunWritable w.ids run)
     (t : AllocatorState) (event : Event) (may : MayHappen w.frames t event) (narrow : IsOnTheBus event) where
   abbrev step_of : StepState
   step_of = (step t (w.rows + 1) event).step_state
@@ -238,7 +238,7 @@ module _ (laws : StepLaws) (more : MoreLaws) (cuts : CutLaws) (frame_laws : Fram
   disk_then n = puts_on (stored_puts step_of.puts (w.member n).disk.store) (w.member n).disk
 
   pub record IsCutAt (n : ℕ) : Type 0 where
-    pub stop_event : machine.Event
+    pub stop_event : raft.Event
     pub is_one : cut_event w.ids n (w.rows + 1) t.raft_server [] step_of.moves (done_on (stored_puts step_of.puts (w.member n).disk.store) (w.member n).disk.calls)
         (more_done choice (w.rows + 1) (w.member n).pattern (disk_then n)) ≡ stop_event ∷ []
     pub may_be : MayOccur run stop_event

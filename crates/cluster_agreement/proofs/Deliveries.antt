@@ -1,4 +1,4 @@
--- What a running member is delivered is taken by the rules of the message machine.
+-- What a running member is delivered is taken by the rules of the Raft model.
 use Rattle.std.proofs.Common.{◌≡◌, ◌⊎◌, ℕ, ◌<◌, ◌≤◌, Bool, true, false, List, [], ◌∷◌, refl, sym, ap, subst, ◌∙◌, arith, inl, inr, Some}
 use Rattle.std.specs.Prelude.{max, ◌&&◌, not, nat_eq, if◌then◌else◌}
 use Rattle.std.proofs.lemmas.Bool.Decides.{eqb_tells}
@@ -8,6 +8,7 @@ use Rattle.can_frame.specs.declared.identifier.Kind.TheVariants.{Message as Broa
 use Rattle.can_frame.specs.declared.mark.Mark.{Mark}
 use Rattle.can_frame.specs.declared.step.Judged.{Judged}
 use Rattle.can_frame.specs.declared.step.Judged.TheVariants.{Fine, Stale, Torn}
+use Rattle.can_frame.specs.Kinds.{is_service, is_anonymous}
 use Rattle.cluster_discovery.specs.Members.{is_on_list}
 use Rattle.raft_model.specs.Lists.{In}
 use Rattle.raft_core.specs.Handled.{answer_of}
@@ -15,8 +16,7 @@ use Rattle.raft_core.specs.Times.{overdue}
 use Rattle.raft_model.specs.Messages.{Answer as Said, Message, Request}
 use Rattle.raft_model.specs.Moves.{IsHeard}
 use Rattle.raft_model.specs.Server.{Store}
-use Rattle.transfer_rx.specs.Acceptance.{is_for, is_service}
-use Rattle.transfer_rx.specs.Keys.{is_anonymous}
+use Rattle.transfer_rx.specs.Acceptance.{is_for}
 use Rattle.transfer_rx.specs.Reassembly.{Answer, Arrival, Delivery, answer}
 use Rattle.transfer_rx.specs.Reassembly.Answer.{Continues, Drops, Gives}
 use Rattle.transfer_rx.specs.Sound.{IsDelivered}

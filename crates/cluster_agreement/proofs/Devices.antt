@@ -13,12 +13,12 @@ use Rattle.can_frame.specs.declared.identifier.Kind.TheVariants.{Message, Anonym
 use Rattle.can_frame.specs.declared.mark.Mark.{Mark}
 use Rattle.can_frame.specs.declared.step.Judged.TheVariants.{Fine}
 use Rattle.can_frame.specs.declared.step.What.TheVariants.{Alloc}
+use Rattle.can_frame.specs.Kinds.{is_anonymous}
 use Rattle.dsdl_codec.specs.Allocation.{allocation_of}
 use Rattle.raft_model.specs.Lists.{In, at, at_here, at_other}
-use Rattle.raft_model.specs.Runs as machine
+use Rattle.raft_model.specs.Runs as raft
 use Rattle.replay_text.specs.declared.row.Row.TheVariants.{AEnd, AOpen, ARx, ASend, ATick}
 use Rattle.transfer_rx.specs.Acceptance.{first_signature}
-use Rattle.transfer_rx.specs.Keys.{is_anonymous}
 use Rattle.transfer_rx.specs.Origin.{CameWithKey}
 use Rattle.transfer_rx.specs.Reassembly.{Arrival, Delivery, Gives, Setting, next as sessions_after}
 use Rattle.transfer_rx.specs.Run as rx_run
@@ -147,7 +147,7 @@ module _ (laws : DeviceLaws) (frame_laws : FrameLaws) (ids : List ℕ) (low : (n
 
 -- ---- rows
 
-module _ (choice : ℕ → Bool) (made : List SentTransfer) (w : Cluster) (run : machine.World) (shows : Shows choice made w run) (a : ℕ) where
+module _ (choice : ℕ → Bool) (made : List SentTransfer) (w : Cluster) (run : raft.World) (shows : Shows choice made w run) (a : ℕ) where
   -- with another one at its place
   with_one : (y : Option Device) (frames : List Queued) → ((x : Device) → y ≡ Some x → IsAsking made frames x)
       → ((b : ℕ) (x : Device) → w.allocatee b ≡ Some x → IsAsking made frames x) → (b : ℕ) (x : Device) → at w.allocatee a y b ≡ Some x → IsAsking made frames x

@@ -18,7 +18,7 @@ use Rattle.raft_model.specs.Invariants.{Invariants}
 use Rattle.raft_model.specs.Lists.{In, at, at_here, at_other}
 use Rattle.raft_model.specs.Messages.{Message}
 use Rattle.raft_model.specs.Messages.Message.{Answers, Requests}
-use Rattle.raft_model.specs.Runs as machine
+use Rattle.raft_model.specs.Runs as raft
 use Rattle.raft_model.specs.Runs.{MayOccur, after, bag_with, local_state_after, local_state_of}
 use Rattle.raft_model.specs.Runs.Event.{Steps}
 use Rattle.raft_model.specs.Server.{RaftServer, Put, Store, committed, put_all}
@@ -51,7 +51,7 @@ use Rattle.cluster_agreement.proofs.StepEffects.{among_after, answered_after, ca
 -- ---- a step that may come
 
 module _ (laws : StepLaws) (more : MoreLaws) (frame_laws : FrameLaws) (codec : CodecLaws) (choice : ℕ → Bool) (made : List SentTransfer) (w : Cluster)
-    (run : machine.World) (shows : Shows choice made w run) (members : AreMembers w.ids) (sound : Invariants run) (written : IsRunWritable w.ids run)
+    (run : raft.World) (shows : Shows choice made w run) (members : AreMembers w.ids) (sound : Invariants run) (written : IsRunWritable w.ids run)
     (t : AllocatorState) (listed : In t.me w.ids) (is : ShowsUp made w.ids w.frames run t.me t (w.member t.me).disk) (event : Event)
     (may : MayHappen w.frames t event) (narrow : IsOnTheBus event) where
   abbrev number : ℕ
@@ -107,7 +107,7 @@ module _ (laws : StepLaws) (more : MoreLaws) (frame_laws : FrameLaws) (codec : C
   pub all_come : AllEnabled run.members t.me number run.bag local_state step_state.moves
   all_come = subst (λ (ms : List ℕ). AllEnabled ms t.me number run.bag local_state step_state.moves) (sym shows.members) of_machine.come
 
-  abbrev finished : machine.Event
+  abbrev finished : raft.Event
   finished = Steps t.me number step_state.moves (messages number step_state)
 
   pub may_finish : MayOccur run finished
@@ -178,7 +178,7 @@ module _ (laws : StepLaws) (more : MoreLaws) (frame_laws : FrameLaws) (codec : C
 
     -- ---- what its server is in the run
 
-    abbrev after_run : machine.World
+    abbrev after_run : raft.World
     after_run = after run finished
 
     raft_server_after : (local_state_after run t.me number step_state.moves).raft_server ≡ step_state.allocator.raft_server
@@ -300,7 +300,7 @@ module _ (laws : StepLaws) (more : MoreLaws) (frame_laws : FrameLaws) (codec : C
 -- ---- of a member by its node ID
 
 module _ (laws : StepLaws) (more : MoreLaws) (frame_laws : FrameLaws) (codec : CodecLaws) (choice : ℕ → Bool) (made : List SentTransfer) (w : Cluster)
-    (run : machine.World) (shows : Shows choice made w run) (members : AreMembers w.ids) (sound : Invariants run) (written : IsRunWritable w.ids run)
+    (run : raft.World) (shows : Shows choice made w run) (members : AreMembers w.ids) (sound : Invariants run) (written : IsRunWritable w.ids run)
     (t : AllocatorState) (event : Event) (may : MayHappen w.frames t event) (narrow : IsOnTheBus event) where
   abbrev its_step_state : StepState
   its_step_state = (step t (w.rows + 1) event).step_state
@@ -308,7 +308,7 @@ module _ (laws : StepLaws) (more : MoreLaws) (frame_laws : FrameLaws) (codec : C
   abbrev its_member : ℕ → Member
   its_member n = record (w.member n) { status = Up its_step_state.allocator; disk = puts_on (stored_puts its_step_state.puts (w.member n).disk.store) (w.member n).disk }
 
-  abbrev its_event : ℕ → machine.Event
+  abbrev its_event : ℕ → raft.Event
   its_event n = Steps n (w.rows + 1) its_step_state.moves (messages (w.rows + 1) its_step_state)
 
   pub record IsFinished (n : ℕ) : Type 0 where

@@ -13,7 +13,7 @@ use Rattle.raft_model.specs.Messages.{Pair}
 use Rattle.raft_model.specs.Messages.Message.{Pairs}
 use Rattle.raft_model.specs.Runs.{Event, World, run}
 use Rattle.raft_model.specs.Safety.{IsSafe, Lasts}
-use Rattle.raft_model.specs.Server as machine
+use Rattle.raft_model.specs.Server as raft
 use Rattle.raft_model.specs.Server.{RaftServer, Store}
 use Rattle.raft_model.specs.Server.Role.{Leader}
 use Rattle.alloc_spec.specs.AllocatorState.{AllocatorState}
@@ -83,8 +83,8 @@ still_pair list longer front uid node is =
 -- ---- a world and its run
 
 module _ (choice : ℕ → Bool) (w : Cluster) (run : World) (mirrors : Mirrors choice w run) (safe : IsSafe run) (sound : Invariants run) where
-  pub same_log : (n : ℕ) → In n w.ids → machine.committed (run.server n).store ≡ committed choice w n
-  same_log n listed = ap machine.committed (mirrors.stored n listed)
+  pub same_log : (n : ℕ) → In n w.ids → raft.committed (run.server n).store ≡ committed choice w n
+  same_log n listed = ap raft.committed (mirrors.stored n listed)
 
   pub of_ledger : (n : ℕ) → In n w.ids → IsPrefix (committed choice w n) run.ledger.entries
   of_ledger n listed = subst (λ (l : List Entry). IsPrefix l run.ledger.entries) (same_log n listed) (safe.committed_here n)
@@ -107,31 +107,31 @@ module _ (choice : ℕ → Bool) (w : Cluster) (run : World) (mirrors : Mirrors 
       (safe.injective i j i_j (omega (arith, j_in, prefix_length (the_list choice w) run.ledger.entries list_of_ledger))))
 
   -- a place of a committed log is that place of the log
-  place_in : (s : Store) (place : ℕ) → place < s.commit → slice_index_or (machine.committed s) place (blank 0) ≡ slice_index_or s.log place (blank 0)
+  place_in : (s : Store) (place : ℕ) → place < s.commit → slice_index_or (raft.committed s) place (blank 0) ≡ slice_index_or s.log place (blank 0)
   place_in s place h = get_or-take s.commit s.log place (blank 0) h
 
-  count_of : (n : ℕ) → length (machine.committed (run.server n).store) ≡ (run.server n).store.commit
+  count_of : (n : ℕ) → length (raft.committed (run.server n).store) ≡ (run.server n).store.commit
   count_of n = length-take-le (run.server n).store.commit (run.server n).store.log (sound.stores n).commit
 
-  formed_of : (n : ℕ) (place : ℕ) → place < length (machine.committed (run.server n).store)
-      → IsWellFormed (slice_index_or (machine.committed (run.server n).store) place (blank 0))
+  formed_of : (n : ℕ) (place : ℕ) → place < length (raft.committed (run.server n).store)
+      → IsWellFormed (slice_index_or (raft.committed (run.server n).store) place (blank 0))
   formed_of n place h = subst IsWellFormed (sym (place_in (run.server n).store place (omega (arith, h, count_of n))))
       ((sound.stores n).well_formed place (omega (arith, h, count_of n, (sound.stores n).commit)))
 
-  proper_of : (n : ℕ) (place : ℕ) → place < length (machine.committed (run.server n).store)
-      → IsProper w.ids (slice_index_or (machine.committed (run.server n).store) place (blank 0))
-  proper_of n place h = mirrors.entries n (slice_index_or (machine.committed (run.server n).store) place (blank 0))
-      (in_taken (run.server n).store.commit (run.server n).store.log _ (in_at (machine.committed (run.server n).store) place (blank 0) h))
+  proper_of : (n : ℕ) (place : ℕ) → place < length (raft.committed (run.server n).store)
+      → IsProper w.ids (slice_index_or (raft.committed (run.server n).store) place (blank 0))
+  proper_of n place h = mirrors.entries n (slice_index_or (raft.committed (run.server n).store) place (blank 0))
+      (in_taken (run.server n).store.commit (run.server n).store.log _ (in_at (raft.committed (run.server n).store) place (blank 0) h))
 
   -- a fact of each place of the committed logs is one of each place of the list
-  each_listed : (Fact : Entry → Type 0) → ((n place : ℕ) → place < length (machine.committed (run.server n).store)
-      → Fact (slice_index_or (machine.committed (run.server n).store) place (blank 0)))
+  each_listed : (Fact : Entry → Type 0) → ((n place : ℕ) → place < length (raft.committed (run.server n).store)
+      → Fact (slice_index_or (raft.committed (run.server n).store) place (blank 0)))
       → (place : ℕ) → place < length (the_list choice w) → Fact (slice_index_or (the_list choice w) place (blank 0))
   each_listed Fact each place h = elim (longest_is choice w w.ids) [
     | inl none ↦ absurd (let e : length (the_list choice w) ≡ 0 = ap length none in omega (arith, h, e))
     | inr some ↦
-        let same : the_list choice w ≡ machine.committed (run.server some.0).store = some.2 ∙ sym (same_log some.0 some.1) in
-        let inside : place < length (machine.committed (run.server some.0).store) = subst (λ (l : List Entry). place < length l) same h in
+        let same : the_list choice w ≡ raft.committed (run.server some.0).store = some.2 ∙ sym (same_log some.0 some.1) in
+        let inside : place < length (raft.committed (run.server some.0).store) = subst (λ (l : List Entry). place < length l) same h in
         subst (λ (l : List Entry). Fact (slice_index_or l place (blank 0))) (sym same) (each some.0 place inside)
   ]
 
@@ -148,7 +148,7 @@ module _ (choice : ℕ → Bool) (w : Cluster) (run : World) (mirrors : Mirrors 
   pub pair_committed : (pair : Pair) → In pair.from w.ids → In (Pairs pair) run.bag → HasPair (committed choice w pair.from) pair.uid pair.node
   pair_committed pair listed there =
       let found = safe.pairs pair there in
-      let inside : found.0 < length (machine.committed (run.server pair.from).store) = omega (arith, found.1, count_of pair.from) in
+      let inside : found.0 < length (raft.committed (run.server pair.from).store) = omega (arith, found.1, count_of pair.from) in
       let same = place_in (run.server pair.from).store found.0 found.1 in
       let uid = ap (λ (e : Entry). e.uid) same ∙ found.2 in
       subst (λ (l : List Entry). HasPair l pair.uid pair.node) (same_log pair.from listed) (record {
@@ -183,7 +183,7 @@ module _ (choice : ℕ → Bool) (now later : Cluster) (early : World) (events :
 
   kept : (n : ℕ) → In n now.ids → IsPrefix (committed choice now n) (committed choice later n)
   kept n listed = subst (λ (l : List Entry). IsPrefix l (committed choice later n)) (same_log choice now early mirrors safe sound n listed)
-      (subst (λ (l : List Entry). IsPrefix (machine.committed (early.server n).store) l) (same_log choice later late mirrored still_safe still_sound n (there_too n listed))
+      (subst (λ (l : List Entry). IsPrefix (raft.committed (early.server n).store) l) (same_log choice later late mirrored still_safe still_sound n (there_too n listed))
       (lasts.committed_here n))
 
   grows : IsPrefix (the_list choice now) (the_list choice later)
@@ -215,13 +215,13 @@ module _ (choice : ℕ → Bool) (now later : Cluster) (early : World) (events :
       let leading = still_sound.leaders.leading leader role in
       let term : (early.server n).store.term ≤ (late.server leader).store.term
       = omega (arith, h, ap (λ (s : Store). s.term) (mirrors.stored n listed), ap (λ (p : RaftServer). p.store.term) same) in
-      let held : IsPrefix (machine.committed (early.server n).store) (late.server leader).store.log = subst (λ (l : List Entry). IsPrefix (machine.committed (early.server n).store) l) (sym leading.2)
+      let held : IsPrefix (raft.committed (early.server n).store) (late.server leader).store.log = subst (λ (l : List Entry). IsPrefix (raft.committed (early.server n).store) l) (sym leading.2)
       (elim (sound.commits.servers n) [
         | inl none ↦ subst (λ (l : List Entry). IsPrefix l (late.history.list (late.server leader).store.term)) (sym (ap (λ (k : ℕ). take k (early.server n).store.log) none)) refl
-        | inr some ↦ begins (machine.committed (early.server n).store) some.0 (late.server leader).store.term some.2 (omega (arith, some.1, term)) leading.0
+        | inr some ↦ begins (raft.committed (early.server n).store) some.0 (late.server leader).store.term some.2 (omega (arith, some.1, term)) leading.0
       ]) in
       subst (λ (l : List Entry). IsPrefix l server.raft_server.store.log) (same_log choice now early mirrors safe sound n listed)
-      (subst (λ (p : RaftServer). IsPrefix (machine.committed (early.server n).store) p.store.log) same held)
+      (subst (λ (p : RaftServer). IsPrefix (raft.committed (early.server n).store) p.store.log) same held)
 
   pub headline : Headline choice now later
   headline = record {

@@ -10,7 +10,7 @@ use Rattle.raft_model.specs.Invariants.{Invariants}
 use Rattle.raft_model.specs.Lists.{In}
 use Rattle.raft_model.specs.Messages.{Pair}
 use Rattle.raft_model.specs.Messages.Message.{Pairs}
-use Rattle.raft_model.specs.Runs as machine
+use Rattle.raft_model.specs.Runs as raft
 use Rattle.raft_model.specs.Runs.{InEveryRun, initial_world}
 use Rattle.raft_model.specs.Safety.{IsSafe}
 use Rattle.replay_text.specs.declared.row.Row.{Row}
@@ -77,7 +77,7 @@ module _ (list : List Entry) (once : IsInjective list) where
 
 -- ---- at one moment
 
-module _ (choice : ℕ → Bool) (made : List SentTransfer) (w : Cluster) (run : machine.World) (shows : Shows choice made w run) (mirrors : Mirrors choice w run)
+module _ (choice : ℕ → Bool) (made : List SentTransfer) (w : Cluster) (run : raft.World) (shows : Shows choice made w run) (mirrors : Mirrors choice w run)
     (safe : IsSafe run) (sound : Invariants run) where
   given_listed : (uid : List ℕ) (node : ℕ) → IsGiven made uid node → HasPair (the_list choice w) uid node
   given_listed uid node is =
@@ -137,7 +137,7 @@ module _ (choice : ℕ → Bool) (made : List SentTransfer) (w : Cluster) (run :
 pub record HoldingLaws : Type 0 where
   pub rows : (choice : ℕ → Bool) (ids : List ℕ) (rows : List Row) → AreMembers ids → DoNoHarm (cluster ids) rows → AgreesWithDisk choice (cluster ids) rows
       → Continues choice (transfers_of_rows (cluster ids) rows []) (world_of ids rows) (initial_world ids) (events choice (cluster ids) rows)
-  pub offers : (choice : ℕ → Bool) (made : List SentTransfer) (w : Cluster) (run : machine.World) → AreMembers w.ids → Shows choice made w run → OffersAreMade w run
+  pub offers : (choice : ℕ → Bool) (made : List SentTransfer) (w : Cluster) (run : raft.World) → AreMembers w.ids → Shows choice made w run → OffersAreMade w run
   pub safe : InEveryRun IsSafe
   pub sound : InEveryRun Invariants
   pub headline : (ids : List ℕ) (rows : List Row) → AreMembers ids → DoNoHarm (cluster ids) rows → HasHeadline ids rows
@@ -151,7 +151,7 @@ module _ (laws : HoldingLaws) (ids : List ℕ) (members : AreMembers ids) (choic
       let so_far = events choice (cluster ids) rows in
       let made = transfers_of_rows (cluster ids) rows [] in
       let w = world_of ids rows in
-      let run = machine.run (initial_world ids) so_far in
+      let run = raft.run (initial_world ids) so_far in
       let same = subst AreMembers (sym (ids_stay (cluster ids) rows)) members in
       let mirror = mirrors choice made w run is.shows is.writable (laws.offers choice made w run same is.shows) in
       let safe = laws.safe ids so_far is.lawful in

@@ -10,10 +10,11 @@ use Rattle.can_frame.specs.declared.step.What.TheVariants.{Alloc, Disc, Stat, In
 use Rattle.can_frame.specs.declared.step.Why.{Why}
 use Rattle.can_frame.specs.declared.step.Why.TheVariants.{NotWanted}
 use Rattle.can_frame.specs.Identifier.{IsIdentifier, identifier_of}
+use Rattle.can_frame.specs.Kinds.{is_service}
 use Rattle.transfer_rx.specs.declared.accept.AcceptRow.{AcceptRow}
 use Rattle.transfer_rx.specs.declared.accept.Wanted.{Wanted}
 use Rattle.transfer_rx.specs.declared.key.Key.{Key}
-use Rattle.transfer_rx.specs.Acceptance.{accepted, first_signature, is_for, is_service, wanted, with_signature}
+use Rattle.transfer_rx.specs.Acceptance.{accepted, first_signature, is_for, wanted, with_signature}
 use Rattle.transfer_rx.specs.Keys.{same_key, same_kind}
 use Rattle.alloc_spec_laws.specs.Sound.{IsDestination}
 use Rattle.alloc_spec.specs.Accepted.{rows}

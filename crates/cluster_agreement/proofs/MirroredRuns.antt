@@ -7,7 +7,7 @@ use Rattle.raft_core.specs.StoredPuts.{store_of}
 use Rattle.raft_log.specs.KeyDisk.{found_by}
 use Rattle.raft_log.specs.Stored.{Stored}
 use Rattle.raft_model.specs.Lists.{In}
-use Rattle.raft_model.specs.Runs as machine
+use Rattle.raft_model.specs.Runs as raft
 use Rattle.raft_model.specs.Invariants.{Invariants}
 use Rattle.raft_model.specs.Runs.{Event, InEveryRun, initial_world}
 use Rattle.raft_model.specs.Safety.{IsSafe}
@@ -35,7 +35,7 @@ use Rattle.cluster_agreement.proofs.Concatenations.{events_joined, first_fits, f
 
 -- ---- a world that is shown mirrors its run
 
-module _ (choice : ℕ → Bool) (made : List SentTransfer) (w : Cluster) (run : machine.World) (shows : Shows choice made w run) where
+module _ (choice : ℕ → Bool) (made : List SentTransfer) (w : Cluster) (run : raft.World) (shows : Shows choice made w run) where
   pub same_store : (n : ℕ) (status : MemberStatus) (disk : KeyDisk Stored) → ShowsMember choice made w.ids w.frames run n status disk
       → (run.server n).store ≡ stored_on choice status disk
   same_store n Down disk is = is.stored
@@ -77,25 +77,25 @@ module _ (choice : ℕ → Bool) (made : List SentTransfer) (w : Cluster) (run :
 pub record ListLaws : Type 0 where
   pub rows : (choice : ℕ → Bool) (ids : List ℕ) (rows : List Row) → AreMembers ids → DoNoHarm (cluster ids) rows → AgreesWithDisk choice (cluster ids) rows
       → Continues choice (transfers_of_rows (cluster ids) rows []) (world_of ids rows) (initial_world ids) (events choice (cluster ids) rows)
-  pub offers : (choice : ℕ → Bool) (made : List SentTransfer) (w : Cluster) (run : machine.World) → AreMembers w.ids → Shows choice made w run
+  pub offers : (choice : ℕ → Bool) (made : List SentTransfer) (w : Cluster) (run : raft.World) → AreMembers w.ids → Shows choice made w run
       → OffersAreMade w run
-  pub bus : (choice : ℕ → Bool) (made : List SentTransfer) (w : Cluster) (run : machine.World) → AreMembers w.ids → Shows choice made w run
+  pub bus : (choice : ℕ → Bool) (made : List SentTransfer) (w : Cluster) (run : raft.World) → AreMembers w.ids → Shows choice made w run
       → BusIsMade made w run
   pub safe : InEveryRun IsSafe
   pub sound : InEveryRun Invariants
   pub headline : (choice : ℕ → Bool) (members : List ℕ) (first rest : List Event) (now later : Cluster)
-      → machine.Lawful (initial_world members) first → machine.Lawful (machine.run (initial_world members) first) rest → later.ids ≡ now.ids
-      → Mirrors choice now (machine.run (initial_world members) first)
-      → Mirrors choice later (machine.run (machine.run (initial_world members) first) rest) → Headline choice now later
+      → raft.Lawful (initial_world members) first → raft.Lawful (raft.run (initial_world members) first) rest → later.ids ≡ now.ids
+      → Mirrors choice now (raft.run (initial_world members) first)
+      → Mirrors choice later (raft.run (raft.run (initial_world members) first) rest) → Headline choice now later
   pub choices : (ids : List ℕ) (rows : List Row) → AreMembers ids → DoNoHarm (cluster ids) rows → (choice : ℕ → Bool) × AgreesWithDisk choice (cluster ids) rows
 
 module _ (laws : ListLaws) (ids : List ℕ) (members : AreMembers ids) (choice : ℕ → Bool) where
   mirrored : (rows : List Row) → DoNoHarm (cluster ids) rows → AgreesWithDisk choice (cluster ids) rows
-      → Mirrors choice (world_of ids rows) (machine.run (initial_world ids) (events choice (cluster ids) rows))
+      → Mirrors choice (world_of ids rows) (raft.run (initial_world ids) (events choice (cluster ids) rows))
   mirrored rows harmless fits =
       let is = laws.rows choice ids rows members harmless fits in
-      mirrors choice (transfers_of_rows (cluster ids) rows []) (world_of ids rows) (machine.run (initial_world ids) (events choice (cluster ids) rows)) is.shows is.writable
-      (laws.offers choice (transfers_of_rows (cluster ids) rows []) (world_of ids rows) (machine.run (initial_world ids) (events choice (cluster ids) rows))
+      mirrors choice (transfers_of_rows (cluster ids) rows []) (world_of ids rows) (raft.run (initial_world ids) (events choice (cluster ids) rows)) is.shows is.writable
+      (laws.offers choice (transfers_of_rows (cluster ids) rows []) (world_of ids rows) (raft.run (initial_world ids) (events choice (cluster ids) rows))
       (subst AreMembers (sym (ids_stay (cluster ids) rows)) members) is.shows)
 
   module _ (first more : List Row) (harmless : DoNoHarm (cluster ids) (first ++ more)) (fits : AgreesWithDisk choice (cluster ids) (first ++ more)) where
@@ -105,19 +105,19 @@ module _ (laws : ListLaws) (ids : List ℕ) (members : AreMembers ids) (choice :
     abbrev late : List Event
     late = events choice (world_of ids first) more
 
-    both : machine.Lawful (initial_world ids) early × machine.Lawful (machine.run (initial_world ids) early) late
+    both : raft.Lawful (initial_world ids) early × raft.Lawful (raft.run (initial_world ids) early) late
     both = lawful_parted (initial_world ids) early late
-        (subst (λ (l : List Event). machine.Lawful (initial_world ids) l) (events_joined choice (cluster ids) first more)
+        (subst (λ (l : List Event). raft.Lawful (initial_world ids) l) (events_joined choice (cluster ids) first more)
         (laws.rows choice ids (first ++ more) members harmless fits).lawful)
 
-    same_run : machine.run (initial_world ids) (events choice (cluster ids) (first ++ more)) ≡ machine.run (machine.run (initial_world ids) early) late
-    same_run = ap (λ (l : List Event). machine.run (initial_world ids) l) (events_joined choice (cluster ids) first more) ∙ run_joined (initial_world ids) early late
+    same_run : raft.run (initial_world ids) (events choice (cluster ids) (first ++ more)) ≡ raft.run (raft.run (initial_world ids) early) late
+    same_run = ap (λ (l : List Event). raft.run (initial_world ids) l) (events_joined choice (cluster ids) first more) ∙ run_joined (initial_world ids) early late
 
     pub between : Headline choice (world_of ids first) (world_of ids (first ++ more))
     between = laws.headline choice ids early late (world_of ids first) (world_of ids (first ++ more)) both.0 both.1
         (ids_stay (cluster ids) (first ++ more) ∙ sym (ids_stay (cluster ids) first))
         (mirrored first (first_harmless (cluster ids) first more harmless) (first_fits choice (cluster ids) first more fits))
-        (subst (λ (r : machine.World). Mirrors choice (world_of ids (first ++ more)) r) same_run (mirrored (first ++ more) harmless fits))
+        (subst (λ (r : raft.World). Mirrors choice (world_of ids (first ++ more)) r) same_run (mirrored (first ++ more) harmless fits))
 
   -- ---- the bus at one moment
 
@@ -127,7 +127,7 @@ module _ (laws : ListLaws) (ids : List ℕ) (members : AreMembers ids) (choice :
     on_bus frame n there of =
         let so_far = events choice (cluster ids) rows in
         let is = laws.rows choice ids rows members harmless fits in
-        let run = machine.run (initial_world ids) so_far in
+        let run = raft.run (initial_world ids) so_far in
         let its = laws.bus choice (transfers_of_rows (cluster ids) rows []) (world_of ids rows) run
         (subst AreMembers (sym (ids_stay (cluster ids) rows)) members) is.shows frame n there of in (
           subst (λ (l : List ℕ). In n l) (ids_stay (cluster ids) rows) its.0,

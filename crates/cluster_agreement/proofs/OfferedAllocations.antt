@@ -13,7 +13,7 @@ use Rattle.dsdl_codec.specs.Allocation.{allocation_of}
 use Rattle.raft_model.specs.Lists.{In}
 use Rattle.raft_model.specs.Messages.{Message}
 use Rattle.raft_model.specs.Messages.Message.{Pairs}
-use Rattle.raft_model.specs.Runs as machine
+use Rattle.raft_model.specs.Runs as raft
 use Rattle.transfer_rx.specs.Reassembly.{Arrival}
 use Rattle.transfer_tx.specs.Queue.{Queued, queued_frames}
 use Rattle.alloc_spec.specs.Transfers.{SentTransfer, frames_of, pair_of_allocation, ident_of, message_by, message_of, outgoing, pair_message, signature_of}
@@ -168,7 +168,7 @@ says_pair x answer what reads gives whole =
 
 -- ---- in the bag
 
-pub offers_are_made : (laws : FrameLaws) (choice : ℕ → Bool) (made : List SentTransfer) (w : Cluster) (run : machine.World) → AreMembers w.ids
+pub offers_are_made : (laws : FrameLaws) (choice : ℕ → Bool) (made : List SentTransfer) (w : Cluster) (run : raft.World) → AreMembers w.ids
     → Shows choice made w run → OffersAreMade w run
 offers_are_made laws choice made w run members shows n server answer listed runs offered gives =
     let is : ShowsUp made w.ids w.frames run n server (w.member n).disk
@@ -233,7 +233,7 @@ module _ (laws : FrameLaws) (ids : List ℕ) (low : (n : ℕ) → In n ids → 1
   on_bus (inl (m, listed, piece)) = its_frame m listed piece
   on_bus (inr foreign) = absurd (cc (sym (forged_allocation ids of.ident of.kind of.number), ap (λ (o : Option Ident). is_forged ids o) (sym of.read), foreign))
 
-pub bus_is_made : (laws : FrameLaws) (choice : ℕ → Bool) (made : List SentTransfer) (w : Cluster) (run : machine.World) → AreMembers w.ids
+pub bus_is_made : (laws : FrameLaws) (choice : ℕ → Bool) (made : List SentTransfer) (w : Cluster) (run : raft.World) → AreMembers w.ids
     → Shows choice made w run → BusIsMade made w run
 bus_is_made laws choice made w run members shows frame n there of =
     on_bus laws w.ids (λ m i. (members.nodes m i).0) (λ m i. (members.nodes m i).1) made run.bag shows.holds frame n of (shows.bus frame there)

@@ -9,7 +9,7 @@ use Rattle.outside.specs.declared.pattern.Pattern.{Pattern}
 use Rattle.raft_log.specs.KeyDisk.{are_put, is_open_on}
 use Rattle.raft_model.specs.Invariants.{Invariants}
 use Rattle.raft_model.specs.Lists.{In, at}
-use Rattle.raft_model.specs.Runs as machine
+use Rattle.raft_model.specs.Runs as raft
 use Rattle.raft_model.specs.Runs.{MayOccur, after}
 use Rattle.raft_model.specs.Runs.Event.{Opens, Steps, Stops}
 use Rattle.replay_text.specs.declared.row.Row.{Row}
@@ -39,48 +39,48 @@ use Rattle.cluster_agreement.proofs.StepEffects.{one_arrival}
 
 -- what is known of each kind of row, as its law says it
 pub record RowLaws : Type 0 where
-  pub outside : (choice : ℕ → Bool) (made : List SentTransfer) (w : Cluster) (run : machine.World) → Shows choice made w run
+  pub outside : (choice : ℕ → Bool) (made : List SentTransfer) (w : Cluster) (run : raft.World) → Shows choice made w run
       → (frame : Frame) → cause w (Ext frame) ≡ None → Shows choice made (after_row w (Ext frame)) run
-  pub sent : (choice : ℕ → Bool) (made : List SentTransfer) (w : Cluster) (run : machine.World) → AreMembers w.ids → Shows choice made w run
+  pub sent : (choice : ℕ → Bool) (made : List SentTransfer) (w : Cluster) (run : raft.World) → AreMembers w.ids → Shows choice made w run
       → (n : ℕ) → cause w (Send n) ≡ None → Shows choice made (after_row w (Send n)) run
-  pub stop_armed : (choice : ℕ → Bool) (made : List SentTransfer) (w : Cluster) (run : machine.World) → Shows choice made w run
+  pub stop_armed : (choice : ℕ → Bool) (made : List SentTransfer) (w : Cluster) (run : raft.World) → Shows choice made w run
       → (n calls : ℕ) (pattern : Pattern) → (calls == 0) ≡ false → Shows choice made (after_row w (Crash n calls pattern)) run
-  pub failure_armed : (choice : ℕ → Bool) (made : List SentTransfer) (w : Cluster) (run : machine.World) → Shows choice made w run
+  pub failure_armed : (choice : ℕ → Bool) (made : List SentTransfer) (w : Cluster) (run : raft.World) → Shows choice made w run
       → (n call : ℕ) → Shows choice made (after_row w (Fault n call)) run
-  pub stopped : (choice : ℕ → Bool) (made : List SentTransfer) (w : Cluster) (run : machine.World) → Shows choice made w run → IsRunWritable w.ids run
+  pub stopped : (choice : ℕ → Bool) (made : List SentTransfer) (w : Cluster) (run : raft.World) → Shows choice made w run → IsRunWritable w.ids run
       → (n : ℕ) (pattern : Pattern) → In n w.ids → (t : AllocatorState) → (w.member n).status ≡ Up t → let stop = Stops n (w.rows + 1) [] in
       MayOccur run stop × IsRunWritable w.ids (after run stop) × Shows choice made (after_row w (Crash n 0 pattern)) (after run stop)
-  pub failed_stopped : (choice : ℕ → Bool) (made : List SentTransfer) (w : Cluster) (run : machine.World) → Shows choice made w run
+  pub failed_stopped : (choice : ℕ → Bool) (made : List SentTransfer) (w : Cluster) (run : raft.World) → Shows choice made w run
       → (n : ℕ) (pattern : Pattern) → In n w.ids → (failure : Failure) → (w.member n).status ≡ Failed failure
       → RowAgreesWithDisk choice w (Crash n 0 pattern) → Shows choice made (after_row w (Crash n 0 pattern)) run
-  pub opened : (choice : ℕ → Bool) (made : List SentTransfer) (w : Cluster) (run : machine.World) → AreMembers w.ids → Shows choice made w run
+  pub opened : (choice : ℕ → Bool) (made : List SentTransfer) (w : Cluster) (run : raft.World) → AreMembers w.ids → Shows choice made w run
       → IsRunWritable w.ids run → (n : ℕ) (told : Bool) (ms word : ℕ) → In n w.ids → (w.member n).status ≡ Down → is_open_on (w.member n).disk ≡ true
       → MayOccur run (Opens n) × IsRunWritable w.ids (after run (Opens n)) × Shows choice made (after_row w (Open n told ms word)) (after run (Opens n))
-  pub not_opened : (choice : ℕ → Bool) (made : List SentTransfer) (w : Cluster) (run : machine.World) → AreMembers w.ids → Shows choice made w run
+  pub not_opened : (choice : ℕ → Bool) (made : List SentTransfer) (w : Cluster) (run : raft.World) → AreMembers w.ids → Shows choice made w run
       → (n : ℕ) (told : Bool) (ms word : ℕ) → In n w.ids → (w.member n).status ≡ Down → is_open_on (w.member n).disk ≡ false
       → Shows choice made (after_row w (Open n told ms word)) run
-  pub finished : (choice : ℕ → Bool) (made : List SentTransfer) (w : Cluster) (run : machine.World) → AreMembers w.ids → Shows choice made w run
+  pub finished : (choice : ℕ → Bool) (made : List SentTransfer) (w : Cluster) (run : raft.World) → AreMembers w.ids → Shows choice made w run
       → Invariants run → IsRunWritable w.ids run → (n : ℕ) (t : AllocatorState) (event : Event) → In n w.ids → (w.member n).status ≡ Up t
       → MayHappen w.frames t event → IsOnTheBus event → let number = w.rows + 1 in let step_state = (step t number event).step_state in
       are_put (puts_of (w.member n) step_state) (w.member n).disk.calls ≡ true
       → let whole = Steps n number step_state.moves (messages number step_state) in MayOccur run whole × IsRunWritable w.ids (after run whole)
       × Shows choice (transfers_of_offers number n step_state.offers made) (record (with_step w n event) { rows = number }) (after run whole)
-  pub cut_off : (choice : ℕ → Bool) (made : List SentTransfer) (w : Cluster) (run : machine.World) → AreMembers w.ids → Shows choice made w run
+  pub cut_off : (choice : ℕ → Bool) (made : List SentTransfer) (w : Cluster) (run : raft.World) → AreMembers w.ids → Shows choice made w run
       → Invariants run → IsRunWritable w.ids run → (n : ℕ) (t : AllocatorState) (event : Event) → In n w.ids → (w.member n).status ≡ Up t
       → MayHappen w.frames t event → IsOnTheBus event → let number = w.rows + 1 in let step_state = (step t number event).step_state in
       are_put (puts_of (w.member n) step_state) (w.member n).disk.calls ≡ false
-      → (stop : machine.Event) × (cut_events choice w.ids n number (w.member n) t step_state ≡ stop ∷ []) × MayOccur run stop
+      → (stop : raft.Event) × (cut_events choice w.ids n number (w.member n) t step_state ≡ stop ∷ []) × MayOccur run stop
       × IsRunWritable w.ids (after run stop) × Shows choice made (record (with_step w n event) { rows = number }) (after run stop)
   -- of allocatees
-  pub came : (choice : ℕ → Bool) (made : List SentTransfer) (w : Cluster) (run : machine.World) → Shows choice made w run
+  pub came : (choice : ℕ → Bool) (made : List SentTransfer) (w : Cluster) (run : raft.World) → Shows choice made w run
       → (a : ℕ) (uid : List ℕ) (pref ms word : ℕ) → Shows choice made (after_row w (AOpen a uid pref ms word)) run
-  pub ticked : (choice : ℕ → Bool) (made : List SentTransfer) (w : Cluster) (run : machine.World) → AreMembers w.ids → Shows choice made w run
+  pub ticked : (choice : ℕ → Bool) (made : List SentTransfer) (w : Cluster) (run : raft.World) → AreMembers w.ids → Shows choice made w run
       → (a ms word : ℕ) → Shows choice made (after_row w (ATick a ms word)) run
-  pub received : (choice : ℕ → Bool) (made : List SentTransfer) (w : Cluster) (run : machine.World) → AreMembers w.ids → Shows choice made w run
+  pub received : (choice : ℕ → Bool) (made : List SentTransfer) (w : Cluster) (run : raft.World) → AreMembers w.ids → Shows choice made w run
       → (a k ms word : ℕ) → cause w (ARx a k ms word) ≡ None → Shows choice made (after_row w (ARx a k ms word)) run
-  pub put : (choice : ℕ → Bool) (made : List SentTransfer) (w : Cluster) (run : machine.World) → Shows choice made w run
+  pub put : (choice : ℕ → Bool) (made : List SentTransfer) (w : Cluster) (run : raft.World) → Shows choice made w run
       → (a : ℕ) → cause w (ASend a) ≡ None → Shows choice made (after_row w (ASend a)) run
-  pub left : (choice : ℕ → Bool) (made : List SentTransfer) (w : Cluster) (run : machine.World) → Shows choice made w run
+  pub left : (choice : ℕ → Bool) (made : List SentTransfer) (w : Cluster) (run : raft.World) → Shows choice made w run
       → (a : ℕ) → Shows choice made (after_row w (AEnd a)) run
 
 -- ---- a frame that may be received
@@ -149,7 +149,7 @@ may_receive w n k moment t is runs = record {
 
 -- ---- rows
 
-module _ (laws : RowLaws) (choice : ℕ → Bool) (made : List SentTransfer) (w : Cluster) (run : machine.World) (members : AreMembers w.ids)
+module _ (laws : RowLaws) (choice : ℕ → Bool) (made : List SentTransfer) (w : Cluster) (run : raft.World) (members : AreMembers w.ids)
     (shows : Shows choice made w run) (sound : Invariants run) (written : IsRunWritable w.ids run) where
   -- no event
   quiet : (later : Cluster) → Shows choice made later run → Continues choice made later run []
@@ -180,7 +180,7 @@ module _ (laws : RowLaws) (choice : ℕ → Bool) (made : List SentTransfer) (w 
           record { lawful = (r.0, tt); shows = r.2; writable = r.1 }
       by_puts t runs false failed =
           let r = laws.cut_off choice made w run members shows sound written n t event listed runs (may t runs) on_bus failed in
-          subst (λ (events : List machine.Event). Continues choice made later run events) (sym r.1)
+          subst (λ (events : List raft.Event). Continues choice made later run events) (sym r.1)
           (record { lawful = (r.2, tt); shows = r.4; writable = r.3 })
 
       -- a member that failed takes no step

@@ -2,13 +2,14 @@
 use Rattle.std.proofs.Common.{◌≡◌, ℕ, ◌≤◌, Bool, List, true, refl, sym, ap, subst, ◌∙◌, inl}
 use Rattle.can_frame.specs.declared.identifier.Ident.{Ident}
 use Rattle.can_frame.specs.declared.mark.Mark.{Mark}
-use Rattle.raft_model.specs.Runs as machine
+use Rattle.can_frame.specs.Kinds.{is_service}
+use Rattle.raft_model.specs.Runs as raft
 use Rattle.replay_text.specs.declared.row.Row.TheVariants.{Rx}
 use Rattle.alloc_spec.specs.Accepted.{rows, setting_for}
 use Rattle.alloc_spec.specs.Step.{at_moment, at_step}
 use Rattle.alloc_spec.specs.AllocatorState.{AllocatorState}
 use Rattle.alloc_spec.specs.Transfers.{SentTransfer}
-use Rattle.transfer_rx.specs.Acceptance.{is_for, is_service}
+use Rattle.transfer_rx.specs.Acceptance.{is_for}
 use Rattle.transfer_rx.specs.Reassembly.{Arrival, Delivery}
 use Rattle.transfer_rx.specs.Sound.{IsDelivered}
 use Rattle.cluster_spec.specs.Cluster.{AreMembers, Cluster, arrival_at, frame_at}
@@ -23,7 +24,7 @@ use Rattle.cluster_agreement.proofs.Deliveries.{MayCome, judged_harmless, judges
 use Rattle.cluster_agreement.proofs.Idents.{one_what, service_is, wanted_is}
 use Rattle.cluster_agreement.proofs.OneRow.{IsReceived, is_harmless, is_received}
 
-module _ (laws : FrameLaws) (choice : ℕ → Bool) (made : List SentTransfer) (w : Cluster) (run : machine.World) (members : AreMembers w.ids)
+module _ (laws : FrameLaws) (choice : ℕ → Bool) (made : List SentTransfer) (w : Cluster) (run : raft.World) (members : AreMembers w.ids)
     (shows : Shows choice made w run) (n k ms : ℕ) (d : Delivery) (harmless : DoesNoHarm w (Rx n k ms)) (is : IsDeliveredTo w n k ms d) where
   abbrev t : AllocatorState
   t = is.server

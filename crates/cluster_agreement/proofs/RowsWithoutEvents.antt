@@ -16,7 +16,7 @@ use Rattle.raft_log.specs.Stored.{Stored}
 use Rattle.raft_core.specs.Times.{Sending}
 use Rattle.raft_model.specs.Lists.{In, any, at}
 use Rattle.raft_model.specs.Messages.{Request}
-use Rattle.raft_model.specs.Runs as machine
+use Rattle.raft_model.specs.Runs as raft
 use Rattle.replay_text.specs.declared.row.Row.TheVariants.{Crash, Ext, Fault, Send}
 use Rattle.transfer_tx.specs.Queue.{Queued, is_least, left_behind, next_out}
 use Rattle.alloc_spec_laws.specs.Coming.{KeepsOrder}
@@ -99,7 +99,7 @@ is_lawful why (inr e) = never e.1
 pub one_more : (frames : List Queued) (frame : Queued) → IsIn frames (frames ++ frame ∷ [])
 one_more frames frame x i = in_front x frames (frame ∷ []) i
 
-module _ (choice : ℕ → Bool) (made : List SentTransfer) (w : Cluster) (run : machine.World) (shows : Shows choice made w run) where
+module _ (choice : ℕ → Bool) (made : List SentTransfer) (w : Cluster) (run : raft.World) (shows : Shows choice made w run) where
   -- with other allocatees, each of which is shown
   abbrev pub AreShown : (ℕ → Option Device) → List Queued → Type 0
   AreShown others frames = (a : ℕ) (x : Device) → others a ≡ Some x → IsAsking made frames x
@@ -145,7 +145,7 @@ module _ (choice : ℕ → Bool) (made : List SentTransfer) (w : Cluster) (run :
 
 -- ---- a frame from outside
 
-module _ (choice : ℕ → Bool) (made : List SentTransfer) (w : Cluster) (run : machine.World) (shows : Shows choice made w run) (frame : Frame)
+module _ (choice : ℕ → Bool) (made : List SentTransfer) (w : Cluster) (run : raft.World) (shows : Shows choice made w run) (frame : Frame)
     (lawful : cause w (Ext frame) ≡ None) where
   abbrev added : Queued
   added = from_outside frame.id frame.bytes.items
@@ -175,7 +175,7 @@ module _ (pattern : Pattern) (disk : KeyDisk Stored) (calls : Calls) where
   kept_same (Some unsynced) = refl
 
 -- a member whose disk is as it was, but for the calls that it lets fail
-module _ (choice : ℕ → Bool) (made : List SentTransfer) (ids : List ℕ) (frames : List Queued) (run : machine.World) (m : ℕ) where
+module _ (choice : ℕ → Bool) (made : List SentTransfer) (ids : List ℕ) (frames : List Queued) (run : raft.World) (m : ℕ) where
   armed_status : (status : MemberStatus) (disk : KeyDisk Stored) (calls : Calls) → ShowsMember choice made ids frames run m status disk
       → ShowsMember choice made ids frames run m status (record disk { calls = calls })
   armed_status Down disk calls is = record { down = is.down; stored = is.stored; nothing_unsynced = is.nothing_unsynced }
@@ -201,7 +201,7 @@ module _ (choice : ℕ → Bool) (made : List SentTransfer) (ids : List ℕ) (fr
   }
 
 -- the world with another member, whose life and disk show what they showed
-module _ (choice : ℕ → Bool) (made : List SentTransfer) (w : Cluster) (run : machine.World) (shows : Shows choice made w run) (n : ℕ) where
+module _ (choice : ℕ → Bool) (made : List SentTransfer) (w : Cluster) (run : raft.World) (shows : Shows choice made w run) (n : ℕ) where
   pub changed_shown : (x : Member) → (In n w.ids → ShowsMember choice made w.ids w.frames run n x.status x.disk)
       → Shows choice made (record w { member = at w.member n x; rows = w.rows + 1 }) run
   changed_shown x here = record {
@@ -289,7 +289,7 @@ same_call t peer request sending is = record {
 }
 
 module _ (laws : FrameLaws) (popped_sound : (t : AllocatorState) → IsSound t → IsSound (after_pop t)) (popped_order : (t : AllocatorState) → KeepsOrder t → KeepsOrder (after_pop t))
-    (choice : ℕ → Bool) (made : List SentTransfer) (w : Cluster) (high : (n : ℕ) → In n w.ids → n ≤ 125) (run : machine.World) (shows : Shows choice made w run) (n : ℕ) where
+    (choice : ℕ → Bool) (made : List SentTransfer) (w : Cluster) (high : (n : ℕ) → In n w.ids → n ≤ 125) (run : raft.World) (shows : Shows choice made w run) (n : ℕ) where
   -- the world with this life of the member that sends
   abbrev after_member_status : MemberStatus → Cluster
   after_member_status status = record (with_member w n (record (w.member n) { status = after_sending status }))

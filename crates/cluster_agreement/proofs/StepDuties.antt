@@ -3,7 +3,7 @@ use Rattle.std.proofs.Common.{◌≡◌, ℕ, ◌+◌, Bool, List, [], ◌∷◌
 use Rattle.raft_model.specs.Duty.{WinDuty}
 use Rattle.raft_model.specs.Invariants.{Invariants}
 use Rattle.raft_model.specs.Lists.{In}
-use Rattle.raft_model.specs.Runs as machine
+use Rattle.raft_model.specs.Runs as raft
 use Rattle.raft_model.specs.Runs.{InEveryRun, initial_world}
 use Rattle.raft_model.specs.Server.{RaftServer}
 use Rattle.replay_text.specs.declared.row.Row.{Row}
@@ -34,15 +34,15 @@ pub record DutyLaws : Type 0 where
       → Continues choice (transfers_of_rows (cluster ids) rows []) (world_of ids rows) (initial_world ids) (events choice (cluster ids) rows)
   pub choices : (ids : List ℕ) (rows : List Row) → AreMembers ids → DoNoHarm (cluster ids) rows → (choice : ℕ → Bool) × AgreesWithDisk choice (cluster ids) rows
   pub sound : InEveryRun Invariants
-  pub wins : (members : List ℕ) (all : List machine.Event) (member : ℕ) → machine.Lawful (initial_world members) all
-      → WinDuty members ((machine.run (initial_world members) all).server member)
-  pub step : (choice : ℕ → Bool) (made : List SentTransfer) (w : Cluster) (run : machine.World) → AreMembers w.ids → Shows choice made w run
+  pub wins : (members : List ℕ) (all : List raft.Event) (member : ℕ) → raft.Lawful (initial_world members) all
+      → WinDuty members ((raft.run (initial_world members) all).server member)
+  pub step : (choice : ℕ → Bool) (made : List SentTransfer) (w : Cluster) (run : raft.World) → AreMembers w.ids → Shows choice made w run
       → Invariants run → IsRunWritable w.ids run → (n : ℕ) (t : AllocatorState) (event : Event) → In n w.ids → (w.member n).status ≡ Up t
       → MayHappen w.frames t event → IsOnTheBus event → WinDuty w.ids t.raft_server → DoesItsDuty w.ids t (w.rows + 1) event
 
 -- ---- a row
 
-module _ (laws : DutyLaws) (choice : ℕ → Bool) (made : List SentTransfer) (w : Cluster) (run : machine.World) (members : AreMembers w.ids)
+module _ (laws : DutyLaws) (choice : ℕ → Bool) (made : List SentTransfer) (w : Cluster) (run : raft.World) (members : AreMembers w.ids)
     (shows : Shows choice made w run) (sound : Invariants run) (written : IsRunWritable w.ids run)
     (wins : (n : ℕ) → WinDuty w.ids (run.server n)) where
   in_status : (n : ℕ) (event : Event) → In n w.ids → IsOnTheBus event → ((t : AllocatorState) → (w.member n).status ≡ Up t → MayHappen w.frames t event)
@@ -79,9 +79,9 @@ module _ (laws : DutyLaws) (ids : List ℕ) (members : AreMembers ids) where
       let so_far = events some.0 (cluster ids) rows in
       let is = laws.rows some.0 ids rows members harmless some.1 in
       let same = ids_stay (cluster ids) rows in
-      in_row laws some.0 (transfers_of_rows (cluster ids) rows []) (world_of ids rows) (machine.run (initial_world ids) so_far)
+      in_row laws some.0 (transfers_of_rows (cluster ids) rows []) (world_of ids rows) (raft.run (initial_world ids) so_far)
       (subst AreMembers (sym same) members) is.shows (laws.sound ids so_far is.lawful) is.writable
-      (λ n. subst (λ (l : List ℕ). WinDuty l ((machine.run (initial_world ids) so_far).server n)) (sym same) (laws.wins ids so_far n is.lawful))
+      (λ n. subst (λ (l : List ℕ). WinDuty l ((raft.run (initial_world ids) so_far).server n)) (sym same) (laws.wins ids so_far n is.lawful))
       row its
 
 pub are_dutiful : DutyLaws → (ids : List ℕ) (rows : List Row) → AreMembers ids → DoNoHarm (cluster ids) rows → AreDutiful ids rows

@@ -7,14 +7,14 @@ use Rattle.can_frame.specs.declared.identifier.Kind.{Kind}
 use Rattle.can_frame.specs.declared.identifier.Kind.TheVariants.{Message as Broadcast, Request as RequestKind, Response}
 use Rattle.can_frame.specs.declared.step.What.{What}
 use Rattle.can_frame.specs.declared.step.What.TheVariants.{Disc, VoteQ, Vote, AppQ, App}
+use Rattle.can_frame.specs.Kinds.{is_service, is_anonymous}
 use Rattle.raft_model.specs.Lists.{In}
 use Rattle.raft_model.specs.Messages.{Answer, Message, Request}
 use Rattle.raft_model.specs.Messages.Message.{Answers, Requests}
 use Rattle.raft_model.specs.Runs.{bag_with}
 use Rattle.raft_core.specs.Times.{Sending}
 use Rattle.dsdl_codec.specs.Discovery.{discovery_of}
-use Rattle.transfer_rx.specs.Acceptance.{first_signature, is_service}
-use Rattle.transfer_rx.specs.Keys.{is_anonymous}
+use Rattle.transfer_rx.specs.Acceptance.{first_signature}
 use Rattle.transfer_rx.specs.Origin.{CameWithKey}
 use Rattle.transfer_rx.specs.Reassembly.{Arrival, Delivery, Setting, next}
 use Rattle.transfer_rx.specs.Reassembly as rx

@@ -6,7 +6,7 @@ use Rattle.raft_core.specs.Times.{Sending}
 use Rattle.raft_log.specs.Stored.{Stored}
 use Rattle.raft_model.specs.Lists.{In, at, at_here, at_other}
 use Rattle.raft_model.specs.Messages.{Request}
-use Rattle.raft_model.specs.Runs as machine
+use Rattle.raft_model.specs.Runs as raft
 use Rattle.raft_model.specs.Server.{RaftServer}
 use Rattle.transfer_rx.specs.Reassembly.{Setting}
 use Rattle.transfer_rx.specs.Sessions.{Session}
@@ -81,7 +81,7 @@ module _ (made more : List SentTransfer) (still : IsIn made more) (frames longer
   }
 
 module _ (choice : ℕ → Bool) (made more : List SentTransfer) (still : IsIn made more) (ids : List ℕ) (frames longer : List Queued) (there : IsIn frames longer)
-    (run other : machine.World) where
+    (run other : raft.World) where
   pub work_more : (m : ℕ) (t : AllocatorState) → IsAtWork made ids frames m t → IsAtWork more ids longer m t
   work_more m t is = record {
     queue = λ frame i. piece_more made more still m frame (is.queue frame i);

@@ -10,7 +10,7 @@ use Rattle.raft_log.specs.DeviceCalls.{key_of}
 use Rattle.raft_log.specs.KeyDisk.{are_put, done_on, found_by, is_open_on, opening_on, put_state_on, puts_on}
 use Rattle.raft_log.specs.Stored.{Put, Stored, after_put, after_puts, opening_puts}
 use Rattle.raft_model.specs.Lists.{In, at, at_here, at_other}
-use Rattle.raft_model.specs.Runs as machine
+use Rattle.raft_model.specs.Runs as raft
 use Rattle.raft_model.specs.Runs.{MayOccur, after}
 use Rattle.raft_model.specs.Runs.Event.{Opens, Stops}
 use Rattle.raft_model.specs.Server as server
@@ -74,7 +74,7 @@ after_restart pattern disk = by disk.unsynced where
   by (Some unsynced) = of_bool unsynced (keeps pattern (disk.copies unsynced.key))
 
 -- a member that is down, over a disk on which every restart finds what the run has stored
-pub down_from : (run : machine.World) (m : ℕ) (disk : KeyDisk Stored) → (run.server m).memory ≡ memory_when_down → AlwaysFinds disk (run.server m).store
+pub down_from : (run : raft.World) (m : ℕ) (disk : KeyDisk Stored) → (run.server m).memory ≡ memory_when_down → AlwaysFinds disk (run.server m).store
     → ShowsDown run m disk
 down_from run m disk down finds = record {
   down = down;
@@ -82,11 +82,11 @@ down_from run m disk down finds = record {
   nothing_unsynced = λ unsynced e. finds_before disk (run.server m).store finds unsynced e ∙ sym (finds_stored disk (run.server m).store finds);
 }
 
-pub down_finds : (run : machine.World) (m : ℕ) (disk : KeyDisk Stored) → ShowsDown run m disk → AlwaysFinds disk (run.server m).store
+pub down_finds : (run : raft.World) (m : ℕ) (disk : KeyDisk Stored) → ShowsDown run m disk → AlwaysFinds disk (run.server m).store
 down_finds run m disk is = loose_finds disk (run.server m).store (sym is.stored) is.nothing_unsynced
 
 -- what a restart of it leaves
-pub restarted_down : (run : machine.World) (m : ℕ) (disk : KeyDisk Stored) (pattern : Pattern) → (run.server m).memory ≡ memory_when_down
+pub restarted_down : (run : raft.World) (m : ℕ) (disk : KeyDisk Stored) (pattern : Pattern) → (run.server m).memory ≡ memory_when_down
     → store_of (restarted_on pattern disk).store ≡ (run.server m).store → ShowsDown run m (restarted_on pattern disk)
 restarted_down run m disk pattern down found = record {
   down = down;
@@ -96,7 +96,7 @@ restarted_down run m disk pattern down found = record {
 
 -- ---- a stop between two steps
 
-module _ (choice : ℕ → Bool) (made : List SentTransfer) (w : Cluster) (run : machine.World) (shows : Shows choice made w run) (n : ℕ) (pattern : Pattern)
+module _ (choice : ℕ → Bool) (made : List SentTransfer) (w : Cluster) (run : raft.World) (shows : Shows choice made w run) (n : ℕ) (pattern : Pattern)
     (listed : In n w.ids) where
   abbrev stopped_member : Member
   stopped_member = stopped_with pattern (w.member n).disk (w.member n)
@@ -105,7 +105,7 @@ module _ (choice : ℕ → Bool) (made : List SentTransfer) (w : Cluster) (run :
     up : ShowsUp made w.ids w.frames run n t (w.member n).disk
     up = subst (λ (status : MemberStatus). ShowsMember choice made w.ids w.frames run n status (w.member n).disk) runs (shows.lives n listed)
 
-    abbrev event : machine.Event
+    abbrev event : raft.Event
     event = Stops n (w.rows + 1) []
 
     abbrev stopped_raft_server : RaftServer
@@ -244,7 +244,7 @@ pub record OpeningLaws : Type 0 where
       → (node ≡ me) ⊎ In node rules.told
 
 module _ (laws : DiskLaws) (opening_laws : OpeningLaws)
-    (choice : ℕ → Bool) (made : List SentTransfer) (w : Cluster) (few : length w.ids ≤ 5) (run : machine.World) (shows : Shows choice made w run)
+    (choice : ℕ → Bool) (made : List SentTransfer) (w : Cluster) (few : length w.ids ≤ 5) (run : raft.World) (shows : Shows choice made w run)
     (n : ℕ) (told : Bool) (ms word : ℕ) (listed : In n w.ids) (stopped : (w.member n).status ≡ Down) where
   down : ShowsDown run n (w.member n).disk
   down = subst (λ (status : MemberStatus). ShowsMember choice made w.ids w.frames run n status (w.member n).disk) stopped (shows.lives n listed)
@@ -329,7 +329,7 @@ module _ (laws : DiskLaws) (opening_laws : OpeningLaws)
 
 -- ---- the beginning
 
-pub beginning_shown : (choice : ℕ → Bool) (ids : List ℕ) → Shows choice [] (cluster ids) (machine.initial_world ids)
+pub beginning_shown : (choice : ℕ → Bool) (ids : List ℕ) → Shows choice [] (cluster ids) (raft.initial_world ids)
 beginning_shown choice ids = record {
   members = refl;
   steps = omega arith;

@@ -7,6 +7,7 @@ use Rattle.can_frame.specs.declared.entry.Entry.{Entry}
 use Rattle.can_frame.specs.declared.identifier.Kind.TheVariants.{Request as RequestKind, Response}
 use Rattle.can_frame.specs.declared.step.What.{What}
 use Rattle.can_frame.specs.declared.step.What.TheVariants.{Alloc, Disc, Stat, InfoQ, Info, VoteQ, Vote, AppQ, App}
+use Rattle.can_frame.specs.Kinds.{is_response}
 use Rattle.dsdl_codec.specs.declared.append_answer.AppendAnswer.{AppendAnswer}
 use Rattle.dsdl_codec.specs.declared.append_request.AppendRequest.{AppendRequest}
 use Rattle.dsdl_codec.specs.declared.vote_answer.VoteAnswer.{VoteAnswer}
@@ -26,7 +27,7 @@ use Rattle.transfer_rx.specs.Reassembly.{Delivery}
 use Rattle.alloc_spec_laws.specs.Coming.{RequestsFrom}
 use Rattle.alloc_spec_laws.specs.Saying.{IsSaid, SaysAnswer, SaysRequest, append_bytes, vote_bytes}
 use Rattle.alloc_spec.specs.Ending.{append_call_bytes, vote_call_bytes}
-use Rattle.alloc_spec.specs.Judging.{counts_for_nothing, is_response, is_stale, is_void, is_void_append, is_void_vote, misses, service_of, would_take}
+use Rattle.alloc_spec.specs.Judging.{counts_for_nothing, is_stale, is_void, is_void_append, is_void_vote, misses, service_of, would_take}
 use Rattle.alloc_spec.specs.AllocatorState.{AllocatorState}
 use Rattle.alloc_spec.specs.Transfers.{SentTransfer, kind_of, message_by, number_of}
 use Rattle.cluster_agreement.specs.Frames.{AreTransfers, IsTransferOf}

@@ -4,7 +4,7 @@ use Rattle.std.specs.Prelude.{max, ◌-◌, ◌==◌, nat_le, if◌then◌else�
 use Rattle.std.specs.List.{range_with_len}
 use Rattle.std.proofs.lemmas.Bool.Decides.{eqb_tells, leb_tells}
 use Rattle.raft_core.specs.Handled.{moves_of_expire}
-use Rattle.raft_core.specs.Times.{Given, Sending, Times, given_at, is_overdue, overdue, times_after_all}
+use Rattle.raft_core.specs.Times.{HandedIn, Sending, Times, given_at, is_overdue, overdue, times_after_all}
 use Rattle.raft_model.specs.Handlers.{server_after_all}
 use Rattle.raft_model.specs.Lists.{In, at}
 use Rattle.raft_model.specs.Messages.{Request}
@@ -32,7 +32,7 @@ other_sends sending node peer e = ap (λ (b : Bool). if b then None else sending
 apart : (a b : ℕ) → (a == b) ≡ false → a ≡ b → ⊥
 apart a b e same = elim (eqb_tells a b) [ inl is ↦ never (sym e ∙ is.0) | inr differ ↦ differ.1 same ]
 
-module _ (members : List ℕ) (me number : ℕ) (given : Given) (peer : ℕ) (request : Request) where
+module _ (members : List ℕ) (me number : ℕ) (given : HandedIn) (peer : ℕ) (request : Request) where
   left : (nodes : List ℕ) (raft_server : RaftServer) (times : Times)
       → (server_after_all members me number raft_server (moves_of_expire nodes)).memory.pending peer ≡ Some request
       → IsLeft raft_server.memory (server_after_all members me number raft_server (moves_of_expire nodes)).memory times

@@ -9,11 +9,11 @@ use Rattle.can_frame.specs.declared.identifier.Kind.TheVariants.{Message, Anonym
 use Rattle.can_frame.specs.declared.mark.Mark.{Mark}
 use Rattle.can_frame.specs.Cutting.{Piece, frames_of as pieces_of}
 use Rattle.can_frame.specs.Identifier.{identifier_number, identifier_of}
+use Rattle.can_frame.specs.Kinds.{is_anonymous}
 use Rattle.raft_model.specs.Lists.{In}
 use Rattle.transfer_rx.specs.declared.accept.AcceptRow.{AcceptRow}
 use Rattle.transfer_rx.specs.declared.key.Key.{Key}
 use Rattle.transfer_rx.specs.Acceptance.{is_for}
-use Rattle.transfer_rx.specs.Keys.{is_anonymous}
 use Rattle.transfer_rx.specs.Marks.{is_whole}
 use Rattle.transfer_rx.specs.Reassembly.{Arrival, piece_in}
 use Rattle.transfer_tx.specs.Queue.{Queued}

@@ -1,4 +1,4 @@
--- Where a step that was cut off ends, in the message machine.
+-- Where a step that was cut off ends, in the Raft model.
 use Rattle.std.specs.Prelude.{◌≡◌, ℕ, ◌+◌, ◌<◌, List, [], ◌∷◌, ◌++◌, length, take}
 use Rattle.raft_model.specs.Handlers.{server_after_all, puts_of_all}
 use Rattle.raft_model.specs.Moves.{Move, puts}

@@ -53,8 +53,8 @@ pub record DoesItsDuty (members : List ℕ) (t : AllocatorState) (number : ℕ) 
   -- step in which it wins
   pub blank : (entry : Entry) → In (ProposeEntry entry) (step t number event).step_state.moves → IsBlank entry
       → AddsBlank t number event entry
-  -- whoever is asked answers: it offers a response to each request of GetNodeInfo, and to each of Raft of a node on its
-  -- list of members
+  -- whoever is asked answers: it offers a response to its queue, for each request of GetNodeInfo, and for each of Raft
+  -- of a node on its list of members; a response that finds no room in the queue is offered too
   pub answer : AnswersRequests t number event
 
 -- a stopped member takes no step, nor does one that failed

@@ -1,4 +1,4 @@
--- What the headline asks of the run of the message machine that a world shows.
+-- What the headline asks of the run of the Raft model that a world shows.
 use Rattle.std.specs.Prelude.{◌≡◌, ◌≢◌, ℕ, Bool, List, Some}
 use Rattle.can_frame.specs.declared.entry.Entry.{Entry}
 use Rattle.can_frame.specs.declared.step.What.TheVariants.{Alloc}
@@ -10,7 +10,7 @@ use Rattle.raft_core.specs.StoredPuts.{store_of}
 use Rattle.raft_model.specs.Lists.{In}
 use Rattle.raft_model.specs.Messages.{Message}
 use Rattle.raft_model.specs.Messages.Message.{Pairs}
-use Rattle.raft_model.specs.Runs as machine
+use Rattle.raft_model.specs.Runs as raft
 use Rattle.alloc_spec.specs.AllocatorState.{AllocatorState}
 use Rattle.alloc_spec.specs.Transfers.{SentTransfer, frames_of}
 use Rattle.transfer_tx.specs.Queue.{Queued}
@@ -20,7 +20,7 @@ use Rattle.cluster_spec.specs.Logs.{IsFound, IsOfAllocation, IsOffered, stored}
 use Rattle.cluster_agreement.specs.Said.{IsProper}
 
 -- an allocation that waits in a queue, and gives a node ID, is an answer in the bag of the run, from this member
-abbrev pub OffersAreMade : Cluster → machine.World → Type 0
+abbrev pub OffersAreMade : Cluster → raft.World → Type 0
 OffersAreMade w run = (n : ℕ) (server : AllocatorState) (answer : Allocation) → In n w.ids →
     (w.member n).status ≡ Up server
     → IsOffered server.queue n answer → answer.node ≢ 0
@@ -38,11 +38,11 @@ pub record IsMadeBy (made : List SentTransfer) (bag : List Message) (frame : Que
       → In (Pairs (record { step = whose.step; from = n; uid = answer.uid.items; node = answer.node })) bag
 
 -- each frame on the bus that is an Allocation's by its identifier is a member's
-abbrev pub BusIsMade : List SentTransfer → Cluster → machine.World → Type 0
+abbrev pub BusIsMade : List SentTransfer → Cluster → raft.World → Type 0
 BusIsMade made w run = (frame : Queued) (n : ℕ) → In frame w.frames → IsOfAllocation frame n
     → In n w.ids × IsMadeBy made run.bag frame n
 
-pub record Mirrors (choice : ℕ → Bool) (w : Cluster) (run : machine.World) : Type 0 where
+pub record Mirrors (choice : ℕ → Bool) (w : Cluster) (run : raft.World) : Type 0 where
   -- each member has stored what its server in the run has
   pub stored : (n : ℕ) → In n w.ids → (run.server n).store ≡ stored choice w n
   -- a member that runs is its server in the run

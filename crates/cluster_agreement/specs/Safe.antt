@@ -10,7 +10,7 @@ use Rattle.alloc_spec.specs.Accepted.{setting_for}
 use Rattle.alloc_spec.specs.Step.{at_moment, at_step}
 use Rattle.alloc_spec.specs.AllocatorState.{AllocatorState}
 use Rattle.alloc_spec.specs.Transfers.{SentTransfer, message_of}
-use Rattle.transfer_rx.specs.Acceptance.{is_service}
+use Rattle.can_frame.specs.Kinds.{is_service}
 use Rattle.transfer_rx.specs.Reassembly.{Delivery, Gives, answer}
 use Rattle.cluster_spec.specs.Choices.{AgreesWithDisk}
 use Rattle.cluster_spec.specs.Cluster.{Cluster, arrival_at, cluster, frame_at, world_of}
@@ -30,7 +30,7 @@ pub record IsDeliveredTo (w : Cluster) (n k ms : ℕ) (d : Delivery) : Type 0 wh
   pub member : is_forged w.ids (Some d.ident) ≡ true
 
 -- what is delivered to member n is one transfer that was made, and no other; a request or a response is for n; and what
--- the transfer says in the message machine is in the bag
+-- the transfer says in the Raft model is in the bag
 pub record IsOneTransfer (made : List SentTransfer) (bag : List Message) (n : ℕ) (d : Delivery) : Type 0 where
   pub whose : SentTransfer
   pub was_made : In whose made
@@ -39,7 +39,7 @@ pub record IsOneTransfer (made : List SentTransfer) (bag : List Message) (n : �
   pub for_it : is_service d.ident.kind ≡ true → whose.offer.to ≡ n
   pub said : (message : Message) → message_of whose.step whose.by whose.offer ≡ Some message → In message bag
 
--- Whatever choice fits what the stops find, these rows show a lawful run of the message machine from its beginning, and
+-- Whatever choice fits what the stops find, these rows show a lawful run of the Raft model from its beginning, and
 -- it is safe; and whatever transfer of a member a row delivers, a member made it by then, for this receiver, and what
 -- it says is in the bag of that run.
 pub record AreSafe (ids : List ℕ) (rows : List Row) : Type 0 where

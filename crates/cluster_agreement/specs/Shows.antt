@@ -1,5 +1,5 @@
--- What holds between the world of a list of rows, the transfers that its members made, and the run of the message
--- machine that it shows.
+-- What holds between the world of a list of rows, the transfers that its members made, and the run of the Raft model
+-- that it shows.
 use Rattle.std.specs.Prelude.{◌≡◌, ◌≢◌, ℕ, ◌<◌, ◌≤◌, ◌^◌, Bool, true, List, length, Some, None}
 use Rattle.can_frame.specs.declared.step.What.TheVariants.{Alloc, Disc}
 use Rattle.dsdl_codec.specs.declared.allocation.Allocation.{Allocation}
@@ -13,7 +13,7 @@ use Rattle.raft_log.specs.KeyDisk.{found_by}
 use Rattle.raft_log.specs.Stored.{Stored}
 use Rattle.raft_model.specs.Lists.{In}
 use Rattle.raft_model.specs.Messages.{Message}
-use Rattle.raft_model.specs.Runs as machine
+use Rattle.raft_model.specs.Runs as raft
 use Rattle.raft_model.specs.Server.{memory_when_down}
 use Rattle.transfer_tx.specs.Queue.{Queued}
 use Rattle.allocatee.specs.Allocatee.{Device}
@@ -34,7 +34,7 @@ use Rattle.cluster_agreement.specs.Said.{AreAnswered, AreCalled, AreSaid, AreWri
 -- ---- members
 
 -- what a server that runs is in the run
-pub record IsInRun (ids : List ℕ) (run : machine.World) (m : ℕ) (server : AllocatorState)
+pub record IsInRun (ids : List ℕ) (run : raft.World) (m : ℕ) (server : AllocatorState)
     (disk : KeyDisk Stored) : Type 0 where
   pub me : server.me ≡ m
   pub size : server.size ≡ length ids
@@ -57,14 +57,14 @@ pub record IsAtWork (made : List SentTransfer) (ids : List ℕ) (frames : List Q
   pub called : AreCalled made server
   pub among : (peer : ℕ) → In peer (members_of server) → In peer ids
 
-pub record ShowsUp (made : List SentTransfer) (ids : List ℕ) (frames : List Queued) (run : machine.World) (m : ℕ)
+pub record ShowsUp (made : List SentTransfer) (ids : List ℕ) (frames : List Queued) (run : raft.World) (m : ℕ)
     (server : AllocatorState) (disk : KeyDisk Stored) : Type 0 where
   pub runs : IsInRun ids run m server disk
   pub works : IsAtWork made ids frames m server
 
 -- a member that failed is down in the run, with what the choice says is stored; a stop would find the puts that are
 -- done for sure, or one more
-pub record ShowsFailed (choice : ℕ → Bool) (run : machine.World) (m : ℕ) (failure : Failure)
+pub record ShowsFailed (choice : ℕ → Bool) (run : raft.World) (m : ℕ) (failure : Failure)
     (disk : KeyDisk Stored) : Type 0 where
   pub down : (run.server m).memory ≡ memory_when_down
   pub stored : (run.server m).store ≡ chosen_store choice failure
@@ -72,13 +72,13 @@ pub record ShowsFailed (choice : ℕ → Bool) (run : machine.World) (m : ℕ) (
       store_of (restarted_on pattern disk).store ≡ stored_after failure (found_by pattern disk)
 
 -- a member that is stopped: a selector that waits for a sync makes no difference to what is stored
-pub record ShowsDown (run : machine.World) (m : ℕ) (disk : KeyDisk Stored) : Type 0 where
+pub record ShowsDown (run : raft.World) (m : ℕ) (disk : KeyDisk Stored) : Type 0 where
   pub down : (run.server m).memory ≡ memory_when_down
   pub stored : (run.server m).store ≡ store_of disk.store
   pub nothing_unsynced : (unsynced : Unsynced Stored) → disk.unsynced ≡ Some unsynced
       → store_of unsynced.before ≡ store_of disk.store
 
-abbrev pub ShowsMember : (ℕ → Bool) → List SentTransfer → List ℕ → List Queued → machine.World → ℕ →
+abbrev pub ShowsMember : (ℕ → Bool) → List SentTransfer → List ℕ → List Queued → raft.World → ℕ →
     MemberStatus → KeyDisk Stored → Type 0
 ShowsMember choice made ids frames run m Down disk = ShowsDown run m disk
 ShowsMember choice made ids frames run m (Up server) disk = ShowsUp made ids frames run m server disk
@@ -101,7 +101,7 @@ pub record HoldsOfMade (made : List SentTransfer) (ids : List ℕ) (bag : List M
 
 -- ---- the whole
 
-pub record Shows (choice : ℕ → Bool) (made : List SentTransfer) (w : Cluster) (run : machine.World) : Type 0 where
+pub record Shows (choice : ℕ → Bool) (made : List SentTransfer) (w : Cluster) (run : raft.World) : Type 0 where
   pub members : run.members ≡ w.ids
   pub steps : run.steps ≤ w.rows
   pub lives : (m : ℕ) → In m w.ids →

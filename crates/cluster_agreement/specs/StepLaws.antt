@@ -5,7 +5,7 @@ use Rattle.alloc_spec.specs.Accepted.{setting_for}
 use Rattle.alloc_spec.specs.AllocatorState.{AllocatorState, members_of}
 use Rattle.alloc_spec.specs.Step.{Event, step}
 use Rattle.alloc_spec.specs.Step.Event.{Rx, Tick}
-use Rattle.alloc_spec.specs.Transfers.{Offer, Given}
+use Rattle.alloc_spec.specs.Transfers.{Offer, GivenPair}
 use Rattle.alloc_spec_laws.specs.Apart.{OneByName}
 use Rattle.alloc_spec_laws.specs.Calls.{CallsAreMade}
 use Rattle.alloc_spec_laws.specs.Coming.{Begins, IsOfTheMachine, KeepsOrder, MayStep}
@@ -83,7 +83,7 @@ pub record MoreLaws : Type 0 where
   pub tells : (t : AllocatorState) (number : ℕ) (event : Event) → TellsMembers t (step t number event).step_state.offers
   pub given : (t : AllocatorState) (number : ℕ) (event : Event)
       → t.raft_server.store.commit ≤ length t.raft_server.store.log
-      → (offer : Offer) (given : Given) → In offer (step t number event).step_state.offers
+      → (offer : Offer) (given : GivenPair) → In offer (step t number event).step_state.offers
       → Gives offer.what offer.payload given
       → IsGivenIn (committed (step t number event).step_state.allocator.raft_server.store) given
   pub list : (start : Start) (events : List discovery.Event) → IsStart start

@@ -56,7 +56,7 @@ pub fn offers_are_pairs()
     what_is_said_of_frames();
 }
 
-/// The headline follows of two worlds, now and later, that mirror a run of the message machine and its
+/// The headline follows of two worlds, now and later, that mirror a run of the Raft model and its
 /// continuation.
 pub fn what_is_mirrored_has_the_headline()
     ensures { (choice : ℕ → Bool) (members : List ℕ) (first rest : List Event)
@@ -76,7 +76,7 @@ pub fn lawful_rows_do_no_harm()
     ensures { (w : Cluster) (rows : List Row) → Lawful w rows → DoNoHarm w rows }
 {}
 
-/// What a list of rows that do no harm shows is a lawful run of the message machine, from its beginning, whatever
+/// What a list of rows that do no harm shows is a lawful run of the Raft model, from its beginning, whatever
 /// choice fits what the stops find.
 pub fn rows_are_shown()
     ensures { (choice : ℕ → Bool) (ids : List ℕ) (rows : List Row) → AreMembers ids →
@@ -102,7 +102,8 @@ pub fn rows_are_safe()
 
 /// Each step of a list of rows that do no harm does its duty: a leader commits as far as a quorum of the members lets
 /// it, and tells one place where there is room; who has waited stands for election; who counts a quorum leads; who is
-/// asked answers; and the node ID of a node that is heard is not given.
+/// asked offers an answer to its queue, even where the answer finds no room there; and the node ID of a node that is
+/// heard is not given.
 pub fn rows_are_dutiful()
     ensures { (ids : List ℕ) (rows : List Row) → AreMembers ids → DoNoHarm (cluster ids) rows →
         AreDutiful ids rows }

@@ -7,7 +7,7 @@
 //! then; and the log of every later leader whose term is at least a member's stored one begins with what that
 //! member has committed. `specs/Headline` says it.
 //!
-//! Why it holds: a list of rows makes a world, and shows a run of the message machine (`raft_model`), whose
+//! Why it holds: a list of rows makes a world, and shows a run of the Raft model (`raft_model`), whose
 //! laws have the rest. `specs/Shows` says what holds between the two: each member that runs is its server in
 //! the run, stores what that server stores, and made, heard and called what its transfers say. So it is
 //!

@@ -1,4 +1,4 @@
-//! Laws of single rows: what a world shows of a run of the message machine, it shows after a row too. Each
+//! Laws of single rows: what a world shows of a run of the Raft model, it shows after a row too. Each
 //! is the contract of a function that does nothing.
 
 ghost use Rattle.std.specs.Prelude.{◌≡◌, ◌==◌, ◌+◌, ◌∷◌, [], ℕ, Bool, List, None, false, true};
@@ -115,8 +115,8 @@ pub fn stops_are_shown()
 {}
 
 /// An opening that succeeds is one event of the run, which may come; what it puts changes nothing of what the
-/// machine's server has stored, and what the run says still has bytes. An opening that fails, wherever its
-/// disk cuts it, is none.
+/// server of the Raft model has stored, and what the run says still has bytes. An opening that fails, wherever
+/// its disk cuts it, is none.
 pub fn openings_are_shown()
     ensures opened { (choice : ℕ → Bool) (made : List SentTransfer) (w : Cluster) (run : World) →
         AreMembers w.ids → Shows choice made w run → IsRunWritable w.ids run → (n : ℕ) (told : Bool) (ms word : ℕ) →
@@ -158,8 +158,9 @@ pub fn finished_steps_are_shown()
 
 /// Each step of a member does its duty: a leader commits as far as the members of the cluster let it, and tells
 /// one place where there is room; who has waited stands for election; who counts a quorum leads, where that was so
-/// before; who is asked answers; the node ID of a node that is heard is not given; and a leader that is told its
-/// members adds its blank once a quorum has its log, any other as it wins.
+/// before; who is asked offers an answer to its queue, even where the answer finds no room there; the node ID of a
+/// node that is heard is not given; and a leader that is told its members adds its blank once a quorum has its log,
+/// any other as it wins.
 pub fn steps_are_dutiful()
     ensures { (choice : ℕ → Bool) (made : List SentTransfer) (w : Cluster) (run : World) →
         AreMembers w.ids → Shows choice made w run → Invariants run → IsRunWritable w.ids run →

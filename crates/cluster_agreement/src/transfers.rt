@@ -49,7 +49,7 @@ pub fn what_a_row_delivers_is_one_transfer()
     what_is_said_of_frames();
 }
 
-/// A frame that does a member no harm brings what the message machine allows: what it would deliver is not torn; a
+/// A frame that does a member no harm brings what the Raft model allows: what it would deliver is not torn; a
 /// request of a member is in the bag; and an answer that a pending call takes is in the bag as the answer to that very
 /// call, or answers an earlier one and counts for nothing.
 pub fn what_a_member_takes_was_said()

@@ -2,6 +2,7 @@
 -- (UAVCAN v0 specification, "Redundant allocators"; uavcan.protocol.dynamic_node_id.server.Discovery).
 use Rattle.std.specs.Prelude.{ℕ, ◌≡◌, ◌≢◌, ◌⊎◌, ◌<◌, ◌≤◌, ◌+◌, ◌-◌, ◌/◌, Bool, true, false, if◌then◌else◌, not, ◌&&◌, ◌||◌, nat_le, nat_lt, nat_eq, List, [], ◌∷◌, ◌++◌, length, slice_index_or, Contains}
 use Rattle.std.specs.List.{list_any}
+use Rattle.can_frame.specs.Sizes.{most_members}
 use Rattle.can_frame.specs.Timing.{discovery_interval}
 use Rattle.dsdl_codec.specs.declared.discovery.Discovery.{Discovery}
 
@@ -13,12 +14,12 @@ pub record Start : Type 0 where
   pub size : ℕ
   pub moment : ℕ
 
--- a member that may be: its node ID is 1 to 125, and its cluster is to have 1 to 5 members
+-- a member that may be: its node ID is 1 to 125, and its cluster is to have 1 to `most_members` members
 pub record IsStart (start : Start) : Type 0 where
   pub numbered : 1 ≤ start.me
   pub device : start.me ≤ 125
   pub least : 1 ≤ start.size
-  pub most : start.size ≤ 5
+  pub most : start.size ≤ most_members
 
 pub data Event : Type 0 where
   -- a Discovery was heard from a node

@@ -1,7 +1,9 @@
 ghost use Rattle.std.specs.Prelude.{◌≡◌, ◌∷◌, ◌+◌, ◌/◌, ◌<◌, ◌≤◌, ◌≢◌, ◌↔◌, [], ℕ, IsTrue, List, length, slice_index_or};
 ghost use Rattle.arrayvec.specs.ArrayVec.{array_vec_len};
+ghost use Rattle.can_frame.specs.Sizes.{most_members};
 
 use arrayvec::ArrayVec;
+use can_frame::sizes::MOST_MEMBERS;
 use can_frame::timing::DISCOVERY_INTERVAL;
 use dsdl_codec::Discovery;
 
@@ -15,7 +17,7 @@ pub struct Cluster {
     size: u8,
 
     /// The members that are known, itself first.
-    members: ArrayVec<u8, 5>,
+    members: ArrayVec<u8, MOST_MEMBERS>,
 
     /// Whether someone told a list that is shorter than the size, since the last Discovery.
     owes: bool,
@@ -23,7 +25,7 @@ pub struct Cluster {
     /// When the last Discovery was sent; the start, where none was.
     last: u64,
 
-    ghost most: { size ≤ 5 },
+    ghost most: { size ≤ most_members },
     ghost own: { 1 ≤ array_vec_len members },
     ghost within: { array_vec_len members ≤ size },
     ghost first: { slice_index_or members.items 0 0 ≡ me },
@@ -39,12 +41,13 @@ impl Cluster {
     ghost use Rattle.cluster_discovery.specs.Stands.{StandsFor};
     ghost use Rattle.cluster_discovery.specs.Views.{cluster_size, member_list, own_id};
 
-    /// A member that starts now: its node ID is 1 to 125, and its cluster is to have 1 to 5 members.
+    /// A member that starts now: its node ID is 1 to 125, and its cluster is to have 1 to [`MOST_MEMBERS`]
+    /// members.
     pub fn new(me: u8, size: u8, now: u64) -> Cluster
         requires numbered { 1 ≤ me }
         requires device { me ≤ 125 }
         requires least { 1 ≤ size }
-        requires most { size ≤ 5 }
+        requires most { size ≤ most_members }
         ensures starts { StandsFor result (record { me = me; size = size; moment = now }) [] }
         ensures me { own_id result ≡ me }
         ensures size { cluster_size result ≡ size }
@@ -112,7 +115,7 @@ impl Cluster {
             result.size ≡ start.size }
         ensures known { (start : Start) (events : List Event) → StandsFor self.now start events →
             result.known.items ≡ members.members start events }
-        ensures fits { array_vec_len result.known ≤ 5 }
+        ensures fits { array_vec_len result.known ≤ most_members }
     {
         match ArrayVec::try_from(self.members.as_slice()) {
             Ok(known) => Discovery {
@@ -144,7 +147,7 @@ impl Cluster {
             IsStart start }
         ensures list { result.now ≡ member_list self.now }
         ensures is_list { IsMemberList (own_id self.now) (cluster_size self.now) result.now }
-        ensures few { length result.now ≤ 5 }
+        ensures few { length result.now ≤ most_members }
         ensures own { 1 ≤ length result.now }
         ensures numbered { (i : ℕ) → i < length result.now → 1 ≤ slice_index_or result.now i 0 }
         ensures devices { (i : ℕ) → i < length result.now → slice_index_or result.now i 0 ≤ 125 }

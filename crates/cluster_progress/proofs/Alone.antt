@@ -46,7 +46,8 @@ last_entry log entry =
 
 -- ---- a leader that is alone commits to the end of its log, where its last entry is its own
 
-lt_is : (a b : ℕ) → a < b → nat_lt a b ≡ true
+-- a number below another one is tested to be so
+pub lt_is : (a b : ℕ) → a < b → nat_lt a b ≡ true
 lt_is a b h = elim (lt_tells a b) [ inl z ↦ z.0 | inr z ↦ absurd (omega (arith, z.1, h)) ]
 
 le_is : (a b : ℕ) → a ≤ b → nat_le a b ≡ true
@@ -56,7 +57,8 @@ top : (limit : ℕ) (test : ℕ → Bool) → test limit ≡ true → greatest_t
 top zero test e = rw (e) refl
 top (suc n) test e = rw (e) refl
 
-to_the_end : (me : ℕ) (server : RaftServer) → server.store.commit < length server.store.log
+-- it commits up to the end of its log
+pub to_the_end : (me : ℕ) (server : RaftServer) → server.store.commit < length server.store.log
     → term_at server.store.log (length server.store.log) ≡ server.store.term
     → commit_index (me ∷ []) me server ≡ Some (length server.store.log)
 to_the_end me server below own =

@@ -3,7 +3,7 @@ use Rattle.std.proofs.Common.{◌≡◌, ℕ, Bool, true, List, [], ◌∷◌, d
 use Rattle.can_frame.specs.declared.step.What.{What}
 use Rattle.can_frame.specs.declared.step.What.TheVariants.{Alloc, AppQ, VoteQ}
 use Rattle.raft_core.specs.Calls.{owed}
-use Rattle.raft_core.specs.Times.{Given, given_at, given_call}
+use Rattle.raft_core.specs.Times.{HandedIn, given_at, given_call}
 use Rattle.raft_model.specs.Messages.{Message, Request}
 use Rattle.raft_model.specs.Messages.Message.{Requests}
 use Rattle.raft_model.specs.Moves.{Move, next_entry}
@@ -20,10 +20,10 @@ use Rattle.alloc_spec_laws.proofs.Choices.{either}
 pub record IsKept (number : ℕ) (Keeps : StepState → Type 0) : Type 0 where
   pub passes : (g : StepState) → has_to_tell g.allocator.raft_server ≡ true → Keeps g
       → Keeps (with_moves number (given_at g.allocator.now) (TellNothing ∷ []) g)
-  pub tells : (given : Given) (g : StepState) → has_to_tell g.allocator.raft_server ≡ true → Keeps g
+  pub tells : (given : HandedIn) (g : StepState) → has_to_tell g.allocator.raft_server ≡ true → Keeps g
       → Keeps (with_moves number given (TellPair ∷ []) g)
-  pub votes : (given : Given) (peer : ℕ) (g : StepState) → Keeps g → Keeps (with_moves number given (CallForVote peer ∷ []) g)
-  pub appends : (given : Given) (peer previous : ℕ) (with_entry : Bool) (g : StepState) → Keeps g
+  pub votes : (given : HandedIn) (peer : ℕ) (g : StepState) → Keeps g → Keeps (with_moves number given (CallForVote peer ∷ []) g)
+  pub appends : (given : HandedIn) (peer previous : ℕ) (with_entry : Bool) (g : StepState) → Keeps g
       → Keeps (with_moves number given (CallToAppend peer previous with_entry ∷ []) g)
   pub sends : (what : What) (to : ℕ) (payload : List ℕ) (says : Option Message) (g : StepState) → Keeps g
       → Keeps (with_transfer number what to payload says g)

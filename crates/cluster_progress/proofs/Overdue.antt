@@ -5,7 +5,7 @@ use Rattle.std.specs.List.{range_with_len}
 use Rattle.std.proofs.lemmas.Bool.Decides.{eqb_tells, leb_tells}
 use Rattle.can_frame.specs.declared.step.What.{What}
 use Rattle.raft_core.specs.Handled.{moves_of_expire}
-use Rattle.raft_core.specs.Times.{Given, Sending, Times, given_at, given_call, is_overdue, is_silent, overdue, times_after_all}
+use Rattle.raft_core.specs.Times.{HandedIn, Sending, Times, given_at, given_call, is_overdue, is_silent, overdue, times_after_all}
 use Rattle.raft_model.specs.Handlers.{server_after}
 use Rattle.raft_model.specs.Lists.{In, at, at_here, at_other}
 use Rattle.raft_model.specs.Messages.{Request}
@@ -60,7 +60,7 @@ overdue_listed t now q (node ∷ nodes) (inr i) late =
 
 -- ---- giving up
 
-module _ (members : List ℕ) (me number : ℕ) (given : Given) (q : ℕ) where
+module _ (members : List ℕ) (me number : ℕ) (given : HandedIn) (q : ℕ) where
   abbrev sent_after : List ℕ → RaftServer → Times → Option Sending
   sent_after qs server times = (times_after_all members me number given server (moves_of_expire qs) times).sending q
 
@@ -105,7 +105,7 @@ made_now now id = elim (leb_tells 1000 (now - now)) [
 ]
 
 module _ (number peer : ℕ) where
-  after_takes : (given : Given) (moves : List Move) (g : StepState) → AreQuiet moves → IsYoung peer g → IsYoung peer (with_moves number given moves g)
+  after_takes : (given : HandedIn) (moves : List Move) (g : StepState) → AreQuiet moves → IsYoung peer g → IsYoung peer (with_moves number given moves g)
   after_takes given moves g quiet h =
       elim (after_moves peer (members_of g.allocator) g.allocator.me number given moves g.allocator.raft_server g.allocator.times (quiet_calls moves quiet)) [
         | inl stays ↦ ap (λ (call : Option Sending). is_overdue call g.allocator.now) stays.sending ∙ h
@@ -192,7 +192,7 @@ module _ (number peer : ℕ) where
     | inr z ↦ ap (λ (c : Option Sending). is_overdue c now) (at_other t.sending node peer (Some (record { id = id; moment = now })) z.1) ∙ h
   ]
 
-  by_room : (fits : Bool) (given : Given) (move : Move) (offered : StepState) → IsYoung peer offered → IsYoung peer (with_moves number given (move ∷ []) offered)
+  by_room : (fits : Bool) (given : HandedIn) (move : Move) (offered : StepState) → IsYoung peer offered → IsYoung peer (with_moves number given (move ∷ []) offered)
       → IsYoung peer (with_move_if fits number given move offered)
   by_room true given move offered h called = called
   by_room false given move offered h called = h

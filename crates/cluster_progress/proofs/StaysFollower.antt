@@ -7,7 +7,7 @@ use Rattle.can_frame.specs.Timing.{election_spread, election_wait, status_interv
 use Rattle.cluster_discovery.specs.Members.{is_due}
 use Rattle.node_discovery.specs.Watch.{next_query}
 use Rattle.raft_core.specs.Handled.{moves_of_expire}
-use Rattle.raft_core.specs.Times.{Given, Times, given_at, given_tick, has_waited, overdue, times_after_all}
+use Rattle.raft_core.specs.Times.{HandedIn, Times, given_at, given_tick, has_waited, overdue, times_after_all}
 use Rattle.raft_model.specs.Duty.{tick_phase}
 use Rattle.raft_model.specs.Handlers.{server_after}
 use Rattle.raft_model.specs.Moves.Elections.{is_leader}
@@ -27,7 +27,7 @@ use Rattle.cluster_progress.proofs.Begins.{IsAsBefore, expired}
 use Rattle.cluster_progress.proofs.WaitsAnew.{IsAnew, follows}
 
 -- giving up leaves the wait
-pub since_stays : (members : List ℕ) (me number : ℕ) (given : Given) (qs : List ℕ) (server : RaftServer) (times : Times)
+pub since_stays : (members : List ℕ) (me number : ℕ) (given : HandedIn) (qs : List ℕ) (server : RaftServer) (times : Times)
     → (times_after_all members me number given server (moves_of_expire qs) times).since ≡ times.since
 since_stays members me number given [] server times = refl
 since_stays members me number given (node ∷ qs) server times =

@@ -92,7 +92,7 @@ PeersCatchUp = (members : List ℕ) (me you number : ℕ) (two : Two) → AreJoi
 abbrev pub two_of : World → ℕ → ℕ → Two
 two_of world me you = record { leader = world.server me; peer = world.server you }
 
--- at each moment of every run of the message machine, whatever was lost, repeated or late and wherever members stopped:
+-- at each moment of every run of the Raft model, whatever was lost, repeated or late and wherever members stopped:
 -- a leader, and another member whose term is not above its own
 abbrev pub PeersCatchUpInRuns : Type 0
 PeersCatchUpInRuns = InEveryRun (λ world. (me you : ℕ) → you ≢ me → (world.server me).memory.role ≡ Leader →

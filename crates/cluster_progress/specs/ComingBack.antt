@@ -1,4 +1,4 @@
--- The message machine is never stuck: whatever happened, a majority that is there can come back to a leader whose log
+-- The Raft model is never stuck: whatever happened, a majority that is there can come back to a leader whose log
 -- is committed, and from there each new pair can be committed and told.
 use Rattle.std.specs.Prelude.{◌≡◌, ◌≢◌, ◌⊎◌, ℕ, ◌+◌, ◌<◌, ◌≤◌, true, List, [], ◌∷◌, ◌++◌, length, None}
 use Rattle.can_frame.specs.declared.entry.Entry.{Entry}

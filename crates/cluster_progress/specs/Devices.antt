@@ -1,9 +1,9 @@
 -- What a device does that hears its answers in time, and what its requests are on the bus.
 use Rattle.std.specs.Prelude.{◌≡◌, ◌<◌, ◌≤◌, ◌++◌, ℕ, Bool, false, true, max, take, drop, length, List, [], ◌∷◌, None, Some}
 use Rattle.can_frame.specs.declared.step.What.TheVariants.{Alloc}
+use Rattle.can_frame.specs.Kinds.{is_anonymous}
 use Rattle.dsdl_codec.specs.declared.allocation.Allocation.{Allocation}
 use Rattle.dsdl_codec.specs.Allocation.{allocation_bytes, allocation_of}
-use Rattle.transfer_rx.specs.Keys.{is_anonymous}
 use Rattle.transfer_rx.specs.Reassembly.{Arrival, Delivery, Gives}
 use Rattle.transfer_tx.specs.Queue.{Queued, queued_frames}
 use Rattle.allocatee.specs.Allocatee.{Device, Rx, StepResult, Tick, answer_to, step}

@@ -1,5 +1,6 @@
 -- What a step owes by some moment: an election, and a leader's calls.
 use Rattle.std.specs.Prelude.{⊤, List, [], ◌∷◌, ◌≡◌, ◌≢◌, ◌⊎◌, ◌+◌, ◌<◌, ◌≤◌, ℕ, drop, false, length, max, true, None, Some}
+use Rattle.can_frame.specs.Sizes.{node_ids}
 use Rattle.can_frame.specs.declared.identifier.Kind.TheVariants.{Request}
 use Rattle.can_frame.specs.DataTypes.{append_entries}
 use Rattle.can_frame.specs.Timing.{election_spread, election_wait}
@@ -46,7 +47,7 @@ StaysInTouch = (t : AllocatorState) (number : ℕ) (event : Event) (peer : ℕ) 
 
 -- when a step is over, no pending call is as old as the call timeout
 abbrev pub NoCallIsOld : Type 0
-NoCallIsOld = (t : AllocatorState) (number : ℕ) (event : Event) (peer : ℕ) → peer < 128 →
+NoCallIsOld = (t : AllocatorState) (number : ℕ) (event : Event) (peer : ℕ) → peer < node_ids →
     let after = (step t number event).step_state.allocator in
     is_overdue (after.times.sending peer) after.now ≡ false
 

@@ -66,7 +66,7 @@ pub fn peers_catch_up()
     law_decisions();
 }
 
-/// So it is at each moment of every run of the message machine.
+/// So it is at each moment of every run of the Raft model.
 pub fn peers_catch_up_in_runs()
     ensures { PeersCatchUpInRuns }
 {
@@ -75,7 +75,7 @@ pub fn peers_catch_up_in_runs()
     peers_catch_up();
 }
 
-/// At each moment of every run of the message machine, whatever was lost, repeated or late and wherever members
+/// At each moment of every run of the Raft model, whatever was lost, repeated or late and wherever members
 /// stopped: any majority of the members that has room in its logs, and a next term, can come back to a leader whose
 /// log is committed, by events that may come one after another.
 pub fn a_majority_comes_back()
@@ -97,7 +97,7 @@ pub fn a_leader_can_still_tell()
     law_fit();
 }
 
-/// So the message machine is never stuck: at each moment of every run, each pair of a unique ID and a node ID that
+/// So the Raft model is never stuck: at each moment of every run, each pair of a unique ID and a node ID that
 /// stand in no log of a majority can still be told, where these logs have room for two entries more.
 pub fn new_pairs_can_be_told()
     ensures { NewPairsCanBeTold }

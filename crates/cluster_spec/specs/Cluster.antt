@@ -1,6 +1,8 @@
--- The world of a list of rows: the members of a cluster, the allocatees that are there, and the frames of their bus. A
--- row that is taken is the next event; its number is that of the step that it may be.
+-- The world of a list of rows: the members of a cluster, the allocatees that are there, and the frames of their bus;
+-- and the world that a lawful row leaves. The rows that are taken are numbered from 1; where a row is a step, its
+-- number is the number of the step.
 use Rattle.std.specs.Prelude.{ℕ, ◌≤◌, ◌+◌, ◌-◌, ◌==◌, Bool, List, [], ◌∷◌, ◌++◌, length, slice_index_or, Option, Some, None, if◌then◌else◌}
+use Rattle.can_frame.specs.Sizes.{most_members}
 use Rattle.raft_model.specs.Lists.{In, any, at}
 use Rattle.raft_model.specs.Members.{HasNoneTwice}
 use Rattle.replay_text.specs.declared.row.Row.{Row}
@@ -21,7 +23,7 @@ AreNodes ids = (n : ℕ) → In n ids → (1 ≤ n) × (n ≤ 125)
 -- 1 to 5 members, with different node IDs
 pub record AreMembers (ids : List ℕ) : Type 0 where
   pub some : 1 ≤ length ids
-  pub five : length ids ≤ 5
+  pub five : length ids ≤ most_members
   pub nodes : AreNodes ids
   pub once : HasNoneTwice ids
 

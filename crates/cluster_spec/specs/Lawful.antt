@@ -5,7 +5,6 @@ use Rattle.can_frame.specs.declared.identifier.Kind.{Kind}
 use Rattle.can_frame.specs.declared.identifier.Kind.TheVariants.{Message, Anonymous, Request, Response}
 use Rattle.can_frame.specs.declared.step.Judged.{Judged}
 use Rattle.can_frame.specs.declared.step.Judged.TheVariants.{Fine, Torn, Stale}
-use Rattle.can_frame.specs.DataTypes.{allocation, append_entries, discovery, request_vote}
 use Rattle.can_frame.specs.Identifier.{identifier_of}
 use Rattle.replay_text.specs.declared.row.Row.{Row}
 use Rattle.replay_text.specs.declared.row.Row.TheVariants.{Open, Tick, Rx, Send, Ext, Crash, Fault, AOpen, ATick, ARx, ASend, AEnd}
@@ -13,6 +12,7 @@ use Rattle.transfer_rx.specs.Reassembly.{Arrival}
 use Rattle.transfer_tx.specs.Queue.{Queued}
 use Rattle.allocatee.specs.Allocatee.{Device}
 use Rattle.allocatee.specs.Judging as device
+use Rattle.alloc_spec.specs.Accepted.{is_of_members}
 use Rattle.alloc_spec.specs.Judging.{arrival_judgement, brings_void}
 use Rattle.cluster_spec.specs.declared.unlawful.Unlawful.{Unlawful}
 use Rattle.cluster_spec.specs.declared.unlawful.Unlawful.TheVariants.{NoNode, Stopped, Running, NoFrame, NothingQueued, Forged, Torn as IsTorn, Stale as IsStale, NoAllocatee, Absent, Present}
@@ -64,28 +64,19 @@ nothing_to_send (Some frame) = None
 
 -- ---- frames from outside: by what their identifier says of their source and data type
 
--- the data types that members alone send, by number
-
-abbrev pub is_members_message : ℕ → Bool
-is_members_message number = (number == discovery.number) || (number == allocation.number)
-
-abbrev pub is_members_service : ℕ → Bool
-is_members_service number = (number == append_entries.number) || (number == request_vote.number)
-
 -- A member is the source, or it has a source and is of a data type that members alone send. An anonymous frame has no
 -- source: it is none of these, and an anonymous Allocation is a request of some device.
 abbrev pub is_forged_by : List ℕ → Kind → Ident → Bool
 is_forged_by ids Anonymous ident = false
-is_forged_by ids Message ident = is_member ids ident.source || is_members_message ident.number
-is_forged_by ids Request ident = is_member ids ident.source || is_members_service ident.number
-is_forged_by ids Response ident = is_member ids ident.source || is_members_service ident.number
+is_forged_by ids kind ident = is_member ids ident.source || is_of_members kind ident.number
 
 -- an identifier that has no reading is nobody's
 abbrev pub is_forged : List ℕ → Option Ident → Bool
 is_forged ids None = false
 is_forged ids (Some ident) = is_forged_by ids ident.kind ident
 
--- ---- frames that a server would take: judged by what they would deliver; a server that failed takes none
+-- ---- Frames for a member: where it runs, judged by what they would deliver. One that has failed takes in no frame, so
+-- none is refused for what it would deliver.
 
 abbrev pub cause_of_judgement : Judged → Option Unlawful
 cause_of_judgement Fine = None

@@ -4,7 +4,7 @@ pub mod Cluster
 pub mod Lawful
 pub mod Logs
 pub mod Members
-pub mod Promise
+pub mod OwnLogs
+pub mod Receivers
 pub mod Refinement
 pub mod Report
-pub mod ReportLine

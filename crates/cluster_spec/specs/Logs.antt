@@ -12,7 +12,7 @@ use Rattle.kv_store.specs.KeyDisk.{KeyDisk}
 use Rattle.raft_core.specs.StoredPuts.{store_of}
 use Rattle.raft_log.specs.Stored.{Stored}
 use Rattle.raft_model.specs.Lists.{In}
-use Rattle.raft_model.specs.Server as machine
+use Rattle.raft_model.specs.Server as raft
 use Rattle.raft_model.specs.Server.{Store}
 use Rattle.transfer_tx.specs.Queue.{Queued, queued_frames}
 use Rattle.alloc_spec.specs.Transfers.{SentTransfer, frames_of, outgoing}
@@ -32,7 +32,7 @@ abbrev pub stored : (ℕ → Bool) → Cluster → ℕ → Store
 stored choice w n = stored_on choice (w.member n).status (w.member n).disk
 
 abbrev pub committed : (ℕ → Bool) → Cluster → ℕ → List Entry
-committed choice w n = machine.committed (stored choice w n)
+committed choice w n = raft.committed (stored choice w n)
 
 -- What a stop now would find on a member's disk: what is stored; of a failed step what is stored after the puts that
 -- are done for sure, or after one more.

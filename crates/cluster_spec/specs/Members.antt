@@ -1,4 +1,4 @@
--- A member of a cluster: a disk, and where it runs, a server in time over it. It opens, takes steps, and stops.
+-- A member of a cluster: a disk, and where it runs, an allocator state over it. It opens, takes steps, and stops.
 --
 -- The disk is the one by states (`raft_log`): what is stored, the copy that each selector chooses, the one selector
 -- that was written and not synced, and which of its calls fail.

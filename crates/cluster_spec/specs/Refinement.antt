@@ -1,4 +1,4 @@
--- The run of the message machine that a world shows: the events of each row, in order; and the transfers that were
+-- The run of the Raft model that a world shows: the events of each row, in order; and the transfers that were
 -- made.
 --
 -- A step that its disk cut off ends within the move whose put failed. Where the member stopped with it, the disk tells

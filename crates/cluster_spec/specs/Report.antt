@@ -3,12 +3,16 @@ use Rattle.std.specs.Prelude.{ℕ, zero, suc, ◌+◌, ◌==◌, nat_lt, List, [
 use Rattle.std.specs.Option.{option_and_then, option_map, option_map_or}
 use Rattle.hex.specs.Hex.{encode_lower}
 use Rattle.can_frame.specs.declared.entry.Entry.{Entry}
+use Rattle.can_frame.specs.declared.step.Seen.{Seen}
+use Rattle.can_frame.specs.declared.step.Sent.{Sent}
 use Rattle.kv_store.specs.KeyDisk.{KeyDisk}
 use Rattle.raft_log.specs.KeyDisk.{are_put, is_open_on, opening_on, puts_on}
 use Rattle.raft_log.specs.Stored.{Stored}
 use Rattle.raft_model.specs.Server.{Store, committed}
 use Rattle.replay_text.specs.declared.row.Row.{Row}
 use Rattle.replay_text.specs.declared.row.Row.TheVariants.{Open, Tick, Rx, Send, Ext, Crash, Fault, AOpen, ATick, ARx, ASend, AEnd}
+use Rattle.replay_text.specs.ReportLine.{ReportLine, text_of_line}
+use Rattle.replay_text.specs.ReportLine.ReportLine.{HasOpened, HasStepped, HasFailed, HasStopped, WasArmed, HasSent, CameFromOutside, HasCome, HasAsked, HasPut, HasLeft}
 use Rattle.allocatee.specs.Allocatee as device
 use Rattle.allocatee.specs.Allocatee.{Device}
 use Rattle.transfer_tx.specs.Queue.{Queued}
@@ -21,8 +25,6 @@ use Rattle.cluster_spec.specs.Allocatees.{next_from}
 use Rattle.cluster_spec.specs.Cluster.{Cluster, cluster, is_member, after_row, receipt_at, receipt_of, tick_of, world_of}
 use Rattle.cluster_spec.specs.Members.{MemberStatus, Member, next_frame, puts_of, server_of}
 use Rattle.cluster_spec.specs.Members.MemberStatus.{Down, Up, Failed}
-use Rattle.cluster_spec.specs.ReportLine.{ReportLine, text_of_line}
-use Rattle.cluster_spec.specs.ReportLine.ReportLine.{HasOpened, HasStepped, HasFailed, HasStopped, IsArmed, HasSent, IsOutside, HasCome, HasAsked, HasPut, HasLeft}
 
 -- ---- a row
 
@@ -38,10 +40,13 @@ line_of_opening n disk =
     if is_open_on disk then line_of_stored n (opening_on disk).store else line_of_failure n (opening_on disk)
 
 -- a step: the numbers after it, what it saw, and what it offered
+abbrev pub line_of_outcome : ℕ → View → Seen → List Sent → ReportLine
+line_of_outcome n view seen sent =
+    HasStepped n view.role view.term view.last view.commit view.queued seen sent
+
 abbrev pub line_of_view : ℕ → View → StepResult → ReportLine
 line_of_view n view step_result =
-    HasStepped n view.role view.term view.last view.commit view.queued step_result.seen
-    (listing_of step_result.step_state)
+    line_of_outcome n view step_result.seen (listing_of step_result.step_state)
 
 abbrev pub line_of_result : ℕ → Member → StepResult → ReportLine
 line_of_result n x step_result =
@@ -82,9 +87,9 @@ line_of_row w (Open n told ms word) = line_of_opening n (w.member n).disk
 line_of_row w (Tick n ms word) = line_of_step n (w.rows + 1) (tick_of ms word) (w.member n).status (w.member n)
 line_of_row w (Rx n k ms) = line_of_step n (w.rows + 1) (receipt_of w k ms) (w.member n).status (w.member n)
 line_of_row w (Send n) = line_of_sending n (length w.frames + 1) (next_frame (w.member n).status)
-line_of_row w (Ext frame) = IsOutside (length w.frames + 1)
-line_of_row w (Crash n calls pattern) = if calls == 0 then HasStopped n else IsArmed n
-line_of_row w (Fault n call) = IsArmed n
+line_of_row w (Ext frame) = CameFromOutside (length w.frames + 1)
+line_of_row w (Crash n calls pattern) = if calls == 0 then HasStopped n else WasArmed n
+line_of_row w (Fault n call) = WasArmed n
 line_of_row w (AOpen a uid pref ms word) = HasCome a
 line_of_row w (ATick a ms word) = line_of_step_at a (w.rows + 1) (device.Tick ms word) (w.allocatee a)
 line_of_row w (ARx a k ms word) = line_of_step_at a (w.rows + 1) (receipt_at w k ms word) (w.allocatee a)

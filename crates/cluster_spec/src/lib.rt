@@ -2,16 +2,18 @@
 //!
 //! `specs/` says it: members on disks (`Members`), their bus and what each row leaves (`Cluster`),
 //! which rows are refused and why (`Lawful`), what a row tells, and the report of a list of rows
-//! (`ReportLine`, `Report`), what is stored of a step that failed (`Choices`), the run of the message
-//! machine that a world shows (`Refinement`), what members have committed and offer (`Logs`), and
-//! that each keeps its word (`Promise`). `bus_world` shows that its code is this very world.
+//! (`Report`), what is stored of a step that failed (`Choices`), the run of the Raft model that a world
+//! shows (`Refinement`), what members have committed and offer (`Logs`), and that each keeps its word
+//! (`OwnLogs`). `bus_world` shows that its code is this very world.
 //!
-//! The code here is what its users share: the causes of a refusal ([`Unlawful`]), and the test of a cluster's node IDs
-//! ([`are_members`]).
+//! The code here is what its users share: the causes of a refusal ([`Unlawful`]), the test of a cluster's node IDs
+//! ([`are_members`]), and what a step tells ([`told_of_step`]).
 #![tactic(auto)]
 
 mod members;
+mod told;
 mod unlawful;
 
 pub use members::are_members;
+pub use told::told_of_step;
 pub use unlawful::{Unlawful, WorldFault};

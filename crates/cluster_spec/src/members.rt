@@ -1,7 +1,10 @@
 ghost use Rattle.std.specs.Prelude.{IsTrue, ◌↔◌, ◌≤◌, ℕ};
+ghost use Rattle.can_frame.specs.Sizes.{most_members};
 ghost use Rattle.raft_model.specs.Lists.{In};
 ghost use Rattle.raft_model.specs.Members.{HasNoneTwice};
 ghost use Rattle.cluster_spec.specs.Cluster.{AreMembers, AreNodes};
+
+use can_frame::sizes::MOST_MEMBERS;
 
 /// Whether a cluster may have these members: 1 to 5 different node IDs of 1 to 125.
 pub fn are_members(ids: &[u8]) -> bool
@@ -17,9 +20,9 @@ pub fn are_members(ids: &[u8]) -> bool
 }
 
 fn is_count(count: usize) -> bool
-    ensures { IsTrue result ↔ ((1 ≤ count) × (count ≤ 5)) }
+    ensures { IsTrue result ↔ ((1 ≤ count) × (count ≤ most_members)) }
 {
-    1 <= count && count <= 5
+    1 <= count && count <= MOST_MEMBERS
 }
 
 fn is_node(id: u8) -> bool

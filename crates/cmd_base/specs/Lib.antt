@@ -1,4 +1,5 @@
 pub mod Codes
+pub mod Counting
 pub mod Draws
 pub mod Input
 pub mod NoFurther

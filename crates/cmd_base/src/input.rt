@@ -1,6 +1,6 @@
-ghost use Rattle.std.specs.Prelude.{◌≡◌, ◌≤◌, ◌<◌, ◌↔◌, ◌+◌, ◌-◌, [], List, ℕ, length, OnErr, OnOk, IfOk, IfSome, IsNone, IsTrue, slice_range, take, drop};
+ghost use Rattle.std.specs.Prelude.{◌≡◌, ◌≤◌, ◌<◌, ◌↔◌, ◌+◌, ◌-◌, [], List, ℕ, length, OnErr, IfOk, IfSome, IsNone, IsTrue, slice_range, take, drop};
 ghost use Rattle.std.specs.Io.KnownBytes.{Keeps, ReadConsumes};
-ghost use Rattle.outside.specs.Faults.{HasCause};
+ghost use Rattle.cmd_base.specs.Counting.{CountsFaults};
 ghost use Rattle.cmd_base.specs.Input.{HasNoLineEnd, IsLineEnd, ReadsMore, StandsInFront};
 
 use outside::{Failed, Source};
@@ -44,8 +44,7 @@ impl Input {
         ensures more { IfOk result (λ more. ReadsMore (S.left source.old) (S.left source.new) self.old self.new more) }
         ensures err { OnErr result (Keeps (S.left source.old) (S.left source.new)) }
         ensures unchanged { OnErr result (self.new ≡ self.old) }
-        ensures cause { HasCause (S.faults source.old) (S.faults source.new) result }
-        ensures kept { OnOk result (S.faults source.new ≡ S.faults source.old) }
+        ensures faults { CountsFaults (S.faults source.old) (S.faults source.new) result }
     {
         let waiting = self.end - self.start;
         move_to_front(&mut self.bytes, self.start, self.end);
@@ -134,8 +133,7 @@ fn read_behind<S: Source>(
     ensures front { take len bytes.new ≡ take len bytes.old }
     ensures count { IfOk result (λ count. len + count ≤ 4096) }
     ensures bytes { ReadConsumes (S.left source.old) (S.left source.new) result (drop len bytes.new) }
-    ensures cause { HasCause (S.faults source.old) (S.faults source.new) result }
-    ensures kept { OnOk result (S.faults source.new ≡ S.faults source.old) }
+    ensures faults { CountsFaults (S.faults source.old) (S.faults source.new) result }
 {
     source.read(&mut bytes[len..])
 }

@@ -1,6 +1,6 @@
 ghost use Rattle.std.specs.Prelude.{◌≡◌, ◌≤◌, ◌<◌, [], List, ℕ, length, OnOk, OnErr};
 ghost use Rattle.std.specs.Io.KnownBytes.{Appends};
-ghost use Rattle.outside.specs.Faults.{HasCause};
+ghost use Rattle.cmd_base.specs.Counting.{CountsFaults};
 ghost use Rattle.cmd_base.specs.Output.{StillWaits, WaitsBehind, Writes, WritesFront, WritesLast};
 
 use arrayvec::ArrayVec;
@@ -39,8 +39,7 @@ impl Output {
         ensures waits { OnOk result
             (WaitsBehind (K.written sink.old) self.old (K.written sink.new) self.new line.now) }
         ensures unchanged { OnErr result (self.new ≡ self.old) }
-        ensures cause { HasCause (K.faults sink.old) (K.faults sink.new) result }
-        ensures kept { OnOk result (K.faults sink.new ≡ K.faults sink.old) }
+        ensures faults { CountsFaults (K.faults sink.old) (K.faults sink.new) result }
     {
         if line.len() > self.bytes.remaining_capacity() {
             self.flush(sink)?;
@@ -57,8 +56,7 @@ impl Output {
         ensures none_waits { OnOk result (self.new ≡ []) }
         ensures waits { OnErr result
             (StillWaits (K.written sink.old) self.old (K.written sink.new) self.new line.now) }
-        ensures cause { HasCause (K.faults sink.old) (K.faults sink.new) result }
-        ensures kept { OnOk result (K.faults sink.new ≡ K.faults sink.old) }
+        ensures faults { CountsFaults (K.faults sink.old) (K.faults sink.new) result }
     {
         self.line(sink, line)?;
         self.flush(sink)
@@ -70,8 +68,7 @@ impl Output {
         ensures none_waits { OnOk result (self.new ≡ []) }
         ensures err { OnErr result (WritesFront (K.written sink.old) (K.written sink.new) self.old) }
         ensures unchanged { OnErr result (self.new ≡ self.old) }
-        ensures cause { HasCause (K.faults sink.old) (K.faults sink.new) result }
-        ensures kept { OnOk result (K.faults sink.new ≡ K.faults sink.old) }
+        ensures faults { CountsFaults (K.faults sink.old) (K.faults sink.new) result }
     {
         write_all(sink, self.bytes.as_slice())?;
         self.bytes.clear();
@@ -83,8 +80,7 @@ impl Output {
 fn write_all<K: Sink>(sink: &mut K, piece: &[u8]) -> Result<(), Failed>
     ensures ok { OnOk result (Appends (K.written sink.old) (K.written sink.new) piece.now) }
     ensures err { OnErr result (WritesFront (K.written sink.old) (K.written sink.new) piece.now) }
-    ensures cause { HasCause (K.faults sink.old) (K.faults sink.new) result }
-    ensures kept { OnOk result (K.faults sink.new ≡ K.faults sink.old) }
+    ensures faults { CountsFaults (K.faults sink.old) (K.faults sink.new) result }
 {
     let mut rest = piece;
     while !rest.is_empty() {

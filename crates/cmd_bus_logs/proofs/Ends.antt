@@ -6,19 +6,11 @@ use Rattle.std.proofs.lemmas.List.{get_or_append_left, get_or_at, length-take-le
 use Rattle.std.proofs.lemmas.List.Sums.{position_or_len_is, prefix_len-le-length, prefix_len_passes, prefix_len_stops}
 use Rattle.can_logs.proofs.Splits.{none_before, one_cut, parts_at}
 use Rattle.cmd_base.specs.Input.{HasNoLineEnd, HasTooLongLine, IsLineEnd}
-use Rattle.cmd_bus_logs.specs.declared.form.Form.{Form}
-use Rattle.cmd_bus_logs.specs.declared.form.Form.TheVariants.{Candump, Slcan}
-use Rattle.cmd_bus_logs.specs.declared.form.Line.{Line}
-use Rattle.cmd_bus_logs.specs.Lines.{BeginsWithLine, BeginsWithNoLine, FindsLine, LineBegins, Says, bells, end_of}
-
--- the first byte that is no bell, and how many bells there are
-pub not_not : (bytes : List ℕ) → position_or_len (λ byte. not (byte == 7)) bytes ≡ prefix_len (λ byte. byte == 7) bytes
-not_not [] = refl
-not_not (byte ∷ bytes) =
-    elim (cases_eq byte 7) [
-      | inl bell ↦ rw (eq-eqb byte 7 bell) (ap (λ n. 1 + n) (not_not bytes))
-      | inr other ↦ rw (ne_eqb byte 7 other) refl
-    ]
+use Rattle.can_logs.specs.declared.form.Form.{Form}
+use Rattle.can_logs.specs.declared.form.Form.TheVariants.{Candump, Slcan}
+use Rattle.can_logs.specs.declared.form.Line.{Line}
+use Rattle.can_logs.specs.Forms.{Says, bells, end_of}
+use Rattle.cmd_bus_logs.specs.Lines.{BeginsWithLine, BeginsWithNoLine, FindsLine, LineBegins}
 
 -- ---- where a line begins
 
@@ -88,6 +80,7 @@ module _ (form : Form) (bytes : List ℕ) (size : ℕ) (ended : IsLineEnd (end_o
   only_line said more rest begins =
       (one_cut (end_of form) (bytes ++ more) begins.line rest (take size bytes) (drop (size + 1) bytes ++ more) begins.one_line begins.spelled one_line (split more)).0
 
+  -- where it says something, it is the line at the front
   pub line_found : (said : Line) → size ≤ 120 → Says form said (drop (bells form (take size bytes)) (take size bytes)) → FindsLine form said bytes (drop (size + 1) bytes)
   line_found said short says = let low = within in record {
     shorter = omega (arith, low, length-drop (size + 1) bytes);
@@ -100,6 +93,7 @@ module _ (form : Form) (bytes : List ℕ) (size : ℕ) (ended : IsLineEnd (end_o
     };
   }
 
+  -- where it says nothing, no line is there
   pub no_line : ((said : Line) → Says form said (drop (bells form (take size bytes)) (take size bytes)) → ⊥) → (more : List ℕ) → BeginsWithNoLine form (bytes ++ more)
   no_line bad more = record {
     begins = ends more;
@@ -115,6 +109,7 @@ end_here form said bytes more rest begins early =
     sym (get_or_append_left bytes more 0 (length begins.line) early) ∙ ap (λ b. get_or b (length begins.line) 0) begins.spelled
     ∙ get_or_at begins.line (end_of form) rest 0 (length begins.line) refl
 
+-- so many bytes without an end are no line, whatever comes behind
 pub too_long : (form : Form) (bytes : List ℕ) → HasTooLongLine (end_of form) 120 bytes → (more : List ℕ) → BeginsWithNoLine form (bytes ++ more)
 too_long form bytes long more = let size = long.long in record {
   begins = begins_long form (bytes ++ more) (omega (arith, size, length-append bytes more));
@@ -130,6 +125,7 @@ few_wait Candump (byte ∷ bytes) none = absurd (none (λ e. absurd (cc e)))
 few_wait Slcan bytes none =
     elim (cases_lt 120 (length bytes)) [ inl long ↦ absurd (none (begins_long Slcan bytes long)) | inr short ↦ short ]
 
+-- where no line begins, none ends
 pub none_ends : (form : Form) (bytes : List ℕ) → (LineBegins form bytes → ⊥) → HasNoLineEnd (end_of form) bytes
 none_ends form bytes none i low here = none (begins_at form bytes i low (λ bell. no_bell form (sym here ∙ bell)))
 

@@ -1,3 +1,4 @@
+pub mod Accepted
 pub mod Converted
 pub mod Ends
 pub mod Listing

@@ -1,19 +1,16 @@
 -- The lines of a watch, one log line behind the others.
-use Rattle.std.proofs.Common.{◌≡◌, ◌∙◌, ℕ, suc, ◌+◌, List, [], ◌∷◌, ◌++◌, length, ap, refl, sym, subst, append_assoc, append-nil, arith}
-use Rattle.std.specs.declared.option.Option.{Option}
-use Rattle.cmd_bus_logs.specs.declared.form.Form.{Form}
-use Rattle.cmd_bus_logs.specs.declared.form.Line.{Line}
-use Rattle.cmd_bus_logs.specs.declared.log.End.{End}
-use Rattle.cmd_bus_logs.specs.declared.log.Fault.{Fault}
-use Rattle.cmd_bus_logs.specs.Walking.{Fails, Walks}
-use Rattle.cmd_bus_logs.specs.Watched.{Watch, end_line, line_heard, listed, unwatched, watched, watched_from}
+use Rattle.std.proofs.Common.{◌≡◌, ◌∙◌, ℕ, suc, ◌+◌, List, [], ◌∷◌, ◌++◌, length, ap, refl, sym, append_assoc, append-nil, arith}
+use Rattle.can_logs.specs.declared.form.Line.{Line}
+use Rattle.cmd_bus_logs.specs.Watched.{Watch, line_heard, listed, unwatched, watched, watched_from}
 use Rattle.cmd_bus_logs.specs.Watching.{watch_behind}
 
+-- a watch behind some lines and one more
 pub watch_behind-last : (ids : List ℕ) (watch : Watch) (lines : List Line) (line : Line) →
     watch_behind ids watch (lines ++ line ∷ []) ≡ (line_heard ids (watch_behind ids watch lines) line).after
 watch_behind-last ids watch [] line = refl
 watch_behind-last ids watch (first ∷ lines) line = watch_behind-last ids (line_heard ids watch first).after lines line
 
+-- one line more is listed behind the others, by its number
 pub watched_from-last : (ids : List ℕ) (watch : Watch) (before : ℕ) (lines : List Line) (line : Line) →
     watched_from ids watch before (lines ++ line ∷ [])
     ≡ watched_from ids watch before lines ++ listed (before + length lines + 1) (line_heard ids (watch_behind ids watch lines) line).gives
@@ -26,12 +23,14 @@ watched_from-last ids watch before (first ∷ lines) line =
     ∙ sym (append_assoc (listed (suc before) this.gives) (watched_from ids this.after (suc before) lines) _)
     ∙ ap (λ n. (listed (suc before) this.gives ++ watched_from ids this.after (suc before) lines) ++ listed n (line_heard ids (watch_behind ids this.after lines) line).gives) (omega arith)
 
+-- so it is from the first line on
 pub watched-more : (ids : List ℕ) (lines : List Line) (said : Line) (number : ℕ) → number ≡ length lines + 1 →
     watched ids (lines ++ said ∷ []) ≡ watched ids lines ++ listed number (line_heard ids (watch_behind ids unwatched lines) said).gives
 watched-more ids lines said number is =
     watched_from-last ids unwatched 0 lines said
     ∙ ap (λ n. watched ids lines ++ listed n (line_heard ids (watch_behind ids unwatched lines) said).gives) (omega (arith, is))
 
+-- what further lines list stands behind what some lines list
 pub watched_from-on : (ids : List ℕ) (watch : Watch) (before : ℕ) (lines more : List Line) →
     (rest : List ℕ) × (watched_from ids watch before (lines ++ more) ≡ watched_from ids watch before lines ++ rest)
 watched_from-on ids watch before [] more = (watched_from ids watch before more, refl)
@@ -42,17 +41,3 @@ watched_from-on ids watch before (line ∷ lines) more =
       ap (λ l. listed (suc before) this.gives ++ l) on.1
           ∙ sym (append_assoc (listed (suc before) this.gives) (watched_from ids this.after (suc before) lines) on.0),
     )
-
--- a watch whose form is known
-module _ (ids : List ℕ) (form own : Form) (limit most : ℕ) (same : own ≡ form) (same_limit : most ≡ limit) where
-  pub walks_as : (bytes : List ℕ) (sink : Option (List ℕ)) (taken : ℕ) (left sink_now : Option (List ℕ)) (output : List ℕ) (how : End) →
-      Walks (watched ids) own most bytes sink taken left sink_now output how → Walks (watched ids) form limit bytes sink taken left sink_now output how
-  walks_as bytes sink taken left sink_now output how walks =
-      subst (λ f. Walks (watched ids) f limit bytes sink taken left sink_now output how) same
-      (subst (λ n. Walks (watched ids) own n bytes sink taken left sink_now output how) same_limit walks)
-
-  pub fails_as : (fault : Fault) (bytes : List ℕ) (left sink sink_now : Option (List ℕ)) →
-      Fails fault (watched ids) end_line own most bytes left sink sink_now → Fails fault (watched ids) end_line form limit bytes left sink sink_now
-  fails_as fault bytes left sink sink_now fails =
-      subst (λ f. Fails fault (watched ids) end_line f limit bytes left sink sink_now) same
-      (subst (λ n. Fails fault (watched ids) end_line own n bytes left sink sink_now) same_limit fails)

@@ -4,15 +4,11 @@ use Rattle.std.specs.declared.option.Option.{Option}
 use Rattle.outside.specs.Faults.{Rose}
 use Rattle.cmd_base.specs.declared.status.Status.{Status}
 use Rattle.cmd_base.specs.declared.status.Status.TheVariants.{Done, Usage, BadRow, Unlawful, ReadFault, WriteFault, Memory, Limit, LinkFault, DiskFault, Damaged, Differ, NoPart, NoValue}
-use Rattle.can_logs.specs.Candump as candump
-use Rattle.can_logs.specs.Slcan as slcan
-use Rattle.can_logs.specs.declared.candump.LogLine.{LogLine}
-use Rattle.can_logs.specs.declared.slcan.SlLine.{SlLine}
 use Rattle.can_logs.proofs.Splits.{one_cut}
-use Rattle.cmd_bus_logs.specs.declared.form.Form.{Form}
-use Rattle.cmd_bus_logs.specs.declared.form.Form.TheVariants.{Candump, Slcan}
-use Rattle.cmd_bus_logs.specs.declared.form.Line.{Line}
-use Rattle.cmd_bus_logs.specs.Lines.{BeginsWithLine, LineBegins, ReadsLines, Says, bells, end_of, of_candump, of_slcan}
+use Rattle.can_logs.specs.declared.form.Form.{Form}
+use Rattle.can_logs.specs.declared.form.Line.{Line}
+use Rattle.can_logs.specs.Forms.{Says, bells, end_of}
+use Rattle.cmd_bus_logs.specs.Lines.{BeginsWithLine, LineBegins, ReadsLines}
 use Rattle.cmd_bus_logs.specs.Report.{Ends, EndsAs, IsOfLog, IsReport, IsWrittenInPart, ReadsLog, Reports, TellsMore, last_line}
 use Rattle.cmd_bus_logs.specs.Report.IsWrittenInPart.{InLines, AtTheEnd}
 use Rattle.cmd_base.specs.Output.{WritesFront}
@@ -132,17 +128,13 @@ module _ (form : Form) (limit : ℕ) where
 
 -- a line says one thing
 abbrev pub SaysOne : Type 0
-SaysOne = ((a b : LogLine) (line : List ℕ) → candump.Reads a line → candump.Reads b line → a ≡ b)
-    × ((a b : SlLine) (line : List ℕ) → slcan.Reads a line → slcan.Reads b line → a ≡ b)
+SaysOne = (form : Form) (a b : Line) (text : List ℕ) → Says form a text → Says form b text → a ≡ b
 
-one_said : SaysOne → (form : Form) (a b : Line) (text : List ℕ) → Says form a text → Says form b text → a ≡ b
-one_said one Candump a b text p q = p.2 ∙ ap of_candump (one.0 p.0 q.0 text p.1 q.1) ∙ sym q.2
-one_said one Slcan a b text p q = p.2 ∙ ap of_slcan (one.1 p.0 q.0 text p.1 q.1) ∙ sym q.2
-
+-- a log has one report, with one status
 pub one_report : SaysOne → (told : List Line → List ℕ) (end : ℕ → List ℕ) (form : Form) (limit : ℕ) (bytes report other : List ℕ) (status ending : Status) →
     IsReport told end form limit bytes report status → IsReport told end form limit bytes other ending → (report ≡ other) × (status ≡ ending)
 one_report one told end form limit bytes report other status ending p q =
-    let same = one_reading form limit (one_said one form) p.lines q.lines bytes status ending p.log q.log in (
+    let same = one_reading form limit (one form) p.lines q.lines bytes status ending p.log q.log in (
       p.written ∙ ap (λ lines. told lines ++ last_line (end (length lines)) status) same.0
           ∙ ap (λ s. told q.lines ++ last_line (end (length q.lines)) s) same.1 ∙ sym q.written,
       same.1,
@@ -150,13 +142,14 @@ one_report one told end form limit bytes report other status ending p q =
 
 -- ---- what a sink has that failed is a front of the report
 
+-- it is so whether the sink failed at a line or at the end
 pub written_front : SaysOne → (told : List Line → List ℕ) (end : ℕ → List ℕ) (form : Form) (limit : ℕ) (bytes report : List ℕ) (status : Status)
     (left sink sink_now : Option (List ℕ)) → TellsMore told → IsWrittenInPart told end form limit bytes left sink sink_now →
     IsReport told end form limit bytes report status → WritesFront sink sink_now report
 written_front one told end form limit bytes report status left sink sink_now tells (AtTheEnd other ending is front no_further ahead) reported =
     subst (WritesFront sink sink_now) (one_report one told end form limit bytes other report ending status is reported).0 front
 written_front one told end form limit bytes report status left sink sink_now tells (InLines lines rest reads few front no_further ahead) reported =
-    let all = front_of_log form limit (one_said one form) lines reported.lines bytes rest status reads few reported.log in
+    let all = front_of_log form limit (one form) lines reported.lines bytes rest status reads few reported.log in
     let more = tells lines all.0 in
     let last = last_line (end (length reported.lines)) status in
     let same : report ≡ told lines ++ (more.0 ++ last) =

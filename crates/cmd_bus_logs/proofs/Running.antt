@@ -4,13 +4,30 @@ use Rattle.std.specs.declared.option.Option.{Option}
 use Rattle.outside.specs.Faults.{Rose}
 use Rattle.cmd_base.specs.declared.status.Status.{Status}
 use Rattle.cmd_base.specs.declared.status.Status.TheVariants.{Done, Usage, BadRow, ReadFault, WriteFault, Memory, Limit}
-use Rattle.cmd_bus_logs.specs.declared.form.Form.{Form}
-use Rattle.cmd_bus_logs.specs.declared.form.Line.{Line}
+use Rattle.can_logs.specs.declared.form.Form.{Form}
+use Rattle.can_logs.specs.declared.form.Line.{Line}
 use Rattle.cmd_bus_logs.specs.declared.log.End.{End}
 use Rattle.cmd_bus_logs.specs.declared.log.End.TheVariants.{Ended, NoLine, Full}
+use Rattle.cmd_bus_logs.specs.declared.log.Fault.{Fault}
 use Rattle.cmd_bus_logs.specs.Report.{Ends, IsOfLog, IsReadInPart, IsTold, IsWrittenInPart, Reports}
-use Rattle.cmd_bus_logs.specs.Walking.{status_of}
+use Rattle.cmd_bus_logs.specs.Walking.{Fails, Walks, status_of}
 use Rattle.cmd_bus_logs.proofs.OneReport.{SaysOne, reports}
+
+-- a run over a log whose form and limit are known
+module _ (told : List Line → List ℕ) (done : ℕ → List ℕ) (form own : Form) (limit most : ℕ) (same : own ≡ form) (same_limit : most ≡ limit) where
+  -- all lines were taken
+  pub walks_as : (bytes : List ℕ) (sink : Option (List ℕ)) (taken : ℕ) (left sink_now : Option (List ℕ)) (output : List ℕ) (how : End) →
+      Walks told own most bytes sink taken left sink_now output how → Walks told form limit bytes sink taken left sink_now output how
+  walks_as bytes sink taken left sink_now output how walks =
+      subst (λ f. Walks told f limit bytes sink taken left sink_now output how) same
+      (subst (λ n. Walks told own n bytes sink taken left sink_now output how) same_limit walks)
+
+  -- an object of the outside failed
+  pub fails_as : (fault : Fault) (bytes : List ℕ) (left sink sink_now : Option (List ℕ)) →
+      Fails fault told done own most bytes left sink sink_now → Fails fault told done form limit bytes left sink sink_now
+  fails_as fault bytes left sink sink_now fails =
+      subst (λ f. Fails fault told done f limit bytes left sink sink_now) same
+      (subst (λ n. Fails fault told done own n bytes left sink sink_now) same_limit fails)
 
 -- no such status tells of a fault, nor of words or memory
 pub is_no_fault : (how : End) (taken : ℕ) → (status_of how taken ≡ ReadFault → ⊥) × (status_of how taken ≡ WriteFault → ⊥)

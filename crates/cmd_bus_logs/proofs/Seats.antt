@@ -4,7 +4,7 @@ use Rattle.std.proofs.lemmas.Bool.{eqb-true, true≢false}
 use Rattle.std.specs.Prelude.{◌≤◌, length, slice_get}
 use Rattle.can_frame.specs.Identifier.{identifier_of}
 use Rattle.can_frame.specs.declared.identifier.Ident.{Ident}
-use Rattle.transfer_rx.specs.Acceptance.{is_service}
+use Rattle.can_frame.specs.Kinds.{is_service}
 use Rattle.transfer_rx.specs.Reassembly.{Arrival, next}
 use Rattle.transfer_rx.specs.Views.{HasSessions}
 use Rattle.cmd_bus_logs.specs.declared.receivers.Receivers.{Receivers}
@@ -55,29 +55,33 @@ gives_by : (b : Bool) (id : ℕ) (watch : Watch) (came : Arrival) →
 gives_by true id watch came = refl
 gives_by false id watch came = refl
 
+-- a frame of a service delivers where its destination is watched
 pub gives_by_service : (ids : List ℕ) (watch : Watch) (came : Arrival) (id : ℕ) →
     cond (is_watched ids id) (by_services id watch came).gives None ≡ (by_service ids watch came id).gives
 gives_by_service ids watch came id = gives_by (is_watched ids id) id watch came
 
 -- ---- by the identifier of a frame
 
+-- a frame of a service comes to its destination
 pub heard_service : (ids : List ℕ) (watch : Watch) (came : Arrival) (ident : Ident) → identifier_of came.id ≡ Some ident →
     is_service ident.kind ≡ true → heard ids watch came ≡ by_service ids watch came ident.dest
 unfolding heard
 heard_service ids watch came ident reads service = rw (reads, service) refl
 
+-- another one comes to the receiver of messages
 pub heard_message : (ids : List ℕ) (watch : Watch) (came : Arrival) (ident : Ident) → identifier_of came.id ≡ Some ident →
     is_service ident.kind ≡ false → heard ids watch came ≡ by_messages watch came
 unfolding heard
 heard_message ids watch came ident reads message = rw (reads, message) refl
 
+-- one without a reading comes to none
 pub heard_none : (ids : List ℕ) (watch : Watch) (came : Arrival) → identifier_of came.id ≡ None → heard ids watch came ≡ by_none watch
 unfolding heard
 heard_none ids watch came reads = rw reads refl
 
-module _ {G : Type 0} where
+module _ {F : Type 0} where
   -- a seat has the sessions of its node behind a frame, where the node of the frame is watched if it is that of the seat
-  module _ (before now : Seat G) (id : ℕ) (came : Arrival) (watch : Watch) (moves : Moves before now id came) (has : HasServices before watch.services) where
+  module _ (before now : Seat F) (id : ℕ) (came : Arrival) (watch : Watch) (moves : Moves before now id came) (has : HasServices before watch.services) where
     sessions_here : (watched : Bool) → (is_at before.id id ≡ true → watched ≡ true) → (own : ℕ) → before.id ≡ Some own → is_at before.id id ≡ true →
         HasSessions now.receiver ((cond watched (by_services id watch came) (by_none watch)).after.services own)
     sessions_here watched all own was at =
@@ -109,9 +113,9 @@ messages_stay : (watch : Watch) (came : Arrival) (id : ℕ) (b : Bool) →
 messages_stay watch came id true = refl
 messages_stay watch came id false = refl
 
-module _ {F G : Type 0} where
+module _ {F : Type 0} where
   -- a frame of a service came to all seats
-  pub all_moved : (before now : Receivers F G) (ids : List ℕ) (watch : Watch) (id : ℕ) (came : Arrival) → HasWatch before ids watch →
+  pub all_moved : (before now : Receivers F) (ids : List ℕ) (watch : Watch) (id : ℕ) (came : Arrival) → HasWatch before ids watch →
       now.messages ≡ before.messages → Moves before.first now.first id came → Moves before.second now.second id came →
       Moves before.third now.third id came → Moves before.fourth now.fourth id came → Moves before.fifth now.fifth id came →
       HasWatch now ids (by_service ids watch came id).after

@@ -10,15 +10,16 @@ use Rattle.cmd_base.specs.Output.{Grows, WritesFront}
 use Rattle.cmd_base.specs.declared.status.Status.{Status}
 use Rattle.cmd_base.specs.declared.status.Status.TheVariants.{Done, Usage, BadRow, Limit, ReadFault, WriteFault, Memory}
 use Rattle.cmd_base.proofs.Written.{flushed, front-behind, front-on, grows-front, grows-refl, grows-trans}
-use Rattle.cmd_bus_logs.specs.declared.form.Form.{Form}
-use Rattle.cmd_bus_logs.specs.declared.form.Line.{Line}
+use Rattle.can_logs.specs.declared.form.Form.{Form}
+use Rattle.can_logs.specs.declared.form.Line.{Line}
 use Rattle.cmd_bus_logs.specs.declared.log.End.{End}
 use Rattle.cmd_bus_logs.specs.declared.log.End.TheVariants as end
 use Rattle.cmd_bus_logs.specs.declared.log.Fault.{Fault}
 use Rattle.cmd_bus_logs.specs.declared.log.Fault.TheVariants.{Source, Sink}
 use Rattle.cmd_bus_logs.specs.declared.log.Next.{Next}
 use Rattle.cmd_bus_logs.specs.declared.log.Next.TheVariants as next
-use Rattle.cmd_bus_logs.specs.Lines.{BeginsWithLine, BeginsWithNoLine, FindsLine, LineBegins, ReadsLines, end_of}
+use Rattle.can_logs.specs.Forms.{end_of}
+use Rattle.cmd_bus_logs.specs.Lines.{BeginsWithLine, BeginsWithNoLine, FindsLine, LineBegins, ReadsLines}
 use Rattle.cmd_bus_logs.specs.Report.{EndsAs, IsReadInPart, IsReport, IsTold, IsWrittenInPart, ReadsAhead, last_line}
 use Rattle.cmd_bus_logs.specs.Report.IsWrittenInPart.{InLines, AtTheEnd}
 use Rattle.cmd_bus_logs.specs.Walking.{Comes, Counts, EndsSo, Fails, FailsBehind, HasNext, ReadsBehind, ReadsNext, SameBytes, SoFar, Takes, WaitsOn, Walks, status_of}

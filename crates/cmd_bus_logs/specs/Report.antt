@@ -7,9 +7,10 @@ use Rattle.cmd_base.specs.NoFurther.{ReadsNoFurther}
 use Rattle.cmd_base.specs.Output.{WritesFront}
 use Rattle.cmd_base.specs.declared.status.Status.{Status}
 use Rattle.cmd_base.specs.declared.status.Status.TheVariants.{Done, BadRow, Limit, ReadFault, WriteFault}
-use Rattle.cmd_bus_logs.specs.declared.form.Form.{Form}
-use Rattle.cmd_bus_logs.specs.declared.form.Line.{Line}
-use Rattle.cmd_bus_logs.specs.Lines.{BeginsWithNoLine, LineBegins, ReadsLines, end_of}
+use Rattle.can_logs.specs.declared.form.Form.{Form}
+use Rattle.can_logs.specs.declared.form.Line.{Line}
+use Rattle.can_logs.specs.Forms.{end_of}
+use Rattle.cmd_bus_logs.specs.Lines.{BeginsWithNoLine, LineBegins, ReadsLines}
 
 -- ---- how a log ends behind the lines that were taken
 

@@ -7,15 +7,16 @@ use Rattle.cmd_base.specs.NoFurther.{ReadsNoFurther}
 use Rattle.cmd_base.specs.Output.{Grows}
 use Rattle.cmd_base.specs.declared.status.Status.{Status}
 use Rattle.cmd_base.specs.declared.status.Status.TheVariants.{Done, BadRow, Limit}
-use Rattle.cmd_bus_logs.specs.declared.form.Form.{Form}
-use Rattle.cmd_bus_logs.specs.declared.form.Line.{Line}
+use Rattle.can_logs.specs.declared.form.Form.{Form}
+use Rattle.can_logs.specs.declared.form.Line.{Line}
 use Rattle.cmd_bus_logs.specs.declared.log.End.{End}
 use Rattle.cmd_bus_logs.specs.declared.log.End.TheVariants as end
 use Rattle.cmd_bus_logs.specs.declared.log.Fault.{Fault}
 use Rattle.cmd_bus_logs.specs.declared.log.Fault.TheVariants.{Source, Sink}
 use Rattle.cmd_bus_logs.specs.declared.log.Next.{Next}
 use Rattle.cmd_bus_logs.specs.declared.log.Next.TheVariants as next
-use Rattle.cmd_bus_logs.specs.Lines.{BeginsWithLine, BeginsWithNoLine, FindsLine, IsLineWritable, LineBegins, ReadsLines, end_of}
+use Rattle.can_logs.specs.Forms.{IsLineWritable, end_of}
+use Rattle.cmd_bus_logs.specs.Lines.{BeginsWithLine, BeginsWithNoLine, FindsLine, LineBegins, ReadsLines}
 use Rattle.cmd_bus_logs.specs.Report.{IsReadInPart, IsWrittenInPart, ReadsAhead}
 
 -- what waits is no whole line, and at most 120 bytes; where no other line may come, none begins in it

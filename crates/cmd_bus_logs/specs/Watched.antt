@@ -2,50 +2,36 @@
 use Rattle.std.specs.Prelude.{ℕ, ◌+◌, ◌*◌, ◌/◌, ◌==◌, suc, Bool, List, [], ◌∷◌, ◌++◌, Option, None, Some, codes, decimal, if◌then◌else◌}
 use Rattle.std.specs.List.{list_any}
 use Rattle.hex.specs.Hex.{encode_lower}
-use Rattle.can_frame.specs.DataTypes.{allocation, append_entries, discovery, get_node_info, node_status, request_vote}
+use Rattle.can_frame.specs.DataTypes.{allocation}
 use Rattle.can_frame.specs.Identifier.{identifier_of}
 use Rattle.can_frame.specs.declared.identifier.Ident.{Ident}
 use Rattle.can_frame.specs.declared.identifier.Kind.{Kind}
 use Rattle.can_frame.specs.declared.identifier.Kind.TheVariants.{Anonymous, Message, Request, Response}
 use Rattle.can_frame.specs.declared.mark.Mark.{Mark}
-use Rattle.alloc_spec.specs.Accepted.{row}
+use Rattle.can_frame.specs.Kinds.{is_service}
+use Rattle.alloc_spec.specs.Accepted.{row, rows}
 use Rattle.cmd_base.specs.declared.status.Status.{Status}
 use Rattle.transfer_rx.specs.declared.accept.AcceptRow.{AcceptRow}
-use Rattle.transfer_rx.specs.Acceptance.{is_service}
 use Rattle.transfer_rx.specs.Reassembly.{Arrival, Delivery, Setting, answer, arrival_of, delivered, next}
 use Rattle.transfer_rx.specs.Sessions.{Session}
-use Rattle.cmd_bus_logs.specs.declared.form.Line.{Line}
-use Rattle.cmd_bus_logs.specs.declared.form.Line.TheVariants.{Frame, Skipped}
-use Rattle.cmd_bus_logs.specs.declared.form.Logged.{Logged}
-use Rattle.cmd_bus_logs.specs.Lines.{form_of}
+use Rattle.can_logs.specs.declared.form.Form.{Form}
+use Rattle.can_logs.specs.declared.form.Line.{Line}
+use Rattle.can_logs.specs.declared.form.Line.TheVariants.{Frame, Skipped}
+use Rattle.can_logs.specs.declared.form.Logged.{Logged}
 use Rattle.cmd_bus_logs.specs.Report.{Reports}
 
 -- ---- the receivers
 
--- the messages: Allocation, also from nodes without an ID, NodeStatus and Discovery
-unfoldable pub broadcast_rows : List AcceptRow
-broadcast_rows = row Anonymous allocation
-    ∷ row Message allocation
-    ∷ row Message node_status
-    ∷ row Message discovery
-    ∷ []
-
--- the services: both directions of GetNodeInfo, AppendEntries and RequestVote
-unfoldable pub service_rows : List AcceptRow
-service_rows = row Request get_node_info
-    ∷ row Response get_node_info
-    ∷ row Request append_entries
-    ∷ row Response append_entries
-    ∷ row Request request_vote
-    ∷ row Response request_vote
-    ∷ []
+-- what they take: what an allocator receives, and the Allocations of allocators
+unfoldable pub watched_rows : List AcceptRow
+watched_rows = row Message allocation ∷ rows
 
 -- how they are made: the first takes the messages of all nodes, each other one the services for its node
 abbrev pub message_setting : Setting
-message_setting = record { rows = broadcast_rows; me = 0; sessions = 64; blocks = 64 }
+message_setting = record { rows = watched_rows; me = 0; sessions = 64; blocks = 64 }
 
 abbrev pub service_setting : ℕ → Setting
-service_setting id = record { rows = service_rows; me = id; sessions = 64; blocks = 64 }
+service_setting id = record { rows = watched_rows; me = id; sessions = 64; blocks = 64 }
 
 -- the sessions of the receiver of messages, and of that of each node's services
 pub record Watch : Type 0 where
@@ -148,9 +134,9 @@ abbrev pub end_line : ℕ → List ℕ
 end_line lines = codes "end " ++ decimal lines ++ codes "\n"
 
 -- a watch of the source, whose faults, and those of the sink, are counted before and now
-abbrev pub Watches : Bool → ℕ → List ℕ → Option (List ℕ) → Option (List ℕ) → ℕ → ℕ → ℕ
+abbrev pub Watches : Form → ℕ → List ℕ → Option (List ℕ) → Option (List ℕ) → ℕ → ℕ → ℕ
     → ℕ → Option (List ℕ)
     → Option (List ℕ) → Status → Type 0
-Watches candump limit ids left_old left read_old read wrote_old wrote sink_before sink_now status =
-    Reports (watched ids) end_line (form_of candump) limit left_old left read_old read wrote_old wrote
+Watches form limit ids left_old left read_old read wrote_old wrote sink_before sink_now status =
+    Reports (watched ids) end_line form limit left_old left read_old read wrote_old wrote
     sink_before sink_now status

@@ -1,13 +1,14 @@
 ghost use Rattle.std.specs.Prelude.{◌≡◌, ◌≤◌, ◌⊎◌, ℕ, List, [], Some, IfErr, IfOk, OnOk};
-ghost use Rattle.outside.specs.Faults.{HasCause, Rose};
+ghost use Rattle.outside.specs.Faults.{Rose};
+ghost use Rattle.cmd_base.specs.Counting.{CountsFaults};
 ghost use Rattle.cmd_base.specs.Output.{Writes};
 ghost use Rattle.cmd_bus_logs.specs.Converted.{Converts, converted, converted_line, no_end};
-ghost use Rattle.cmd_bus_logs.specs.Lines.{IsLineWritable};
+ghost use Rattle.can_logs.specs.Forms.{IsLineWritable};
 ghost use Rattle.cmd_bus_logs.specs.Walking.{Fails, IsCausedBy, Walks};
 
-use crate::form::{Form, Line};
 use crate::log::{End, Fault, Log, Next, finish};
-use can_logs::laws::a_line_has_one_reading;
+use can_logs::laws::a_line_says_one_thing;
+use can_logs::{Form, Line};
 use cmd_base::{Output, Status};
 use outside::{Failed, Sink, Source};
 
@@ -16,14 +17,14 @@ use outside::{Failed, Sink, Source};
 /// something else. Of the bytes behind the lines that were taken at most 4,096 are read. With `Done` that is
 /// all; with `BadRow` and `Limit` the last line tells the number of the first line that is not taken.
 pub fn convert<S: Source, K: Sink>(
-    from_candump: bool,
-    to_candump: bool,
+    from: Form,
+    to: Form,
     limit: u64,
     source: &mut S,
     sink: &mut K,
 ) -> Status
     requires { limit ≤ 1000000 }
-    ensures converts { Converts from_candump to_candump limit (S.left source.old) (S.left source.new)
+    ensures converts { Converts from to limit (S.left source.old) (S.left source.new)
         (S.faults source.old) (S.faults source.new) (K.faults sink.old) (K.faults sink.new)
         (K.written sink.old) (K.written sink.new) result }
     ensures read { result ≡ Status.ReadFault → Rose (S.faults source.old) (S.faults source.new) }
@@ -35,10 +36,10 @@ pub fn convert<S: Source, K: Sink>(
     ensures memory { result ≡ Status.Memory → ⊥ }
 {
     // The law behind the completeness of the report.
-    a_line_has_one_reading();
-    let mut log = Log::new(Form::of(from_candump), limit);
+    a_line_says_one_thing();
+    let mut log = Log::new(from, limit);
     let mut output = Output::new();
-    match write_frames(Form::of(to_candump), &mut log, &mut output, source, sink) {
+    match write_frames(to, &mut log, &mut output, source, sink) {
         Ok(end) => match finish(end, log.taken, b"", &mut output, sink) {
             Ok(status) => status,
             Err(Failed) => Status::WriteFault,
@@ -95,8 +96,7 @@ fn write_line<K: Sink>(
     requires { IsLineWritable line }
     ensures told { Writes (K.written sink.old) output.old (K.written sink.new) output.new
         (converted_line to line) result }
-    ensures cause { HasCause (K.faults sink.old) (K.faults sink.new) result }
-    ensures kept { OnOk result (K.faults sink.new ≡ K.faults sink.old) }
+    ensures faults { CountsFaults (K.faults sink.old) (K.faults sink.new) result }
 {
     match line {
         Line::Frame(logged) => output.line(sink, &to.write(logged)),

@@ -1,7 +1,7 @@
 ghost use Rattle.std.specs.Prelude.{◌≤◌, ◌↔◌, ◌≡◌, length, IsTrue, drop};
 ghost use Rattle.cmd_bus_logs.specs.Lines.{Finds, LineBegins};
 
-use crate::form::{Form, Line};
+use can_logs::{Form, Line};
 use cmd_base::{Front, Input, front_line};
 
 /// No line is longer, in bytes with its bells and without its end.

@@ -2,15 +2,14 @@
 
 ghost use Rattle.std.specs.Prelude.{◌≡◌, ℕ, List, Option};
 ghost use Rattle.cmd_base.specs.declared.status.Status.{Status};
-ghost use Rattle.cmd_bus_logs.specs.declared.form.Form.{Form};
-ghost use Rattle.cmd_bus_logs.specs.declared.form.Line.{Line};
-ghost use Rattle.cmd_bus_logs.specs.Lines.{IsLineWritable, Says};
+ghost use Rattle.can_logs.specs.declared.form.Form.{Form};
+ghost use Rattle.can_logs.specs.declared.form.Line.{Line};
 ghost use Rattle.cmd_bus_logs.specs.Report.{IsReport, IsWrittenInPart, TellsMore};
 ghost use Rattle.cmd_bus_logs.specs.Converted.{converted};
 ghost use Rattle.cmd_bus_logs.specs.Watched.{watched};
 ghost use Rattle.cmd_base.specs.Output.{WritesFront};
 
-use can_logs::laws::{a_line_has_one_reading, read_lines_are_writable};
+use can_logs::laws::a_line_says_one_thing;
 
 /// A log has one report, with one status, whatever its lines tell.
 pub fn a_log_has_one_report()
@@ -20,7 +19,7 @@ pub fn a_log_has_one_report()
         IsReport told end form limit bytes other ending →
         (report ≡ other) × (status ≡ ending) }
 {
-    a_line_has_one_reading();
+    a_line_says_one_thing();
 }
 
 /// What a sink has that failed is a front of the log's report.
@@ -31,7 +30,7 @@ pub fn what_was_written_begins_the_report()
         IsReport told end form limit bytes report status →
         WritesFront sink_before sink_now report }
 {
-    a_line_has_one_reading();
+    a_line_says_one_thing();
 }
 
 /// A conversion of further lines stands behind that of some lines.
@@ -43,11 +42,3 @@ pub fn conversions_tell_more()
 pub fn watches_tell_more()
     ensures { (ids : List ℕ) → TellsMore (watched ids) }
 {}
-
-/// What a line says may be written.
-pub(crate) fn said_lines_are_writable()
-    ensures { (form : Form) (said : Line) (text : List ℕ) → Says form said text →
-        IsLineWritable said }
-{
-    read_lines_are_writable();
-}

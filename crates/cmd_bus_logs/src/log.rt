@@ -1,15 +1,15 @@
 ghost use Rattle.std.specs.Prelude.{◌≡◌, ◌≤◌, [], length, Err, IfOk, IfErr, IfSome, OnOk, OnErr, List, ℕ};
 ghost use Rattle.std.specs.Io.KnownBytes.{Appends};
-ghost use Rattle.outside.specs.Faults.{HasCause};
+ghost use Rattle.cmd_base.specs.Counting.{CountsFaults};
 ghost use Rattle.cmd_base.specs.Output.{WritesFront, WritesLast};
 ghost use Rattle.cmd_bus_logs.specs.declared.log.Fault.{Fault as FaultValue};
 ghost use Rattle.cmd_bus_logs.specs.Report.{last_line};
 ghost use Rattle.cmd_bus_logs.specs.Lines.{LineBegins};
 ghost use Rattle.cmd_bus_logs.specs.Walking.{EndsSo, FailsBehind, HasNext, IsCausedBy, MayBeWritten, ReadsNext, Takes, WaitsOn, status_of};
 
-use crate::form::{Form, Line};
 use crate::front::{Stands, line_begins, next_line};
-use crate::laws::said_lines_are_writable;
+use can_logs::laws::said_lines_are_writable;
+use can_logs::{Form, Line};
 use cmd_base::{Input, Output, Status, number_line};
 use outside::{Failed, Sink, Source};
 
@@ -141,8 +141,7 @@ fn read_next<S: Source>(
     ensures read { OnErr result (FailsBehind form limit taken.old input.old (S.left source.old)
         (S.left source.new)) }
     ensures limit { taken.new ≤ limit }
-    ensures cause { HasCause (S.faults source.old) (S.faults source.new) result }
-    ensures kept { OnOk result (S.faults source.new ≡ S.faults source.old) }
+    ensures faults { CountsFaults (S.faults source.old) (S.faults source.new) result }
 {
     'reading: loop {
         match input.fill(source) {
@@ -219,8 +218,7 @@ pub(crate) fn finish<K: Sink>(
     ensures status { IfOk result (λ status. status ≡ status_of end taken) }
     ensures told { WritesLast (K.written sink.old) output.old (K.written sink.new)
         (last_line done.now (status_of end taken)) result }
-    ensures cause { HasCause (K.faults sink.old) (K.faults sink.new) result }
-    ensures kept { OnOk result (K.faults sink.new ≡ K.faults sink.old) }
+    ensures faults { CountsFaults (K.faults sink.old) (K.faults sink.new) result }
 {
     match end {
         End::Ended => {

@@ -1,6 +1,7 @@
-ghost use Rattle.std.specs.Prelude.{◌≡◌, ◌≤◌, ◌+◌, ◌*◌, ◌++◌, codes, drop, length, take, OnOk};
+ghost use Rattle.std.specs.Prelude.{◌≡◌, ◌≤◌, ◌+◌, ◌*◌, ◌++◌, codes, drop, length, take};
+ghost use Rattle.can_frame.specs.Sizes.{longest_payload};
 ghost use Rattle.hex.specs.Hex.{encode_lower};
-ghost use Rattle.outside.specs.Faults.{HasCause};
+ghost use Rattle.cmd_base.specs.Counting.{CountsFaults};
 ghost use Rattle.cmd_base.specs.Output.{Writes};
 ghost use Rattle.transfer_rx.specs.Told.{delivery_of};
 ghost use Rattle.cmd_bus_logs.specs.Watched.{kind_word, payload_word, transfer_head, transfer_line};
@@ -23,8 +24,7 @@ pub(crate) fn write_transfer<K: Sink>(
 ) -> Result<(), Failed>
     ensures told { Writes (K.written sink.old) output.old (K.written sink.new) output.new
         (transfer_line number (delivery_of transfer.now)) result }
-    ensures cause { HasCause (K.faults sink.old) (K.faults sink.new) result }
-    ensures kept { OnOk result (K.faults sink.new ≡ K.faults sink.old) }
+    ensures faults { CountsFaults (K.faults sink.old) (K.faults sink.new) result }
 {
     let head = head(number, transfer);
     let front = front(&transfer.payload);
@@ -44,8 +44,7 @@ fn write_pair<K: Sink>(
     requires other { length other.now ≤ 400 }
     ensures told { Writes (K.written sink.old) output.old (K.written sink.new) output.new
         (one.now ++ other.now) result }
-    ensures cause { HasCause (K.faults sink.old) (K.faults sink.new) result }
-    ensures kept { OnOk result (K.faults sink.new ≡ K.faults sink.old) }
+    ensures faults { CountsFaults (K.faults sink.old) (K.faults sink.new) result }
 {
     output.line(sink, one)?;
     output.line(sink, other)
@@ -97,7 +96,7 @@ fn front(payload: &[u8]) -> Line
 
 /// The digits of the bytes of a payload behind the first ones, and the end of the line.
 fn back(payload: &[u8]) -> Line
-    requires { length payload.now ≤ 376 }
+    requires { length payload.now ≤ longest_payload }
     ensures short { length result ≤ 400 }
     ensures text { result ≡ encode_lower (drop 200 payload.now) ++ codes "\n" }
 {

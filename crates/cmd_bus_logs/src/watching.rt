@@ -1,38 +1,40 @@
 ghost use Rattle.std.specs.Prelude.{◌≡◌, ◌≤◌, ◌⊎◌, [], length, List, Some, IfErr, IfOk, OnOk, ℕ};
-ghost use Rattle.outside.specs.Faults.{HasCause, Rose};
+ghost use Rattle.can_frame.specs.Sizes.{most_members};
+ghost use Rattle.outside.specs.Faults.{Rose};
+ghost use Rattle.cmd_base.specs.Counting.{CountsFaults};
 ghost use Rattle.cmd_base.specs.Output.{Writes};
 ghost use Rattle.transfer_rx.specs.Acceptance.{AnswersByRows};
 ghost use Rattle.transfer_rx.specs.Memory.{ReceiverFitsInMemory};
-ghost use Rattle.cmd_bus_logs.specs.Lines.{IsLineWritable};
+ghost use Rattle.can_logs.specs.Forms.{IsLineWritable};
 ghost use Rattle.cmd_bus_logs.specs.Walking.{Fails, IsCausedBy, Walks};
-ghost use Rattle.cmd_bus_logs.specs.Watched.{Watch, Watches, broadcast_rows, end_line, line_heard, listed, service_rows, unwatched, watched};
-ghost use Rattle.cmd_bus_logs.specs.Watching.{HasWatch, messages_accept, services_accept};
+ghost use Rattle.cmd_bus_logs.specs.Watched.{Watch, Watches, end_line, line_heard, listed, unwatched, watched, watched_rows};
+ghost use Rattle.cmd_bus_logs.specs.Watching.{HasWatch, watch_accept};
 
-use crate::form::{Form, Line};
 use crate::log::{End, Fault, Log, Next, finish};
 use crate::receivers::Receivers;
-use crate::rows::{accept_message, accept_service};
+use crate::rows::accept_watched;
 use crate::transfer_line::write_transfer;
 use can_frame::Kind;
-use can_logs::laws::a_line_has_one_reading;
+use can_logs::laws::a_line_says_one_thing;
+use can_logs::{Form, Line};
 use cmd_base::{Output, Status, number_line};
 use outside::{Failed, Sink, Source};
 
-/// Lists the transfers of a log of at most `limit` lines: Allocations, NodeStatus and Discovery messages, and
-/// the requests and responses of GetNodeInfo, AppendEntries and RequestVote for these nodes.
+/// Lists the transfers of a log of at most `limit` lines that allocators receive, and their Allocations: the
+/// messages, and the requests and responses for these nodes.
 /// Each has a line when its last frame comes, by the number of that line of the log. Of the bytes behind
 /// the lines that were taken at most 4,096 are read. With `Done` the last line tells how many lines the log
 /// has; with `BadRow` and `Limit` it tells the number of the first line that is not taken.
 pub fn watch<S: Source, K: Sink>(
-    candump: bool,
+    form: Form,
     limit: u64,
     ids: &[u8],
     source: &mut S,
     sink: &mut K,
 ) -> Status
     requires limit { limit ≤ 1000000 }
-    requires five { length ids.now ≤ 5 }
-    ensures watches { Watches candump limit ids.now (S.left source.old) (S.left source.new)
+    requires five { length ids.now ≤ most_members }
+    ensures watches { Watches form limit ids.now (S.left source.old) (S.left source.new)
         (S.faults source.old) (S.faults source.new) (K.faults sink.old) (K.faults sink.new)
         (K.written sink.old) (K.written sink.new) result }
     ensures read { result ≡ Status.ReadFault → Rose (S.faults source.old) (S.faults source.new) }
@@ -44,9 +46,9 @@ pub fn watch<S: Source, K: Sink>(
     ensures memory { result ≡ Status.Memory → ⊥ }
 {
     // The law behind the completeness of the report.
-    a_line_has_one_reading();
-    let mut log = Log::new(Form::of(candump), limit);
-    let mut receivers = Receivers::new(ids, accept_message, accept_service);
+    a_line_says_one_thing();
+    let mut log = Log::new(form, limit);
+    let mut receivers = Receivers::new(ids, accept_watched);
     let mut output = Output::new();
     match list_transfers(&mut receivers, &mut log, &mut output, source, sink) {
         Ok(end) => {
@@ -62,24 +64,16 @@ pub fn watch<S: Source, K: Sink>(
 }
 
 /// Lists the transfers of the lines, up to the end of the lines.
-fn list_transfers<
-    F: Fn(Kind, u16) -> Option<u64> + Copy,
-    G: Fn(Kind, u16) -> Option<u64> + Copy,
-    S: Source,
-    K: Sink,
->(
-    receivers: &mut Receivers<F, G>,
+fn list_transfers<F: Fn(Kind, u16) -> Option<u64> + Copy, S: Source, K: Sink>(
+    receivers: &mut Receivers<F>,
     log: &mut Log,
     output: &mut Output,
     source: &mut S,
     sink: &mut K,
 ) -> Result<End, Fault>
     requires memory { ReceiverFitsInMemory F.row 64 64 }
-    requires callable { F.IsAlwaysCallable (messages_accept receivers.old) }
-    requires answers { AnswersByRows (F.post (messages_accept receivers.old)) broadcast_rows }
-    requires smemory { ReceiverFitsInMemory G.row 64 64 }
-    requires scallable { G.IsAlwaysCallable (services_accept receivers.old) }
-    requires sanswers { AnswersByRows (G.post (services_accept receivers.old)) service_rows }
+    requires callable { F.IsAlwaysCallable (watch_accept receivers.old) }
+    requires answers { AnswersByRows (F.post (watch_accept receivers.old)) watched_rows }
     requires limit { log.old.limit ≤ 1000000 }
     requires first { log.old.taken ≡ 0 }
     requires empty { log.old.input ≡ [] }
@@ -112,29 +106,24 @@ fn list_transfers<
 }
 
 /// Gives the frame of a line to its receiver, and writes the line of the transfer that it delivers.
-fn hear<F: Fn(Kind, u16) -> Option<u64> + Copy, G: Fn(Kind, u16) -> Option<u64> + Copy, K: Sink>(
+fn hear<F: Fn(Kind, u16) -> Option<u64> + Copy, K: Sink>(
     number: u64,
     line: Line,
-    receivers: &mut Receivers<F, G>,
+    receivers: &mut Receivers<F>,
     output: &mut Output,
     sink: &mut K,
 ) -> Result<(), Failed>
     requires memory { ReceiverFitsInMemory F.row 64 64 }
-    requires callable { F.IsAlwaysCallable (messages_accept receivers.old) }
-    requires answers { AnswersByRows (F.post (messages_accept receivers.old)) broadcast_rows }
-    requires smemory { ReceiverFitsInMemory G.row 64 64 }
-    requires scallable { G.IsAlwaysCallable (services_accept receivers.old) }
-    requires sanswers { AnswersByRows (G.post (services_accept receivers.old)) service_rows }
+    requires callable { F.IsAlwaysCallable (watch_accept receivers.old) }
+    requires answers { AnswersByRows (F.post (watch_accept receivers.old)) watched_rows }
     requires writable { IsLineWritable line }
     ensures told { (ids : List ℕ) (watch : Watch) → HasWatch receivers.old ids watch →
         Writes (K.written sink.old) output.old (K.written sink.new) output.new
         (listed number (line_heard ids watch line).gives) result }
     ensures watch { (ids : List ℕ) (watch : Watch) → HasWatch receivers.old ids watch →
         HasWatch receivers.new ids (line_heard ids watch line).after }
-    ensures messages { messages_accept receivers.new ≡ messages_accept receivers.old }
-    ensures services { services_accept receivers.new ≡ services_accept receivers.old }
-    ensures cause { HasCause (K.faults sink.old) (K.faults sink.new) result }
-    ensures kept { OnOk result (K.faults sink.new ≡ K.faults sink.old) }
+    ensures accept { watch_accept receivers.new ≡ watch_accept receivers.old }
+    ensures faults { CountsFaults (K.faults sink.old) (K.faults sink.new) result }
 {
     match line {
         Line::Frame(logged) => {

@@ -46,16 +46,6 @@ taken_line before after line bytes done reads answers = go (fault_of before line
   go None e h = record { line = line; reads = reads; faultless = e; makes = h.1 }
   go (Some f) e h = absurd (let wrong : accepted done ≡ Err f = h.0 in cc)
 
-pub takes_none : (now : Lines) (waiting : List ℕ) → TakesSome now now waiting waiting
-takes_none now waiting = record {
-  lines = [];
-  reads = λ more. refl;
-  takes = refl;
-  counted = omega arith;
-  shorter = omega arith;
-  nearer = inr refl;
-}
-
 pub takes_more : (first before now : Lines) (waiting left : List ℕ) (size : ℕ) → TakesSome first before waiting left → IsLineEnd 10 left size
     → size ≤ 120 → TakesLine (text_in before) (text_in now) (take size left) → now.count ≡ before.count + 1
     → TakesSome first now waiting (drop (size + 1) left)

@@ -105,12 +105,3 @@ module _ (one : ALineHasOneValue) (name : List ℕ) (part : ℕ) (payload : List
         is_in_part name part payload bytes left before now end answer (reads bytes known) answers front;
     finishes = λ bytes report ending known is quiet still. absurd (still rose);
   }
-
-  pub decodes_unread : ((bytes : List ℕ) → left_old ≡ Some bytes → IsReadInPart bytes left)
-      → Appends before now [] → Rose read_old read
-      → Decodes name part payload left_old left read_old read wrote_old wrote before now ReadFault
-  decodes_unread cut silent rose = record {
-    kinds = tt;
-    ends = λ bytes known. (cut bytes known, silent);
-    finishes = λ bytes report ending known is quiet still. absurd (quiet rose);
-  }

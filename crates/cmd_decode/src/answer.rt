@@ -1,4 +1,5 @@
 ghost use Rattle.std.specs.Prelude.{◌≡◌, ◌≤◌, ℕ, List, [], length};
+ghost use Rattle.can_frame.specs.Sizes.{longest_payload};
 ghost use Rattle.dsdl_text.specs.Text.{Text, types_in};
 ghost use Rattle.dsdl_text.specs.Reader.{data_types};
 
@@ -31,7 +32,7 @@ impl Answer {
 
     /// What is answered where a text came to this.
     pub fn new(ending: Ending, name: &[u8], part: u8, payload: &[u8]) -> Answer
-        requires { length payload.now ≤ 376 }
+        requires { length payload.now ≤ longest_payload }
         ensures { (now : Text) (count : ℕ) (rest : List ℕ) → EndsAt ending now count rest →
             Says name.now part payload.now now count rest result }
     {
@@ -44,7 +45,7 @@ impl Answer {
 
     /// What is answered by these types.
     fn of_whole(texts: &Texts, name: &[u8], part: u8, payload: &[u8]) -> Answer
-        requires { length payload.now ≤ 376 }
+        requires { length payload.now ≤ longest_payload }
         ensures { (now : Text) (count : ℕ) (rest : List ℕ) → rest ≡ [] →
             data_types texts.now ≡ types_in now →
             Says name.now part payload.now now count rest result }

@@ -1,4 +1,5 @@
 ghost use Rattle.std.specs.Prelude.{◌≡◌, ◌≤◌, ◌⊎◌, length};
+ghost use Rattle.can_frame.specs.Sizes.{longest_payload};
 ghost use Rattle.outside.specs.Faults.{Rose};
 ghost use Rattle.cmd_decode.specs.Ends.{Decodes};
 
@@ -27,7 +28,7 @@ pub fn decode<S: Source, K: Sink>(
     source: &mut S,
     sink: &mut K,
 ) -> Status
-    requires { length payload.now ≤ 376 }
+    requires { length payload.now ≤ longest_payload }
     ensures decodes { Decodes name.now part payload.now (S.left source.old) (S.left source.new)
         (S.faults source.old) (S.faults source.new) (K.faults sink.old) (K.faults sink.new)
         (K.written sink.old) (K.written sink.new) result }

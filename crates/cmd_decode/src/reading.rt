@@ -1,7 +1,7 @@
-ghost use Rattle.std.specs.Prelude.{◌≡◌, ℕ, List, Some, IfOk, OnErr, OnOk};
-ghost use Rattle.outside.specs.Faults.{HasCause};
+ghost use Rattle.std.specs.Prelude.{◌≡◌, ℕ, List, Some, IfOk, OnErr};
 ghost use Rattle.cmd_decode.specs.Ends.{IsReadInPart};
 ghost use Rattle.cmd_decode.specs.Taking.{ReadsText};
+ghost use Rattle.cmd_base.specs.Counting.{CountsFaults};
 
 use crate::ending::Ending;
 use crate::lines::{Lines, Stop};
@@ -15,8 +15,7 @@ pub(crate) fn read_text<S: Source>(source: &mut S) -> Result<Ending, Failed>
         ReadsText bytes (S.left source.new) ending) }
     ensures cut { OnErr result ((bytes : List ℕ) → S.left source.old ≡ Some bytes →
         IsReadInPart bytes (S.left source.new)) }
-    ensures cause { HasCause (S.faults source.old) (S.faults source.new) result }
-    ensures kept { OnOk result (S.faults source.new ≡ S.faults source.old) }
+    ensures faults { CountsFaults (S.faults source.old) (S.faults source.new) result }
 {
     let mut lines = Lines::new();
     let mut input = Input::new();

@@ -1,6 +1,6 @@
 ghost use Rattle.std.specs.Prelude.{◌≡◌, ◌≤◌, ◌++◌, length, OnErr, OnOk};
 ghost use Rattle.std.specs.Io.KnownBytes.{Appends};
-ghost use Rattle.outside.specs.Faults.{HasCause};
+ghost use Rattle.cmd_base.specs.Counting.{CountsFaults};
 ghost use Rattle.cmd_base.specs.Output.{Grows, Writes, WritesFront};
 ghost use Rattle.cmd_decode.specs.Report.{end_line, number_lines, report_of};
 
@@ -13,8 +13,7 @@ use replay_text::Line;
 pub(crate) fn write_answer<K: Sink>(answer: &Answer, sink: &mut K) -> Result<(), Failed>
     ensures ok { OnOk result (Appends (K.written sink.old) (K.written sink.new) (report_of answer.now)) }
     ensures err { OnErr result (WritesFront (K.written sink.old) (K.written sink.new) (report_of answer.now)) }
-    ensures cause { HasCause (K.faults sink.old) (K.faults sink.new) result }
-    ensures kept { OnOk result (K.faults sink.new ≡ K.faults sink.old) }
+    ensures faults { CountsFaults (K.faults sink.old) (K.faults sink.new) result }
 {
     match answer {
         Answer::Value(numbers) => write_value(numbers, sink),
@@ -29,8 +28,7 @@ fn write_line<K: Sink>(line: &Line, sink: &mut K) -> Result<(), Failed>
     requires { length line.now ≤ 400 }
     ensures ok { OnOk result (Appends (K.written sink.old) (K.written sink.new) line.now) }
     ensures err { OnErr result (WritesFront (K.written sink.old) (K.written sink.new) line.now) }
-    ensures cause { HasCause (K.faults sink.old) (K.faults sink.new) result }
-    ensures kept { OnOk result (K.faults sink.new ≡ K.faults sink.old) }
+    ensures faults { CountsFaults (K.faults sink.old) (K.faults sink.new) result }
 {
     let mut output = Output::new();
     output.last(sink, line.as_bytes())
@@ -42,8 +40,7 @@ fn write_value<K: Sink>(numbers: &[u64], sink: &mut K) -> Result<(), Failed>
         (number_lines numbers.now ++ end_line (length numbers.now))) }
     ensures err { OnErr result (WritesFront (K.written sink.old) (K.written sink.new)
         (number_lines numbers.now ++ end_line (length numbers.now))) }
-    ensures cause { HasCause (K.faults sink.old) (K.faults sink.new) result }
-    ensures kept { OnOk result (K.faults sink.new ≡ K.faults sink.old) }
+    ensures faults { CountsFaults (K.faults sink.old) (K.faults sink.new) result }
 {
     let mut output = Output::new();
     write_numbers(numbers, &mut output, sink)?;
@@ -55,8 +52,7 @@ fn write_numbers<K: Sink>(numbers: &[u64], output: &mut Output, sink: &mut K) ->
     ensures told { Writes (K.written sink.old) output.old (K.written sink.new) output.new
         (number_lines numbers.now) result }
     ensures grew { Grows (K.written sink.old) (K.written sink.new) }
-    ensures cause { HasCause (K.faults sink.old) (K.faults sink.new) result }
-    ensures kept { OnOk result (K.faults sink.new ≡ K.faults sink.old) }
+    ensures faults { CountsFaults (K.faults sink.old) (K.faults sink.new) result }
 {
     let Some((number, rest)) = numbers.split_first() else {
         return Ok(());

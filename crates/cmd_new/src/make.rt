@@ -1,7 +1,9 @@
 ghost use Rattle.std.specs.Prelude.{◌≡◌, ◌≤◌, ◌<◌, ◌⊎◌, ℕ, length, IsSome, None, Some, true, OnOk, IfErr, slice_index, slice_index_or};
+ghost use Rattle.can_frame.specs.Sizes.{most_members};
 ghost use Rattle.disk_model.specs.Contents.{image_size};
-ghost use Rattle.outside.specs.Faults.{HasCause, Rose};
+ghost use Rattle.outside.specs.Faults.{Rose};
 ghost use Rattle.cmd_new.specs.Made.{FailsAt, HasLine, IsBlank, IsMade, IsMadeAt, IsWritten, MakesStores, line_of};
+ghost use Rattle.cmd_base.specs.Counting.{CountsFaults};
 
 use cmd_base::{Output, Status, number_line};
 use disk_model::{Disk, IMAGE};
@@ -12,7 +14,7 @@ use replay_text::Line;
 /// zeros are written over all of it, and synced. Then one line is written, with how many stores were made, or
 /// with the node whose disk failed.
 pub fn make_stores<K: Sink, D: Disk>(ids: &[u8], disks: &mut [Option<D>], sink: &mut K) -> Status
-    requires five { length ids.now ≤ 5 }
+    requires five { length ids.now ≤ most_members }
     requires disks { length disks.old ≡ length ids.now }
     requires present { (i : ℕ) → i < length ids.now → IsSome (slice_index_or disks.old i None) }
     // What it comes to and writes, and how it leaves the disks.
@@ -34,7 +36,7 @@ pub fn make_stores<K: Sink, D: Disk>(ids: &[u8], disks: &mut [Option<D>], sink: 
 /// Writes the one line of a run over the disks of these nodes that ends so.
 fn write_end<K: Sink>(outcome: Status, ids: &[u8], sink: &mut K) -> Status
     requires line { HasLine outcome }
-    requires five { length ids.now ≤ 5 }
+    requires five { length ids.now ≤ most_members }
     ensures written { IsWritten outcome (line_of ids.now outcome)
         (K.written sink.old) (K.written sink.new) result }
     ensures write_fault { result ≡ Status.WriteFault →
@@ -51,7 +53,7 @@ fn write_end<K: Sink>(outcome: Status, ids: &[u8], sink: &mut K) -> Status
 }
 
 fn end_line(outcome: Status, ids: &[u8]) -> Line
-    requires { length ids.now ≤ 5 }
+    requires { length ids.now ≤ most_members }
     ensures short { length result ≤ 400 }
     ensures text { result ≡ line_of ids.now outcome }
 {
@@ -96,8 +98,7 @@ fn make_place<D: Disk>(place: &mut Option<D>) -> Result<(), Failed>
 fn make_store<D: Disk>(disk: &mut D) -> Result<(), Failed>
     ensures tells { D.tells disk.new ≡ D.tells disk.old }
     ensures blank { OnOk result (D.tells disk.old ≡ true → IsBlank (D.contents disk.new)) }
-    ensures cause { HasCause (D.faults disk.old) (D.faults disk.new) result }
-    ensures kept { OnOk result (D.faults disk.new ≡ D.faults disk.old) }
+    ensures faults { CountsFaults (D.faults disk.old) (D.faults disk.new) result }
 {
     disk.write(0, &zeros())?;
     disk.sync()?;

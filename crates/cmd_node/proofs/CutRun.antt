@@ -16,7 +16,7 @@ use Rattle.alloc_spec.specs.Rules.{Rules}
 use Rattle.cmd_node.specs.Cut.{IsCut, IsCutOpening, IsCutTurning, PutsAt}
 use Rattle.cmd_node.specs.CutRun.{AreCutTurns, HoldsAt, HoldsPartAt, HoldsStateInPart, IsCutAtOpening, KeepsOrOpens}
 use Rattle.cmd_node.specs.Ends.{fault_id}
-use Rattle.cmd_node.specs.Opening.{Given, together_at_opening}
+use Rattle.cmd_node.specs.Opening.{RunInput, together_at_opening}
 use Rattle.cmd_node.specs.Run.{AreStopped}
 use Rattle.cmd_node.specs.Stands.{AreOpened, runner_disk}
 use Rattle.cmd_node.specs.Taking.{HasCause}
@@ -79,7 +79,7 @@ module _ {D F : Type 0} {disk : Ghosts D}
       others = λ i high. stopped.others i (omega (arith, high)) ∙ cut.behind i high;
     }
 
-    pub in_turns : (cut : IsCutTurning coming sent rules turns ids runners links_old links disks_old disks readings_old readings fault) (given : Given) →
+    pub in_turns : (cut : IsCutTurning coming sent rules turns ids runners links_old links disks_old disks readings_old readings fault) (given : RunInput) →
         Tell coming sent disk links_old disks_old readings_old given →
         AreCutTurns coming sent links readings (length ids) (HoldsAt disk last) (HoldsPartAt disk last) (λ place. slice_index ids place ≡ fault_id fault) turns (together_at_opening rules ids given)
     in_turns cut given tell =
@@ -114,7 +114,7 @@ module _ {D F : Type 0} {disk : Ghosts D}
         })
 
     -- what each link was sent by then
-    pub cut_begins_so : (given : Given) → Tell coming sent disk links_old disks_old readings_old given → length links_old ≡ length ids →
+    pub cut_begins_so : (given : RunInput) → Tell coming sent disk links_old disks_old readings_old given → length links_old ≡ length ids →
         IsCut coming sent rules turns ids runners links_old links disks_old disks readings_old readings fault → (i : ℕ) (link : L) → i < length ids →
         (frames : List RawFrame) × (sent (slice_index_or links i link) ≡ Some frames) × IsPrefix frames ((after_turns rules turns ids given).running i).sent
     cut_begins_so given tell each (inl opening) i link low =

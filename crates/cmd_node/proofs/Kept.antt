@@ -3,7 +3,7 @@ use Rattle.std.proofs.Common.{◌≡◌, ℕ, ◌+◌, ◌-◌, ◌<◌, suc, Li
 use Rattle.std.proofs.lemmas.List.{drop-append-le, drop-drop, drop-map, length-map, map-append}
 use Rattle.std.specs.Prelude.{Some, None, slice_get}
 use Rattle.replay_text.specs.declared.told.Told.{Told}
-use Rattle.replay_text.specs.Report.{told_line}
+use Rattle.replay_text.specs.ReportLine.{report_line_of, text_of_line}
 use Rattle.cmd_node.specs.Report.{joined, last_lines}
 use Rattle.cmd_node.specs.Kept.{kept_line}
 use Rattle.cmd_node.specs.declared.step.NumberedStep.{NumberedStep}
@@ -30,13 +30,13 @@ module _ {A B : Type 0} (f : A → B) (n : ℕ) (items : List A) (all : List B) 
 pub kept_pushed : (capacity : ℕ) → capacity ≡ 256 → (items : List NumberedStep) (lines : List (List ℕ)) (made : ℕ) (told : Told) → made ≡ length lines →
     map kept_line items ≡ last_lines lines →
     map kept_line (drop (length (items ++ record { number = made + 1; told = told } ∷ []) - capacity) (items ++ record { number = made + 1; told = told } ∷ []))
-    ≡ last_lines (lines ++ told_line (suc (length lines)) told ∷ [])
+    ≡ last_lines (lines ++ text_of_line (suc (length lines)) (report_line_of told) ∷ [])
 kept_pushed capacity fixed items lines made told count is =
     let step : NumberedStep = record { number = made + 1; told = told } in
     let number : made + 1 ≡ suc (length lines) = omega (arith, count) in
     ap (λ n. map kept_line (drop (length (items ++ step ∷ []) - n) (items ++ step ∷ []))) fixed
     ∙ kept_on kept_line 256 items lines step is
-    ∙ ap (λ n. last_lines (lines ++ told_line n told ∷ [])) number
+    ∙ ap (λ n. last_lines (lines ++ text_of_line n (report_line_of told) ∷ [])) number
 
 -- the next line
 next_line : (items : List NumberedStep) (step : NumberedStep) → slice_get items 0 ≡ Some step →

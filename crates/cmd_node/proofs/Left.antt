@@ -16,7 +16,7 @@ use Rattle.cmd_node.specs.Cut.{IsCut, IsCutTurning}
 use Rattle.cmd_node.specs.CutRun.{KeepsImages, KeepsOrOpens}
 use Rattle.cmd_node.specs.Ends.{end_status, fault_id, fault_status}
 use Rattle.cmd_node.specs.Nodes.{IsCutInTurn, IsEnd, IsWritten, Leaves, LeavesWith, RunsNodes}
-use Rattle.cmd_node.specs.Opening.{Given}
+use Rattle.cmd_node.specs.Opening.{RunInput}
 use Rattle.cmd_node.specs.Quiet.{RunQuietly}
 use Rattle.cmd_node.specs.Report.{line_of, report}
 use Rattle.cmd_node.specs.Run.{AreStopped, AreTelling, HasRun}
@@ -64,10 +64,10 @@ module _ {D F L : Type 0} {disk : Ghosts D} (coming : L → Option (List Receive
 
   -- what is known of a run that ended so
   abbrev Told : Type 0 → Type 0
-  Told A = (given : Given) → Tell coming sent disk links_old disks_old readings_old given → A
+  Told A = (given : RunInput) → Tell coming sent disk links_old disks_old readings_old given → A
 
   abbrev Standing : Result ⊤ Fault → Type 0
-  Standing ended = OnOk ended ((given : Given) → Tell coming sent disk links_old disks_old readings_old given →
+  Standing ended = OnOk ended ((given : RunInput) → Tell coming sent disk links_old disks_old readings_old given →
       Stand coming sent runners links readings steps (after_turns rules turns ids given))
 
   abbrev WasCut : Result ⊤ Fault → Type 0
@@ -106,7 +106,7 @@ module _ {D F L : Type 0} {disk : Ghosts D} (coming : L → Option (List Receive
   )
 
   begins : (ended : Result ⊤ Fault) → OnOk ended (length runners ≡ length ids) → Standing ended → WasCut ended →
-      (given : Given) → Tell coming sent disk links_old disks_old readings_old given → (i : ℕ) (link : L) → i < length ids →
+      (given : RunInput) → Tell coming sent disk links_old disks_old readings_old given → (i : ℕ) (link : L) → i < length ids →
       (frames : List RawFrame) × (sent (slice_index_or links i link) ≡ Some frames) × IsPrefix frames ((after_turns rules turns ids given).running i).sent
   begins (Ok done) all stands cut given tell i link low =
       let whole_run = after_turns rules turns ids given in

@@ -11,8 +11,7 @@ use Rattle.can_frame.specs.declared.step.Sent.{Sent}
 use Rattle.alloc_spec.specs.declared.event.View.{View}
 use Rattle.alloc_spec.specs.StepState.{listing_of}
 use Rattle.alloc_spec.specs.Delivered.{StepResult}
-use Rattle.cluster_spec.specs.Report.{line_of_view}
-use Rattle.cluster_spec.specs.ReportLine.ReportLine.{HasStepped}
+use Rattle.cluster_spec.specs.Report.{line_of_outcome, line_of_view}
 
 pub received : (item : Received) (old new : Option (List Received)) (items : List Received) → WhereTold (Receives {E = Failed} (Ok item)) old new →
     old ≡ Some items → (item ≡ next_item items) × (new ≡ Some (items_behind items))
@@ -30,12 +29,11 @@ unchanged (Some old) (Some new) told = ap Some told
 
 -- what the code shows is what the server shows
 pub told_same : (m n : ℕ) (a b : View) (seen : Seen) (sent : List Sent) (step_result : StepResult) → m ≡ n → a ≡ b → seen ≡ step_result.seen → sent ≡ listing_of step_result.step_state →
-    HasStepped m a.role a.term a.last a.commit a.queued seen sent ≡ line_of_view n b step_result
+    line_of_outcome m a seen sent ≡ line_of_view n b step_result
 told_same m n a b seen sent step_result id view saw listed =
-    ap (λ k. HasStepped k a.role a.term a.last a.commit a.queued seen sent) id
-    ∙ (ap (λ (v : View). HasStepped n v.role v.term v.last v.commit v.queued seen sent) view
-    ∙ (ap (λ (x : Seen). HasStepped n b.role b.term b.last b.commit b.queued x sent) saw
-    ∙ ap (λ (x : List Sent). HasStepped n b.role b.term b.last b.commit b.queued step_result.seen x) listed))
+    ap (λ k. line_of_outcome k a seen sent) id
+    ∙ (ap (λ (v : View). line_of_outcome n v seen sent) view
+    ∙ (ap (λ (x : Seen). line_of_outcome n b x sent) saw ∙ ap (λ (x : List Sent). line_of_outcome n b step_result.seen x) listed))
 
 pub reads : (moment : ℕ) (old new : Option (List ℕ)) (readings : List ℕ) → WhereTold (Reads moment) old new → old ≡ Some readings →
     (moment ≡ next_reading readings) × (new ≡ Some (readings_behind readings))

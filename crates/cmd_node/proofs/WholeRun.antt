@@ -16,7 +16,7 @@ use Rattle.raft_log.specs.Stored.{Stored, after_puts, opening_puts}
 use Rattle.raft_model.specs.Server.{Store}
 use Rattle.alloc_spec.specs.Rules.{Rules, opening_by}
 use Rattle.alloc_server.specs.Server.{StandsFor, durable_of}
-use Rattle.cmd_node.specs.Opening.{Given, together_at_opening, readings_after}
+use Rattle.cmd_node.specs.Opening.{RunInput, together_at_opening, readings_after}
 use Rattle.cmd_node.specs.Run.{AreStopped, AreTelling}
 use Rattle.cmd_node.specs.Stands.{AreOpened, AreOpenedAt, Stand, runner_disk}
 use Rattle.cmd_node.specs.Steps.{Keeps}
@@ -57,7 +57,7 @@ module _ {D : Type 0} {disk : Ghosts D} (one_state : (image : List ℕ) (a b : S
       ∙ same_store (after_puts (take (length puts) puts) state) state (same state (length puts))
 
   module _ {F L : Type 0} (coming : L → Option (List Received)) (sent : L → Option (List RawFrame)) (rules : Rules) (ids : List ℕ)
-      (runners : List (Runner D F disk)) (links : List L) (disks : List (Option D)) (readings : Option (List ℕ)) (given : Given)
+      (runners : List (Runner D F disk)) (links : List L) (disks : List (Option D)) (readings : Option (List ℕ)) (given : RunInput)
       (are : AreOpened runners disks ids) (count : length runners ≡ length ids) (there : (i : ℕ) → i < length ids → IsSome (slice_index_or disks i None))
       (tell : Tell coming sent disk links disks readings given) where
     -- the allocators are those that are opened on what was handed in
@@ -89,7 +89,7 @@ module _ {D : Type 0} {disk : Ghosts D} (one_state : (image : List ℕ) (a b : S
 
 -- the disks of all tell, after turns too
 pub all_telling : {D F L : Type 0} {disk : Ghosts D} (coming : L → Option (List Received)) (sent : L → Option (List RawFrame)) (ids : List ℕ)
-    (runners now : List (Runner D F disk)) (links : List L) (disks : List (Option D)) (readings : Option (List ℕ)) (given : Given) →
+    (runners now : List (Runner D F disk)) (links : List L) (disks : List (Option D)) (readings : Option (List ℕ)) (given : RunInput) →
     AreOpened runners disks ids → length runners ≡ length ids → ((i : ℕ) → i < length ids → IsSome (slice_index_or disks i None)) →
     Tell coming sent disk links disks readings given → KeepsNodes runners now → AreTelling now
 all_telling coming sent ids runners now links disks readings given are count there tell nodes = λ i r low.

@@ -11,7 +11,7 @@ use Rattle.alloc_server.specs.Server.{StandsFor, durable_of}
 use Rattle.alloc_spec.specs.Rules.{Rules}
 use Rattle.cmd_node.specs.CutRun.{AreCutTurns, HoldsStateInPart, IsCutRound}
 use Rattle.cmd_node.specs.Ends.{fault_id}
-use Rattle.cmd_node.specs.Opening.{Given, together_at_opening, readings_after}
+use Rattle.cmd_node.specs.Opening.{RunInput, together_at_opening, readings_after}
 use Rattle.cmd_node.specs.Run.{AreTelling}
 use Rattle.cmd_node.specs.Stands.{AreOpened, runner_disk}
 use Rattle.cmd_node.specs.Taking.{IsOf, IsRefused}
@@ -66,9 +66,9 @@ module _ {D F : Type 0} {disk : Ghosts D} {L : Type 0} (coming : L → Option (L
     pub all : length runners ≡ length ids
     pub ids_are : (i : ℕ) (runner : Runner D F disk) → i < length runners →
         (slice_index_or runners i runner).id ≡ slice_index ids i
-    pub telling : (given : Given) → Tell coming sent disk links_old disks_old readings_old given →
+    pub telling : (given : RunInput) → Tell coming sent disk links_old disks_old readings_old given →
         AreTelling runners
-    pub cut : (given : Given) → Tell coming sent disk links_old disks_old readings_old given →
+    pub cut : (given : RunInput) → Tell coming sent disk links_old disks_old readings_old given →
         AreCutAfterTurns coming sent runners links readings turns (together_at_opening rules ids given) fault
 
   -- a run was cut off, at an opening or in a turn

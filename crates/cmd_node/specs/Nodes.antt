@@ -12,7 +12,7 @@ use Rattle.cmd_base.specs.declared.status.Status.{Status}
 use Rattle.cmd_base.specs.declared.status.Status.TheVariants.{Damaged, DiskFault, Done, LinkFault, Memory, WriteFault}
 use Rattle.alloc_spec.specs.Rules.{Rules}
 use Rattle.cmd_node.specs.CutRun.{AreCutTurns, HoldsAt, HoldsPartAt, IsCutAtOpening, KeepsImages, KeepsOrOpens}
-use Rattle.cmd_node.specs.Opening.{Given, together_at_opening}
+use Rattle.cmd_node.specs.Opening.{RunInput, together_at_opening}
 use Rattle.cmd_node.specs.Report.{line_of, report}
 use Rattle.cmd_node.specs.Status.{AreWhole, DisksTell, HasRisen, IsDamagedDisk, IsFaultless, NoneRose, OfDisk, OfLink}
 use Rattle.cmd_node.specs.Status.{OthersStay}
@@ -30,19 +30,19 @@ module _ {L D : Type 0} (coming : L → Option (List Received)) (sent : L → Op
   OfDisks = OfDisk disk.faults disks_old disks
 
   -- links, disks and the clock tell that this was handed in
-  abbrev pub Tells : Given → Type 0
+  abbrev pub Tells : RunInput → Type 0
   Tells given = Tell coming sent disk links_old disks_old readings_old given
 
   -- all were opened, and so no disk was damaged; all took their turns
   pub record IsDone : Type 0 where
     pub whole : AreWhole disk ids disks_old
-    pub left : (given : Given) → Tells given →
+    pub left : (given : RunInput) → Tells given →
         LeavesAll coming sent disk links disks readings (length ids) (after_turns rules turns ids given)
 
   -- all were opened, and the run ended in a turn of the node with this ID
   pub record IsCutInTurn (id : ℕ) : Type 0 where
     pub whole : AreWhole disk ids disks_old
-    pub left : (given : Given) → Tells given → AreCutTurns coming sent links readings (length ids)
+    pub left : (given : RunInput) → Tells given → AreCutTurns coming sent links readings (length ids)
         (HoldsAt disk disks) (HoldsPartAt disk disks) (λ place. slice_index ids place ≡ id) turns
         (together_at_opening rules ids given)
 
@@ -60,7 +60,7 @@ module _ {L D : Type 0} (coming : L → Option (List Received)) (sent : L → Op
   -- the text that such a run writes, of which this holds: the report, or one line
   abbrev pub IsWritten : (List ℕ → Type 0) → Status → Type 0
   IsWritten Wrote Done =
-      (given : Given) → Tells given → Wrote (report turns (after_turns rules turns ids given).lines)
+      (given : RunInput) → Tells given → Wrote (report turns (after_turns rules turns ids given).lines)
   IsWritten Wrote status = Wrote (line_of status)
 
   -- what a run leaves that ends so; what each link was sent is a prefix of what it is sent in a run to its end
@@ -68,7 +68,7 @@ module _ {L D : Type 0} (coming : L → Option (List Received)) (sent : L → Op
     pub end : IsEnd status
     pub quiet_links : OthersStay OfLinks ids (λ id. status ≡ LinkFault id)
     pub quiet_disks : OthersStay OfDisks ids (λ id. status ≡ DiskFault id)
-    pub begins : (given : Given) → Tells given → (i : ℕ) (link : L) → i < length ids →
+    pub begins : (given : RunInput) → Tells given → (i : ℕ) (link : L) → i < length ids →
         (frames : List RawFrame) × (sent (slice_index_or links i link) ≡ Some frames) ×
         IsPrefix frames ((after_turns rules turns ids given).running i).sent
     pub written : IsWritten Wrote status

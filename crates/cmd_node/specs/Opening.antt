@@ -12,7 +12,7 @@ use Rattle.cmd_node.specs.Turns.{Together}
 
 -- what is handed in: by place the state that a disk stands for, the items that come on a link, and what was sent there
 -- before; and the readings of the clock
-pub record Given : Type 0 where
+pub record RunInput : Type 0 where
   pub stored : ℕ → Stored
   pub coming : ℕ → List Received
   pub sent : ℕ → List RawFrame
@@ -24,7 +24,7 @@ readings_after zero readings = readings
 readings_after (suc count) readings = readings_behind (readings_after count readings)
 
 -- the generator of an allocator's words stands at its node ID before the first
-abbrev pub opened_at : Rules → List ℕ → Given → ℕ → Running
+abbrev pub opened_at : Rules → List ℕ → RunInput → ℕ → Running
 opened_at rules ids given place = let id = slice_index ids place in let state = next_state id in
     let found = given.stored place in record {
       id = id;
@@ -37,7 +37,7 @@ opened_at rules ids given place = let id = slice_index ids place in let state = 
     }
 
 -- the allocators of these nodes, opened by these rules and before their first turn
-abbrev pub together_at_opening : Rules → List ℕ → Given → Together
+abbrev pub together_at_opening : Rules → List ℕ → RunInput → Together
 together_at_opening rules ids given = record {
   running = opened_at rules ids given;
   readings = readings_after (length ids) given.readings;

@@ -6,11 +6,11 @@ use Rattle.outside.specs.declared.received.Received.{Received}
 use Rattle.raft_log.specs.Rules.{AlwaysStandsForState, StandsForState}
 use Rattle.raft_log.specs.Stored.{Stored}
 use Rattle.alloc_spec.specs.Rules.{Rules}
-use Rattle.cmd_node.specs.Opening.{Given, together_at_opening}
+use Rattle.cmd_node.specs.Opening.{RunInput, together_at_opening}
 use Rattle.cmd_node.specs.Turns.{AreStored, Together, all_turns}
 
 -- the allocators of these nodes, opened by these rules, after all their turns
-abbrev pub after_turns : Rules → ℕ → List ℕ → Given → Together
+abbrev pub after_turns : Rules → ℕ → List ℕ → RunInput → Together
 after_turns rules turns ids given = all_turns (length ids) turns (together_at_opening rules ids given)
 
 -- the disk tells what it holds, and it stands for a state
@@ -27,7 +27,7 @@ module _ {L D : Type 0} (coming : L → Option (List Received)) (sent : L → Op
     (disk : Ghosts D) where
   -- the links and disks at the places, and the clock, tell that this is what they have
   pub record Tell (links : List L) (disks : List (Option D)) (readings : Option (List ℕ))
-      (given : Given) : Type 0 where
+      (given : RunInput) : Type 0 where
     pub coming_is : (i : ℕ) (link : L) → i < length links
         → coming (slice_index_or links i link) ≡ Some (given.coming i)
     pub sent_is : (i : ℕ) (link : L) → i < length links

@@ -1,15 +1,16 @@
 ghost use Rattle.std.specs.Prelude.{◌≡◌, ◌<◌, ◌≤◌, ◌⊎◌, ℕ, List, [], length, slice_index_or};
 ghost use Rattle.std.specs.Prelude.{IfErr, IsSome, OnOk};
 ghost use Rattle.std.specs.Io.KnownBytes.{Appends};
+ghost use Rattle.can_frame.specs.Sizes.{most_members};
 ghost use Rattle.outside.specs.Faults.{Rose};
 ghost use Rattle.cmd_base.specs.Output.{WritesFront};
 ghost use Rattle.alloc_spec.specs.Accepted as accepted;
-ghost use Rattle.transfer_rx.specs.Acceptance.{AnswersByRows, first_signature};
-ghost use Rattle.transfer_rx.specs.Memory.{ReceiverFitsInMemory};
+ghost use Rattle.transfer_rx.specs.Acceptance.{first_signature};
 ghost use Rattle.cluster_spec.specs.Cluster.{AreMembers};
+ghost use Rattle.cluster_spec.specs.Receivers.{MemberReceives};
 ghost use Rattle.alloc_spec.specs.Rules.{rules_by};
 ghost use Rattle.cmd_node.specs.Cut.{IsCut};
-ghost use Rattle.cmd_node.specs.Opening.{Given};
+ghost use Rattle.cmd_node.specs.Opening.{RunInput};
 ghost use Rattle.cmd_node.specs.Ends.{end_status, fault_status};
 ghost use Rattle.cmd_node.specs.Nodes.{RunsNodes};
 ghost use Rattle.cmd_node.specs.Quiet.{RunQuietly};
@@ -56,8 +57,8 @@ pub fn node<K: Sink, L: Link, D: Disk, C: Clock>(
     clock: &mut C,
 ) -> Status
     requires some { 1 ≤ size }
-    requires five { size ≤ 5 }
-    requires few { length told.now ≤ 5 }
+    requires five { size ≤ most_members }
+    requires few { length told.now ≤ most_members }
     requires turns { turns ≤ 1000000000 }
     requires members { AreMembers ids.now }
     requires links { length links.old ≡ length ids.now }
@@ -116,12 +117,10 @@ fn run_all<F: Fn(Kind, u16) -> Option<u64> + Copy, L: Link, D: Disk, C: Clock>(
     clock: &mut C,
     steps: &mut LastSteps,
 ) -> Result<(), Fault>
-    requires memory { ReceiverFitsInMemory F.row 160 128 }
-    requires callable { F.IsAlwaysCallable (accepts runners.old) }
-    requires answers { AnswersByRows (F.post (accepts runners.old)) accepted.rows }
+    requires receives { MemberReceives F.row F.IsAlwaysCallable F.post (accepts runners.old) }
     requires some { 1 ≤ size }
-    requires five { size ≤ 5 }
-    requires few { length told.now ≤ 5 }
+    requires five { size ≤ most_members }
+    requires few { length told.now ≤ most_members }
     requires turns { turns ≤ 1000000000 }
     requires members { AreMembers ids.now }
     requires links { length links.old ≡ length ids.now }
@@ -133,12 +132,12 @@ fn run_all<F: Fn(Kind, u16) -> Option<u64> + Copy, L: Link, D: Disk, C: Clock>(
     ensures run { HasRun L.faults ids.now disks.old disks.new links.old links.new
         (runners_of runners.new) result }
     ensures all { OnOk result (length (runners_of runners.new) ≡ length ids.now) }
-    ensures stands { OnOk result ((given : Given) → Tell L.coming L.sent D.Disk links.old disks.old
+    ensures stands { OnOk result ((given : RunInput) → Tell L.coming L.sent D.Disk links.old disks.old
         (C.readings clock.old) given → Stand L.coming L.sent (runners_of runners.new) links.new
         (C.readings clock.new) steps.new (after_turns (rules_by size told.now) turns ids.now given)) }
     ensures cut { IfErr result (IsCut L.coming L.sent (rules_by size told.now) turns ids.now (runners_of runners.new)
         links.old links.new disks.old disks.new (C.readings clock.old) (C.readings clock.new)) }
-    ensures tells { OnOk result ((given : Given) → Tell L.coming L.sent D.Disk links.old disks.old
+    ensures tells { OnOk result ((given : RunInput) → Tell L.coming L.sent D.Disk links.old disks.old
         (C.readings clock.old) given → AreTelling (runners_of runners.new)) }
     ensures quiet { RunQuietly L.faults ids.now disks.old disks.new links.old links.new
         (runners_of runners.new) result }

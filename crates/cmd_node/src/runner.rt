@@ -2,6 +2,7 @@
 
 ghost use Rattle.std.specs.Prelude.{length, ◌≡◌, ◌<◌, ◌≤◌, ◌+◌, ℕ, List, Option, Some, None};
 ghost use Rattle.std.specs.Prelude.{IfOk, IfErr, OnOk, OnErr, true};
+ghost use Rattle.can_frame.specs.Sizes.{most_members};
 ghost use Rattle.disk_model.specs.Contents.{AddsNoImage};
 ghost use Rattle.disk_model.specs.Device.{Makes};
 ghost use Rattle.outside.specs.Faults.{Rose};
@@ -15,13 +16,8 @@ ghost use Rattle.raft_core.specs.StoredPuts.{store_of};
 ghost use Rattle.raft_log.specs.DurableViews.{durable_state};
 ghost use Rattle.raft_log.specs.Opening.{FailsToOpen, OpensTo};
 ghost use Rattle.raft_log.specs.Rules.{IsDamagedAt};
-ghost use Rattle.alloc_spec.specs.Accepted as accepted;
 ghost use Rattle.alloc_spec.specs.Rules.{opening_by, rules_by};
-ghost use Rattle.transfer_rx.specs.Acceptance.{AnswersByRows};
-ghost use Rattle.transfer_rx.specs.Memory.{ReceiverFitsInMemory};
-ghost use Rattle.replay_text.specs.Report.{told_line};
-ghost use Rattle.cluster_spec.specs.ReportLine.{text_of_line};
-ghost use Rattle.cluster_spec.specs.ReportLine.ReportLine.{HasStepped};
+ghost use Rattle.cluster_spec.specs.Receivers.{MemberReceives};
 ghost use Rattle.cmd_node.specs.Puts.{IsCutIn, IsHeardIn, step_puts};
 ghost use Rattle.cmd_node.specs.Turn.{Turning, turn_after_hearing, turn_after_step, turn_after_sending, turn};
 ghost use Rattle.cmd_node.specs.declared.steps.LastSteps.{LastSteps};
@@ -31,15 +27,15 @@ ghost use Rattle.cmd_node.specs.declared.fault.Fault.TheVariants.{Damaged as IsD
 use crate::fault::Fault;
 use crate::frames::{event_in, to_raw};
 use crate::steps::LastSteps;
-use alloc_server::{Event, Outcome, Server, View, accept_rows};
+use alloc_server::{Event, Server, accept_rows};
 use can_frame::Kind;
+use cluster_spec::told_of_step;
 use cmd_base::Draws;
 use disk_model::Disk;
 use disk_model::laws::calls_that_succeed_count_no_fault;
 use kv_store::OpenRefused;
 use outside::{Failed, Link};
 use raft_log::laws::a_state_is_durable;
-use replay_text::Told;
 
 /// A running allocator, with its generator of random words. It is let go by [`Runner::stop`] alone, so
 /// that no disk is lost.
@@ -68,11 +64,9 @@ impl<D: Disk, F: Fn(Kind, u16) -> Option<u64> + Copy> Runner<D, F> {
         requires least { 1 ≤ id }
         requires most { id ≤ 125 }
         requires some { 1 ≤ size }
-        requires five { size ≤ 5 }
-        requires few { length told.now ≤ 5 }
-        requires memory { ReceiverFitsInMemory F.row 160 128 }
-        requires callable { F.IsAlwaysCallable accept }
-        requires answers { AnswersByRows (F.post accept) accepted.rows }
+        requires five { size ≤ most_members }
+        requires few { length told.now ≤ most_members }
+        requires receives { MemberReceives F.row F.IsAlwaysCallable F.post accept }
         ensures stands { IfOk result (λ runner. StandsFor runner.server (opening_by id (rules_by size told.now)
             (store_of (durable_state (durable_of runner.server))) now (word_at (next_state id)))) }
         ensures id { IfOk result (λ runner. runner.id ≡ id) }
@@ -115,9 +109,7 @@ impl<D: Disk, F: Fn(Kind, u16) -> Option<u64> + Copy> Runner<D, F> {
         link: &mut L,
         steps: &mut LastSteps,
     ) -> Result<(), Fault>
-        requires memory { ReceiverFitsInMemory F.row 160 128 }
-        requires callable { F.IsAlwaysCallable (closure_of self.old) }
-        requires answers { AnswersByRows (F.post (closure_of self.old)) accepted.rows }
+        requires receives { MemberReceives F.row F.IsAlwaysCallable F.post (closure_of self.old) }
         requires few { steps_made steps.old + 2 < 18446744073709551615 }
         ensures turned { OnOk result ((t : Turning) →
             IsTurning self.old (L.coming link.old) (L.sent link.old) steps.old t →
@@ -154,9 +146,7 @@ impl<D: Disk, F: Fn(Kind, u16) -> Option<u64> + Copy> Runner<D, F> {
 
     /// Takes the next item of its link, and makes a step of it where it is a frame.
     fn hear<L: Link>(&mut self, now: u64, link: &mut L, steps: &mut LastSteps) -> Result<(), Fault>
-        requires memory { ReceiverFitsInMemory F.row 160 128 }
-        requires callable { F.IsAlwaysCallable (closure_of self.old) }
-        requires answers { AnswersByRows (F.post (closure_of self.old)) accepted.rows }
+        requires receives { MemberReceives F.row F.IsAlwaysCallable F.post (closure_of self.old) }
         requires few { steps_made steps.old < 18446744073709551615 }
         ensures heard { OnOk result ((t : Turning) →
             IsTurning self.old (L.coming link.old) (L.sent link.old) steps.old t →
@@ -197,9 +187,7 @@ impl<D: Disk, F: Fn(Kind, u16) -> Option<u64> + Copy> Runner<D, F> {
 
     /// Makes the next step.
     fn step(&mut self, event: Event, steps: &mut LastSteps) -> Result<(), Fault>
-        requires memory { ReceiverFitsInMemory F.row 160 128 }
-        requires callable { F.IsAlwaysCallable (closure_of self.old) }
-        requires answers { AnswersByRows (F.post (closure_of self.old)) accepted.rows }
+        requires receives { MemberReceives F.row F.IsAlwaysCallable F.post (closure_of self.old) }
         requires few { steps_made steps.old < 18446744073709551615 }
         ensures stepped { OnOk result ((t : Turning) (coming : Option (List Received))
             (sent : Option (List RawFrame)) → IsTurning self.old coming sent steps.old t →
@@ -226,7 +214,7 @@ impl<D: Disk, F: Fn(Kind, u16) -> Option<u64> + Copy> Runner<D, F> {
         calls_that_succeed_count_no_fault::<D>();
         match self.server.step(event, steps.next_number()) {
             Ok(outcome) => {
-                steps.push(stepped(self.id, self.server.view(), outcome));
+                steps.push(told_of_step(self.id, self.server.view(), outcome));
                 Ok(())
             }
             Err(_) => Err(Fault::Disk(self.id)),
@@ -269,22 +257,5 @@ impl<D: Disk, F: Fn(Kind, u16) -> Option<u64> + Copy> Runner<D, F> {
             draws: _,
         } = self;
         server.stop()
-    }
-}
-
-/// What a step tells, with the numbers after it.
-fn stepped(n: u8, view: View, outcome: Outcome) -> Told
-    ensures { (number : ℕ) → told_line number result ≡ text_of_line number (HasStepped n
-        view.role view.term view.last view.commit view.queued outcome.seen outcome.sent.items) }
-{
-    Told::Stepped {
-        n,
-        role: view.role,
-        term: view.term,
-        last: view.last,
-        commit: view.commit,
-        queued: view.queued,
-        seen: outcome.seen,
-        sent: outcome.sent,
     }
 }

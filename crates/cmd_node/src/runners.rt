@@ -3,10 +3,9 @@
 ghost use Rattle.std.specs.Prelude.{◌≡◌, suc, ◌<◌, ◌≤◌, ◌+◌, ◌*◌, ◌++◌, ◌∷◌};
 ghost use Rattle.std.specs.Prelude.{[], ℕ, List, Option, Some, None, IfSome, IfErr, IsSome, OnOk, OnErr, Err};
 ghost use Rattle.std.specs.Prelude.{length, slice_index_or, slice_set, vec_capacity};
-ghost use Rattle.alloc_spec.specs.Accepted as accepted;
-ghost use Rattle.transfer_rx.specs.Acceptance.{AnswersByRows};
-ghost use Rattle.transfer_rx.specs.Memory.{ReceiverFitsInMemory};
+ghost use Rattle.can_frame.specs.Sizes.{most_members};
 ghost use Rattle.cluster_spec.specs.Cluster.{AreMembers};
+ghost use Rattle.cluster_spec.specs.Receivers.{MemberReceives};
 ghost use Rattle.alloc_spec.specs.Rules.{rules_by};
 ghost use Rattle.cmd_node.specs.Ends.{refusal_of};
 ghost use Rattle.cmd_node.specs.Opening.{readings_after};
@@ -19,21 +18,19 @@ use crate::runner::Runner;
 use crate::steps::LastSteps;
 use crate::turns::take_turn;
 use can_frame::Kind;
+use can_frame::sizes::MOST_MEMBERS;
 use disk_model::Disk;
 use kv_store::OpenFault;
 use outside::{Clock, Link};
 use std::alloc::Global;
-
-/// How many allocators may run.
-const MOST_RUNNERS: usize = 5;
 
 /// The allocators that run, in the order of their places. They receive the same. They are let go by
 /// [`Runners::stop`] alone.
 pub(crate) struct Runners<D: Disk, F> {
     list: Vec<Runner<D, F>>,
     accept: F,
-    ghost five: { length list.items ≤ 5 },
-    ghost room: { 5 ≤ vec_capacity list },
+    ghost five: { length list.items ≤ most_members },
+    ghost room: { most_members ≤ vec_capacity list },
     ghost alike: { (i : ℕ) (runner : Runner D F D.Disk) → i < length list.items →
         closure_of (slice_index_or list.items i runner) ≡ accept },
 }
@@ -53,7 +50,7 @@ impl<D: Disk, F: Fn(Kind, u16) -> Option<u64> + Copy> Runners<D, F> {
         ensures none { IfSome result (λ runners. runners_of runners ≡ []) }
         ensures accepts { IfSome result (λ runners. accepts runners ≡ accept) }
     {
-        match Vec::with_capacity(alloc, MOST_RUNNERS) {
+        match Vec::with_capacity(alloc, MOST_MEMBERS) {
             Ok(list) => Some(Runners { list, accept }),
             Err(_) => None,
         }
@@ -78,12 +75,10 @@ impl<D: Disk, F: Fn(Kind, u16) -> Option<u64> + Copy> Runners<D, F> {
         disks: &mut [Option<D>],
         clock: &mut C,
     ) -> Result<(), Fault>
-        requires memory { ReceiverFitsInMemory F.row 160 128 }
-        requires callable { F.IsAlwaysCallable (accepts self.old) }
-        requires answers { AnswersByRows (F.post (accepts self.old)) accepted.rows }
+        requires receives { MemberReceives F.row F.IsAlwaysCallable F.post (accepts self.old) }
         requires some { 1 ≤ size }
-        requires five { size ≤ 5 }
-        requires few_told { length told.now ≤ 5 }
+        requires five { size ≤ most_members }
+        requires few_told { length told.now ≤ most_members }
         requires members { AreMembers ids.now }
         requires each { length disks.old ≡ length ids.now }
         requires present { (i : ℕ) → i < length ids.now →
@@ -123,16 +118,14 @@ impl<D: Disk, F: Fn(Kind, u16) -> Option<u64> + Copy> Runners<D, F> {
         place: &mut Option<D>,
         now: u64,
     ) -> Result<(), Fault>
-        requires memory { ReceiverFitsInMemory F.row 160 128 }
-        requires callable { F.IsAlwaysCallable (accepts self.old) }
-        requires answers { AnswersByRows (F.post (accepts self.old)) accepted.rows }
+        requires receives { MemberReceives F.row F.IsAlwaysCallable F.post (accepts self.old) }
         requires some { 1 ≤ size }
-        requires five { size ≤ 5 }
-        requires few_told { length told.now ≤ 5 }
+        requires five { size ≤ most_members }
+        requires few_told { length told.now ≤ most_members }
         requires least { 1 ≤ id }
         requires most { id ≤ 125 }
         requires present { IsSome place.old }
-        requires few { length (runners_of self.old) < 5 }
+        requires few { length (runners_of self.old) < most_members }
         ensures opened { OnOk result ((runner : Runner D F D.Disk) ×
             (runners_of self.new ≡ runners_of self.old ++ runner ∷ []) ×
             IsOpened runner place.old id × IsOpenedAt (rules_by size told.now) runner now) }
@@ -159,7 +152,7 @@ impl<D: Disk, F: Fn(Kind, u16) -> Option<u64> + Copy> Runners<D, F> {
     }
 
     fn push(&mut self, runner: Runner<D, F>)
-        requires few { length (runners_of self.old) < 5 }
+        requires few { length (runners_of self.old) < most_members }
         requires accepts { closure_of runner ≡ accepts self.old }
         ensures runners { runners_of self.new ≡ runners_of self.old ++ runner ∷ [] }
         ensures accepts { accepts self.new ≡ accepts self.old }
@@ -178,9 +171,7 @@ impl<D: Disk, F: Fn(Kind, u16) -> Option<u64> + Copy> Runners<D, F> {
         clock: &mut C,
         steps: &mut LastSteps,
     ) -> Result<(), Fault>
-        requires memory { ReceiverFitsInMemory F.row 160 128 }
-        requires callable { F.IsAlwaysCallable (accepts self.old) }
-        requires answers { AnswersByRows (F.post (accepts self.old)) accepted.rows }
+        requires receives { MemberReceives F.row F.IsAlwaysCallable F.post (accepts self.old) }
         requires turns { turns ≤ 1000000000 }
         requires each { length links.old ≡ length (runners_of self.old) }
         requires working { AreWorking (runners_of self.old) }

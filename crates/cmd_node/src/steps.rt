@@ -4,7 +4,7 @@ ghost use Rattle.std.specs.Prelude.{◌≡◌, ◌<◌, ◌≤◌, ◌+◌, ◌+
 ghost use Rattle.std.specs.Prelude.{List, length, map, IfSome, OnOk};
 ghost use Rattle.outside.specs.Faults.{HasCause};
 ghost use Rattle.cmd_base.specs.Output.{Grows, Writes, WritesLast};
-ghost use Rattle.replay_text.specs.Report.{told_line};
+ghost use Rattle.replay_text.specs.ReportLine.{report_line_of, text_of_line};
 ghost use Rattle.cmd_node.specs.Report.{joined, report};
 ghost use Rattle.cmd_node.specs.Kept.{kept_line};
 
@@ -52,7 +52,7 @@ impl LastSteps {
     pub fn push(&mut self, told: Told)
         requires { steps_made self.old < 18446744073709551615 }
         ensures keeps { (lines : List (List ℕ)) → Keeps self.old lines →
-            Keeps self.new (lines ++ told_line (suc (length lines)) told ∷ []) }
+            Keeps self.new (lines ++ text_of_line (suc (length lines)) (report_line_of told) ∷ []) }
         ensures made { steps_made self.new ≡ steps_made self.old + 1 }
     {
         self.made += 1;

@@ -1,9 +1,8 @@
 //! A turn of each allocator.
 
 ghost use Rattle.std.specs.Prelude.{◌≡◌, ◌<◌, ◌≤◌, ◌+◌, ℕ, IfErr, OnOk, length, slice_index_or};
-ghost use Rattle.alloc_spec.specs.Accepted as accepted;
-ghost use Rattle.transfer_rx.specs.Acceptance.{AnswersByRows};
-ghost use Rattle.transfer_rx.specs.Memory.{ReceiverFitsInMemory};
+ghost use Rattle.can_frame.specs.Sizes.{most_members};
+ghost use Rattle.cluster_spec.specs.Receivers.{MemberReceives};
 ghost use Rattle.cmd_node.specs.Cut.{IsCutTurn};
 ghost use Rattle.cmd_node.specs.Quiet.{StayQuiet};
 ghost use Rattle.cmd_node.specs.Stands.{AreStanding, Stand, closure_of};
@@ -26,13 +25,10 @@ pub(crate) fn take_turn<D: Disk, F: Fn(Kind, u16) -> Option<u64> + Copy, L: Link
     clock: &mut C,
     steps: &mut LastSteps,
 ) -> Result<(), Fault>
-    requires memory { ReceiverFitsInMemory F.row 160 128 }
-    requires callable { (i : ℕ) (runner : Runner D F D.Disk) → i < length runners.old →
-        F.IsAlwaysCallable (closure_of (slice_index_or runners.old i runner)) }
-    requires answers { (i : ℕ) (runner : Runner D F D.Disk) → i < length runners.old →
-        AnswersByRows (F.post (closure_of (slice_index_or runners.old i runner))) accepted.rows }
+    requires receives { (i : ℕ) (runner : Runner D F D.Disk) → i < length runners.old →
+        MemberReceives F.row F.IsAlwaysCallable F.post (closure_of (slice_index_or runners.old i runner)) }
     requires each { length links.old ≡ length runners.old }
-    requires five { length runners.old ≤ 5 }
+    requires five { length runners.old ≤ most_members }
     requires working { AreWorking runners.old }
     requires few { steps_made steps.old ≤ 10000000000 }
     ensures turned { OnOk result ((all : Together) → Stand L.coming L.sent runners.old

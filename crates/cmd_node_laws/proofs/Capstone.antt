@@ -13,7 +13,7 @@ use Rattle.replay_text.specs.declared.row.Row.{Row}
 use Rattle.cluster_spec.specs.Cluster.{AreMembers, Cluster, after_rows, cluster, is_member, rules_of}
 use Rattle.cluster_spec.specs.Members.{is_running}
 use Rattle.cmd_base.specs.Draws.{next_state, word_at}
-use Rattle.cmd_node.specs.Opening.{Given, opened_at, readings_after}
+use Rattle.cmd_node.specs.Opening.{RunInput, opened_at, readings_after}
 use Rattle.cmd_node.specs.CutRun.{IsCutAtOpening, IsCutAtTurn, KeepsOrOpens}
 use Rattle.cmd_node.specs.Puts.{tick_puts, turn_puts}
 use Rattle.cmd_node.specs.Turn.{Running, Turning as Turn}
@@ -40,7 +40,7 @@ pub record FollowLaws : Type 0 where
       → Alike likeness (w.member t.running.id).disk.store state → AfterSome (StandsForState image) (stored_puts (turn_puts moment t) state) state
       → Carries w.frames (next_item t.running.coming) came → MayBeKilled w t.running moment came → IsFoundKilled likeness image w t.running moment came
   pub calm : (ids : List ℕ) (trace : List Event) → MayAllHappen trace (cluster ids) → AreCalm (world_after ids trace)
-  pub followed : (mine : List ℕ) (given : Given) (rules : Rules) (w : Cluster) (trace : List Event) (from to : Point) → HasNoneTwice mine → rules ≡ rules_of w.ids (tells rules) → AreCalm w → place_of from < length mine
+  pub followed : (mine : List ℕ) (given : RunInput) (rules : Rules) (w : Cluster) (trace : List Event) (from to : Point) → HasNoneTwice mine → rules ≡ rules_of w.ids (tells rules) → AreCalm w → place_of from < length mine
       → MayAllHappen trace w → GoesOn rules mine given w trace from to → StandAt rules mine given w from → (i : ℕ) → i < length mine
       → IsFollowed rules mine given w (after_rows w (all_rows trace w)) from to (λ n. raw_by n w (all_rows trace w)) i
   pub stored : (ids : List ℕ) (trace : List Event) (r : Running) → AreMembers ids → MayAllHappen trace (cluster ids) → In r.id ids
@@ -70,7 +70,7 @@ may_rest [] rest w may = may
 may_rest (event ∷ first) rest w may =
     subst (MayAllHappen rest) (sym (after_both w (rows_of event w) (all_rows first (after_rows w (rows_of event w))))) (may_rest first rest (after_rows w (rows_of event w)) may.1)
 
-module _ (laws : FollowLaws) (ids mine : List ℕ) (before during : List Event) (rules : Rules) (given : Given) (to : Point) (is : IsRunIn ids before during rules mine given to) where
+module _ (laws : FollowLaws) (ids mine : List ℕ) (before during : List Event) (rules : Rules) (given : RunInput) (to : Point) (is : IsRunIn ids before during rules mine given to) where
   abbrev w : Cluster
   w = world_after ids before
 
@@ -130,7 +130,7 @@ is_listed (id ∷ ids) n (inr rest) = either (id == n) (is_listed ids n rest)
     either false e = e
 
 module _ (laws : FollowLaws) {L D : Type 0} (coming : L → Option (List Received)) (sent : L → Option (List RawFrame)) (disk : Ghosts D) where
-  pub left_as_told : (ids mine : List ℕ) (before during : List Event) (rules : Rules) (turns : ℕ) (given : Given) (links : List L) (disks : List (Option D)) (readings : Option (List ℕ))
+  pub left_as_told : (ids mine : List ℕ) (before during : List Event) (rules : Rules) (turns : ℕ) (given : RunInput) (links : List L) (disks : List (Option D)) (readings : Option (List ℕ))
       → IsRunIn ids before during rules mine given (at_point.Turning turns 0) → LeavesAll coming sent disk links disks readings (length mine) (after_turns rules turns mine given)
       → let w = world_after ids before in LeavesAsTold sent disk links disks mine given w (world_after ids (before ++ during)) (all_rows during w)
   left_as_told ids mine before during rules turns given links disks readings is left = record {
@@ -157,7 +157,7 @@ module _ (laws : FollowLaws) {L D : Type 0} (coming : L → Option (List Receive
       same_id : (i : ℕ) → (now i).id ≡ slice_index mine i
       same_id i = ids_of mine given rules turns i
 
-  pub cut_as_told : (ids mine : List ℕ) (before during : List Event) (rules : Rules) (taken place : ℕ) (given : Given) (links : List L) (disks : List (Option D)) (readings : Option (List ℕ))
+  pub cut_as_told : (ids mine : List ℕ) (before during : List Event) (rules : Rules) (taken place : ℕ) (given : RunInput) (links : List L) (disks : List (Option D)) (readings : Option (List ℕ))
       → place < length mine → IsRunIn ids before during rules mine given (at_point.Turning taken place) → let all = together_at rules mine given taken place in
       IsCutAtTurn coming sent disk links disks readings (length mine) all place
       → let w = world_after ids before in IsCutAsTold coming sent disk links disks mine given w (world_after ids (before ++ during)) (all_rows during w) all place
@@ -222,7 +222,7 @@ module _ (laws : FollowLaws) {L D : Type 0} (coming : L → Option (List Receive
 
   module _ (one_state : (image : List ℕ) (a b : Stored) → StandsForState image a → StandsForState image b → a ≡ b)
       (keeps : (state : Stored) (count : ℕ) → store_of (after_puts (take count (opening_puts state)) state) ≡ store_of state) where
-    pub opened_as_told : (ids mine : List ℕ) (before during : List Event) (rules : Rules) (given : Given) (links_old links : List L) (disks_old disks : List (Option D))
+    pub opened_as_told : (ids mine : List ℕ) (before during : List Event) (rules : Rules) (given : RunInput) (links_old links : List L) (disks_old disks : List (Option D))
         (readings_old readings : Option (List ℕ)) (id : ℕ) → Tell coming sent disk links_old disks_old readings_old given
         → (cut : IsCutAtOpening disk mine links_old links disks_old disks readings_old readings (KeepsOrOpens disk) id)
         → IsRunIn ids before during rules mine given (at_point.Opening cut.place)

@@ -13,7 +13,7 @@ use Rattle.alloc_spec.specs.AllocatorState.{AllocatorState}
 use Rattle.cluster_spec.specs.Cluster.{Cluster, after_rows, arrival_at, cluster, frame_at, after_row, receipt_of, tick_of}
 use Rattle.cluster_spec.specs.Lawful.{DoNoHarm, IsHarmlessAt, cause, no_such_frame}
 use Rattle.cluster_spec.specs.Members.{is_running}
-use Rattle.cmd_node_laws.specs.Traces.{Came, Event, IsForeign, IsKilled, IsKilledAtOpening, MayAllHappen, MayOccur, MayHappen, OfAllocatee, Opens, Silence, Stops, Turns, WasSent, all_rows, came_rows, rows_of, rows_then, while_running}
+use Rattle.cmd_node_laws.specs.Traces.{Came, Event, FromElsewhere, DiesInTurn, DiesAtOpening, MayAllHappen, MayOccur, MayHappen, OfOthers, Opens, Silence, Stops, Turns, WasSent, all_rows, came_rows, rows_of, rows_then, while_running}
 use Rattle.cmd_node_laws.specs.Mirrored.{AreCalm, IsCalm}
 use Rattle.cmd_node_laws.proofs.Killed.{RunsArmed, arm_leaves, step_cut, stored_at}
 use Rattle.cmd_node_laws.proofs.Killing.{Finishes, arm_lawful, dead_now, finishes_on, running_now, stop_running, stop_stopped, stop_told}
@@ -50,7 +50,7 @@ module _ (deliveries : (setting : Setting) (sessions : List Session) (arrival : 
       → Finish n w (rows_then (came_rows n moment came) (stop_told n) w)
   came_ends n w moment Silence server left is may = (stored_at n w, stop_running n w server left is)
   came_ends n w moment (WasSent k) server left is may = rx_ends n w k moment server left is may.0 may.1
-  came_ends n w moment (IsForeign frame) server left is may =
+  came_ends n w moment (FromElsewhere frame) server left is may =
       let out : Cluster = after_row w (Ext frame) in
       finish_on n w (Ext frame ∷ []) (Rx n (length w.frames + 1) moment ∷ stop_told n (after_row out (Rx n (length w.frames + 1) moment))) (inl (ext_lawful w frame may), tt)
       (rx_ends n out (length w.frames + 1) moment server left (record { runs = record { member = is.runs.member; up = is.runs.up }; arm = is.arm; others = is.others })
@@ -58,7 +58,7 @@ module _ (deliveries : (setting : Setting) (sessions : List Session) (arrival : 
 
   killed_ends : (n : ℕ) (w : Cluster) (moment word puts : ℕ) (came : Came) (server : AllocatorState) → AreCalm w → Runs n w server
       → (let ticked = after_rows w (Crash n (4 * puts + 1) Old ∷ Tick n moment word ∷ []) in is_running (ticked.member n).status ≡ true → MayOccur n moment came ticked)
-      → Finish n w (rows_of (IsKilled n moment word came puts) w)
+      → Finish n w (rows_of (DiesInTurn n moment word came puts) w)
   killed_ends n w moment word puts came server calm runs may =
       finish_on n w (Crash n (4 * puts + 1) Old ∷ Tick n moment word ∷ []) (rows_then (while_running n (came_rows n moment came)) (stop_told n) w2)
       (inl arm_lawful_one, (inl (tick_lawful w1 n moment word server arm.0.runs), tt))
@@ -86,18 +86,18 @@ module _ (deliveries : (setting : Setting) (sessions : List Session) (arrival : 
   pub event_fine : (event : Event) (w : Cluster) → AreCalm w → MayHappen event w → AreFine w (rows_of event w)
   event_fine (Opens n told moment word) w calm may =
       record { harmless = (inl (open_lawful w n told moment word may.0 may.1), tt); calm = subst AreCalm (sym (open_world w n told moment word calm)) (open_leaves w n told moment word calm) }
-  event_fine (IsKilledAtOpening n told moment word puts) w calm may =
+  event_fine (DiesAtOpening n told moment word puts) w calm may =
       let ends = opening_killed n told moment word puts w calm may in record { harmless = ends.harmless; calm = ends.dead.calm }
   event_fine (Turns n moment word came) w calm may =
       let is = runs_it n w calm may.0 in
       let goes = turn_goes deliveries n w moment word came is.0 calm is.1 may.1 in
       record { harmless = goes.harmless; calm = goes.calm }
   event_fine (Stops n) w calm may = record { harmless = (inl (stop_lawful w n may.member may.runs), tt); calm = stop_leaves w n calm }
-  event_fine (IsKilled n moment word came puts) w calm may =
+  event_fine (DiesInTurn n moment word came puts) w calm may =
       let is = runs_it n w calm may.0 in
       let ends = (killed_ends n w moment word puts came is.0 calm is.1 may.1).1 in
       record { harmless = ends.harmless; calm = ends.dead.calm }
-  event_fine (OfAllocatee row) w calm may = record { harmless = (inl may.1, tt); calm = λ m. subst IsCalm (sym (others_stay (OfAllocatee row) w m may (λ e. absurd (cc (e))))) (calm m) }
+  event_fine (OfOthers row) w calm may = record { harmless = (inl may.1, tt); calm = λ m. subst IsCalm (sym (others_stay (OfOthers row) w m may (λ e. absurd (cc (e))))) (calm m) }
 
   pub trace_fine : (trace : List Event) (w : Cluster) → AreCalm w → MayAllHappen trace w → AreFine w (all_rows trace w)
   trace_fine [] w calm may = record { harmless = tt; calm = calm }

@@ -6,6 +6,7 @@ use Rattle.can_frame.specs.declared.identifier.Kind.{Kind}
 use Rattle.can_frame.specs.declared.identifier.Kind.TheVariants.{Anonymous, Message, Request, Response}
 use Rattle.can_frame.specs.declared.step.Judged.TheVariants.{Fine, Stale, Torn}
 use Rattle.can_frame.specs.Identifier.{identifier_of}
+use Rattle.can_frame.specs.Kinds.{is_response}
 use Rattle.raft_core.specs.Times.{Sending}
 use Rattle.raft_model.specs.Messages.{Request as Call}
 use Rattle.transfer_rx.specs.Reassembly.{Answer, Arrival, Delivery, Setting, answer}
@@ -13,7 +14,7 @@ use Rattle.transfer_rx.specs.Reassembly.Answer.{Continues, Drops, Gives}
 use Rattle.transfer_rx.specs.Sessions.{Session}
 use Rattle.transfer_rx.specs.Sound.{IsDelivered}
 use Rattle.alloc_spec.specs.Accepted.{rows, setting_for}
-use Rattle.alloc_spec.specs.Judging.{is_response, is_stale, answer_judgement, arrival_judgement, misses}
+use Rattle.alloc_spec.specs.Judging.{is_stale, answer_judgement, arrival_judgement, misses}
 use Rattle.alloc_spec.specs.AllocatorState.{AllocatorState}
 use Rattle.cluster_spec.specs.Cluster.{is_member}
 use Rattle.cluster_spec.specs.Lawful.{is_forged, cause_of_judgement}

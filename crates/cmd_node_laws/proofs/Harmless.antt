@@ -14,7 +14,7 @@ use Rattle.alloc_spec.specs.AllocatorState.{AllocatorState}
 use Rattle.cluster_spec.specs.Cluster.{Cluster, after_rows, arrival_at, frame_at, from_outside, after_row, receipt_of, tick_of}
 use Rattle.cluster_spec.specs.Lawful.{DoNoHarm, IsHarmlessAt, is_forged, arrival_refusal, no_such_frame}
 use Rattle.cluster_spec.specs.Members.{next_frame}
-use Rattle.cmd_node_laws.specs.Traces.{Came, IsForeign, MayOccur, Silence, RowsFrom, Turns, WasSent, came_rows, out_rows, rows_of, send_if, rows_then}
+use Rattle.cmd_node_laws.specs.Traces.{Came, FromElsewhere, MayOccur, Silence, RowsFrom, Turns, WasSent, came_rows, out_rows, rows_of, send_if, rows_then}
 use Rattle.cmd_node_laws.specs.Mirrored.{AreCalm}
 use Rattle.cmd_node_laws.proofs.Foreign.{foreign_fine}
 use Rattle.cmd_node_laws.proofs.Places.{after_both, harmless_both}
@@ -70,7 +70,7 @@ module _ (deliveries : (setting : Setting) (sessions : List Session) (arrival : 
   abbrev pub came_goes : (w : Cluster) (moment : ℕ) (came : Came) (server : AllocatorState) → AreCalm w → Runs n w server → MayOccur n moment came w → Goes n w (came_rows n moment came w)
   came_goes w moment Silence server calm runs may = record { harmless = tt; calm = calm; server = server; runs = runs }
   came_goes w moment (WasSent k) server calm runs may = rx_goes w k moment server calm runs may.0 may.1
-  came_goes w moment (IsForeign frame) server calm runs may =
+  came_goes w moment (FromElsewhere frame) server calm runs may =
       let out : Cluster = after_row w (Ext frame) in
       let on = rx_goes out (length w.frames + 1) moment server calm (record { member = runs.member; up = runs.up }) (ext_there w frame) (inl (foreign_judged w frame moment server runs may)) in
       record { harmless = (inl (ext_lawful w frame may), on.harmless); calm = on.calm; server = on.server; runs = on.runs }

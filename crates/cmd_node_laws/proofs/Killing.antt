@@ -29,7 +29,7 @@ use Rattle.cluster_spec.specs.Members.{is_running}
 use Rattle.cmd_node.specs.Frames.{event_in, is_frame, receipt}
 use Rattle.cmd_node.specs.Puts.{heard_puts, step_puts, taken_puts, tick_puts, turn_puts}
 use Rattle.cmd_node.specs.Turn.{Turning, turn_after_tick}
-use Rattle.cmd_node_laws.specs.Traces.{Came, IsForeign, IsKilled, MayOccur, Silence, RowsFrom, WasSent, came_rows, rows_of, rows_then, while_running}
+use Rattle.cmd_node_laws.specs.Traces.{Came, FromElsewhere, DiesInTurn, MayOccur, Silence, RowsFrom, WasSent, came_rows, rows_of, rows_then, while_running}
 use Rattle.cmd_node_laws.specs.Mirrored.{AreCalm, Carries}
 use Rattle.cmd_node_laws.proofs.Killed.{IsDead, RunsArmed, arm_leaves, not_zero, step_cut, stop_dead, stored_at}
 use Rattle.cmd_node_laws.proofs.Harmless.{foreign_judged}
@@ -140,7 +140,7 @@ module _ (marks : MarkLaws)
       rx_finishes w k moment server left (item_puts moment (Item raw) t) is may.0 may.1
       (puts_as marks deliveries n server t.running.allocator (w.rows + 1) (suc (length t.lines)) (receipt_of w k moment) (receipt moment raw) same (same_event marks deliveries n raw (frame_at w.frames k) moment carries)
       ∙ of_frame raw moment t carries.frame)
-  came_finishes w t moment (Item raw) (IsForeign frame) server left is same may carries =
+  came_finishes w t moment (Item raw) (FromElsewhere frame) server left is same may carries =
       finishes_on n w (Ext frame ∷ []) (Rx n (length w.frames + 1) moment ∷ stop_told n (after_row out (Rx n (length w.frames + 1) moment))) (after_some left (item_puts moment (Item raw) t) (stored_at n w)) (inl (ext_lawful w frame may), tt)
       (rx_finishes out (length w.frames + 1) moment server left (item_puts moment (Item raw) t) (record { runs = record { member = is.runs.member; up = is.runs.up }; arm = is.arm; others = is.others })
       (ext_there w frame) (inl (foreign_judged deliveries n w frame moment server is.runs may))
@@ -157,9 +157,9 @@ module _ (marks : MarkLaws)
       last : Queued
       last = frame_at (w.frames ++ outside ∷ []) (length w.frames + 1)
   came_finishes w t moment Junk (WasSent k) server left is same may carries = absurd carries
-  came_finishes w t moment Junk (IsForeign frame) server left is same may carries = absurd carries
+  came_finishes w t moment Junk (FromElsewhere frame) server left is same may carries = absurd carries
   came_finishes w t moment Nothing (WasSent k) server left is same may carries = absurd carries
-  came_finishes w t moment Nothing (IsForeign frame) server left is same may carries = absurd carries
+  came_finishes w t moment Nothing (FromElsewhere frame) server left is same may carries = absurd carries
 
   -- ---- the whole
 
@@ -169,7 +169,7 @@ module _ (marks : MarkLaws)
   pub killed_told : (w : Cluster) (t : Turning) (moment puts : ℕ) (came : Came) (server : AllocatorState) → AreCalm w → Runs n w server → unmarked_server server ≡ unmarked_server t.running.allocator
       → let word = word_at (next_state t.running.draws) in let ticked = after_rows w (ticked_rows puts moment word) in
       (is_running (ticked.member n).status ≡ true → MayOccur n moment came ticked) → Carries w.frames (next_item t.running.coming) came
-      → Finishes n w (rows_of (IsKilled n moment word came puts) w) (after_some puts (turn_puts moment t) (stored_at n w))
+      → Finishes n w (rows_of (DiesInTurn n moment word came puts) w) (after_some puts (turn_puts moment t) (stored_at n w))
   unfolding turn_puts
   killed_told w t moment puts came server calm runs same may carries =
       finishes_on n w (ticked_rows puts moment word) (rows_then (while_running n (came_rows n moment came)) (stop_told n) w2) state

@@ -15,7 +15,7 @@ use Rattle.cluster_spec.specs.Cluster.{Cluster, after_row, rules_of, with_member
 use Rattle.cluster_spec.specs.Lawful.{cause}
 use Rattle.cluster_spec.specs.Members.{Member, after_failed_opening, after_opening, is_running, stopped_with, with_stop_armed}
 use Rattle.cluster_spec.specs.Members.MemberStatus.{Down, Up}
-use Rattle.cmd_node_laws.specs.Traces.{IsKilledAtOpening, MayOpen, rows_of}
+use Rattle.cmd_node_laws.specs.Traces.{DiesAtOpening, MayOpen, rows_of}
 use Rattle.cmd_node_laws.specs.Mirrored.{AreCalm, IsCalm}
 use Rattle.cmd_node_laws.proofs.Armed.{AllPut, SomePut, armed, armed_on, behind_opening, opening_behind, opening_stop_is, stop_behind}
 use Rattle.cmd_node_laws.proofs.Calm.{stop_calm, stop_store}
@@ -99,7 +99,7 @@ module _ (n : ℕ) (rules : Rules) (moment word puts : ℕ) (x : Member) (calm :
 -- ---- its rows
 
 pub opening_killed : (n : ℕ) (told : Bool) (moment word puts : ℕ) (w : Cluster) → AreCalm w → MayOpen n w
-    → Finishes n w (rows_of (IsKilledAtOpening n told moment word puts) w) (opened_in_part puts (stored_at n w))
+    → Finishes n w (rows_of (DiesAtOpening n told moment word puts) w) (opened_in_part puts (stored_at n w))
 opening_killed n told moment word puts w calm may =
     finishes_on n w (Crash n (4 * puts + 3) Old ∷ Open n told moment word ∷ []) (stop_told n (opens (after_row w (Crash n (4 * puts + 3) Old)))) state (
       inl (arm_lawful n w (4 * puts + 3) (omega arith) may.0),

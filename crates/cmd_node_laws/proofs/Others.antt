@@ -11,7 +11,7 @@ use Rattle.cluster_spec.specs.Cluster.{Cluster, after_rows, in_list, after_row}
 use Rattle.cluster_agreement.proofs.Lists.{never}
 use Rattle.cluster_spec.specs.Members.{is_running, next_frame}
 use Rattle.cmd_node.specs.Frames.{raw_of}
-use Rattle.cmd_node_laws.specs.Traces.{Came, Event, IsForeign, IsKilled, IsKilledAtOpening, MayHappen, OfAllocatee, Opens, Silence, Stops, Turns, WasSent, came_rows, is_of_allocatee, out_rows, rows_of, send_if, while_running}
+use Rattle.cmd_node_laws.specs.Traces.{Came, Event, FromElsewhere, DiesInTurn, DiesAtOpening, MayHappen, OfOthers, Opens, Silence, Stops, Turns, WasSent, came_rows, is_of_others, out_rows, rows_of, send_if, while_running}
 use Rattle.cmd_node_laws.specs.Mirrored.{raw_by, sent_by, sent_in}
 use Rattle.cmd_node_laws.specs.Processes.{whose}
 
@@ -86,7 +86,7 @@ module _ (whom : Option ℕ) (m : ℕ) (apart : Some m ≡ whom → ⊥) where
 came_at : (n moment : ℕ) (came : Came) (w : Cluster) → AreAt (Some n) (came_rows n moment came w)
 came_at n moment Silence w = tt
 came_at n moment (WasSent k) w = (refl, tt)
-came_at n moment (IsForeign frame) w = (tt, (refl, tt))
+came_at n moment (FromElsewhere frame) w = (tt, (refl, tt))
 
 send_at : (n : ℕ) (o : Option Queued) → AreAt (Some n) (send_if n o)
 send_at n None = tt
@@ -96,7 +96,7 @@ if_at : (n : ℕ) (b : Bool) (rows : List Row) → AreAt (Some n) rows → AreAt
 if_at n true rows is = is
 if_at n false rows is = tt
 
-allocatee_at : (row : Row) → is_of_allocatee row ≡ true → AreAt None (row ∷ [])
+allocatee_at : (row : Row) → is_of_others row ≡ true → AreAt None (row ∷ [])
 allocatee_at (Open n told ms word) is = never is
 allocatee_at (Tick n ms word) is = never is
 allocatee_at (Rx n k ms) is = never is
@@ -112,7 +112,7 @@ allocatee_at (AEnd a) is = (tt, tt)
 
 event_at : (event : Event) (w : Cluster) → MayHappen event w → AreAt (whose event) (rows_of event w)
 event_at (Opens n told moment word) w may = (refl, tt)
-event_at (IsKilledAtOpening n told moment word puts) w may = (refl, (refl, if_at n (is_running (w2.member n).status) (Crash n 0 Old ∷ []) (refl, tt)))
+event_at (DiesAtOpening n told moment word puts) w may = (refl, (refl, if_at n (is_running (w2.member n).status) (Crash n 0 Old ∷ []) (refl, tt)))
   where
     w2 : Cluster
     w2 = after_rows w (Crash n (4 * puts + 3) Old ∷ Open n told moment word ∷ [])
@@ -124,7 +124,7 @@ event_at (Turns n moment word came) w may = (refl, both_at (Some n) (came_rows n
     w2 : Cluster
     w2 = after_rows w1 (came_rows n moment came w1)
 event_at (Stops n) w may = (refl, tt)
-event_at (IsKilled n moment word came puts) w may = (
+event_at (DiesInTurn n moment word came puts) w may = (
   refl,
   (
     refl,
@@ -138,7 +138,7 @@ event_at (IsKilled n moment word came puts) w may = (
 
     w3 : Cluster
     w3 = after_rows w2 (while_running n (came_rows n moment came) w2)
-event_at (OfAllocatee row) w may = allocatee_at row may.0
+event_at (OfOthers row) w may = allocatee_at row may.0
 
 -- the event is not of this member
 abbrev pub IsOfAnother : ℕ → Event → Type 0

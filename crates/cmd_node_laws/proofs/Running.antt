@@ -23,10 +23,10 @@ use Rattle.cluster_spec.specs.Cluster.{Cluster, after_rows, is_member, after_row
 use Rattle.cluster_spec.specs.Members.{Member}
 use Rattle.cluster_spec.specs.Members.MemberStatus.{Up}
 use Rattle.cmd_node.specs.Frames.{event_in}
-use Rattle.cmd_node.specs.Opening.{Given, together_at_opening, opened_at, readings_after}
+use Rattle.cmd_node.specs.Opening.{RunInput, together_at_opening, opened_at, readings_after}
 use Rattle.cmd_node.specs.Turn.{Running, Turning, turn_after_hearing, turn_after_frame, turn_after_taking, turn_after_tick, turn}
 use Rattle.cmd_node.specs.Turns.{Together, all_turns, first_turns, turning_after, turning_at}
-use Rattle.cmd_node_laws.specs.Traces.{Came, Event, IsKilled, IsKilledAtOpening, MayAllHappen, MayHappen, OfAllocatee, Opens, Stops, Turns, all_rows, rows_of}
+use Rattle.cmd_node_laws.specs.Traces.{Came, Event, DiesInTurn, DiesAtOpening, MayAllHappen, MayHappen, OfOthers, Opens, Stops, Turns, all_rows, rows_of}
 use Rattle.cmd_node_laws.specs.Mirrored.{AreCalm, Carries, IsMirrored, raw_by}
 use Rattle.cluster_agreement.proofs.Concatenations.{same_ids}
 use Rattle.cluster_agreement.proofs.Lists.{never}
@@ -67,11 +67,11 @@ ids_first mine all (suc places) is i = elim (eqb_tells i places) [
   | inr apart ↦ ap (λ (r : Running). r.id) (at_other (first_turns places all).running places i _ apart.1) ∙ ids_first mine all places is i
 ]
 
-pub ids_of : (mine : List ℕ) (given : Given) (rules : Rules) (turns i : ℕ) → ((all_turns (length mine) turns (together_at_opening rules mine given)).running i).id ≡ slice_index mine i
+pub ids_of : (mine : List ℕ) (given : RunInput) (rules : Rules) (turns i : ℕ) → ((all_turns (length mine) turns (together_at_opening rules mine given)).running i).id ≡ slice_index mine i
 ids_of mine given rules zero i = refl
 ids_of mine given rules (suc turns) i = ids_first mine (all_turns (length mine) turns (together_at_opening rules mine given)) (length mine) (ids_of mine given rules turns) i
 
-pub ids_then : (mine : List ℕ) (given : Given) (rules : Rules) (taken place i : ℕ) → ((together_at rules mine given taken place).running i).id ≡ slice_index mine i
+pub ids_then : (mine : List ℕ) (given : RunInput) (rules : Rules) (taken place i : ℕ) → ((together_at rules mine given taken place).running i).id ≡ slice_index mine i
 ids_then mine given rules taken place i = ids_first mine (all_turns (length mine) taken (together_at_opening rules mine given)) place (ids_of mine given rules taken) i
 
 -- ---- members
@@ -95,7 +95,7 @@ AreDifferent mine = (i j : ℕ) → i < length mine → j < length mine → slic
 module _ (marks : MarkLaws)
     (deliveries : (setting : Setting) (sessions : List Session) (arrival : Arrival) (delivery : Delivery) → answer setting sessions arrival ≡ Gives delivery → IsDelivered setting sessions arrival delivery)
     (keeps : (state : Stored) (count : ℕ) → store_of (after_puts (take count (opening_puts state)) state) ≡ store_of state)
-    (mine : List ℕ) (given : Given) (once : AreDifferent mine) where
+    (mine : List ℕ) (given : RunInput) (once : AreDifferent mine) where
   abbrev count : ℕ
   count = length mine
 
@@ -326,12 +326,12 @@ module _ (marks : MarkLaws)
     next_own w calm by_rules (Turns n moment word came) (at_point.Opening place) within may after_row stand = absurd after_row
     next_own w calm by_rules (Stops n) (at_point.Opening place) within may after_row stand = absurd after_row
     next_own w calm by_rules (Stops n) (at_point.Turning taken place) within may after_row stand = absurd after_row
-    next_own w calm by_rules (IsKilled n moment word came puts) (at_point.Opening place) within may after_row stand = absurd after_row
-    next_own w calm by_rules (IsKilled n moment word came puts) (at_point.Turning taken place) within may after_row stand = absurd after_row
-    next_own w calm by_rules (IsKilledAtOpening n told moment word puts) (at_point.Opening place) within may after_row stand = absurd after_row
-    next_own w calm by_rules (IsKilledAtOpening n told moment word puts) (at_point.Turning taken place) within may after_row stand = absurd after_row
-    next_own w calm by_rules (OfAllocatee row) (at_point.Opening place) within may after_row stand = absurd after_row
-    next_own w calm by_rules (OfAllocatee row) (at_point.Turning taken place) within may after_row stand = absurd after_row
+    next_own w calm by_rules (DiesInTurn n moment word came puts) (at_point.Opening place) within may after_row stand = absurd after_row
+    next_own w calm by_rules (DiesInTurn n moment word came puts) (at_point.Turning taken place) within may after_row stand = absurd after_row
+    next_own w calm by_rules (DiesAtOpening n told moment word puts) (at_point.Opening place) within may after_row stand = absurd after_row
+    next_own w calm by_rules (DiesAtOpening n told moment word puts) (at_point.Turning taken place) within may after_row stand = absurd after_row
+    next_own w calm by_rules (OfOthers row) (at_point.Opening place) within may after_row stand = absurd after_row
+    next_own w calm by_rules (OfOthers row) (at_point.Turning taken place) within may after_row stand = absurd after_row
 
     not_last : (place : ℕ) → place ≤ count → (place ≡ count → ⊥) → place < count
     not_last place h n = let apart : place ≢ count = n in omega (arith, h)

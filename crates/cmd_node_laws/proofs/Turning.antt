@@ -27,7 +27,7 @@ use Rattle.cluster_spec.specs.Members.{Member, next_frame}
 use Rattle.cluster_spec.specs.Members.MemberStatus.{Up}
 use Rattle.cmd_node.specs.Frames.{event_in, is_frame, raw_of, receipt}
 use Rattle.cmd_node.specs.Turn.{Running, Turning, turn_after_hearing, turn_after_step, turn_after_sending, turn_after_frame, turn_after_taking, turn_after_tick, turn}
-use Rattle.cmd_node_laws.specs.Traces.{Came, IsForeign, MayOccur, Silence, RowsFrom, Turns, WasSent, came_rows, out_rows, rows_of, send_if, rows_then}
+use Rattle.cmd_node_laws.specs.Traces.{Came, FromElsewhere, MayOccur, Silence, RowsFrom, Turns, WasSent, came_rows, out_rows, rows_of, send_if, rows_then}
 use Rattle.cmd_node_laws.specs.Mirrored.{AreCalm, Carries, IsOnLink, raw_by}
 use Rattle.cmd_node_laws.proofs.Harmless.{Goes, came_goes, goes_on, send_goes, tick_goes}
 use Rattle.cmd_node_laws.proofs.Places.{after_both, own_is, sent_both}
@@ -131,9 +131,9 @@ module _ (marks : MarkLaws)
         stored = stored_as w server t.running.allocator (suc (length t.lines)) (receipt_of w k moment) (receipt moment raw) t.running.stored calm runs same
             (same_event raw (frame_at w.frames k) moment carries);
       })
-  came_told w t moment (Item raw) (IsForeign frame) server calm runs same may carries =
-      subst (λ (u : Turning). Tells n w (came_rows n moment (IsForeign frame) w) t.running u.running) (sym (taken_step raw moment t carries.frame)) (record {
-        goes = came_goes deliveries n w moment (IsForeign frame) server calm runs may;
+  came_told w t moment (Item raw) (FromElsewhere frame) server calm runs same may carries =
+      subst (λ (u : Turning). Tells n w (came_rows n moment (FromElsewhere frame) w) t.running u.running) (sym (taken_step raw moment t carries.frame)) (record {
+        goes = came_goes deliveries n w moment (FromElsewhere frame) server calm runs may;
         same = step_as server t.running.allocator (w.rows + 1 + 1) (suc (length t.lines)) (Comes (arrival_at last moment)) (receipt moment raw) same events;
         sent = sym (append-nil t.running.sent);
         stored = stored_as (after_row w (Ext frame)) server t.running.allocator (suc (length t.lines)) (Comes (arrival_at last moment)) (receipt moment raw) t.running.stored
@@ -149,9 +149,9 @@ module _ (marks : MarkLaws)
       events : unmarked_event (Comes (arrival_at last moment)) ≡ unmarked_event (receipt moment raw)
       events = ap (λ (q : Queued). unmarked_event (Comes (arrival_at q moment))) (ext_frame w.frames outside) ∙ same_event raw outside moment carries
   came_told w t moment Junk (WasSent k) server calm runs same may carries = absurd carries
-  came_told w t moment Junk (IsForeign frame) server calm runs same may carries = absurd carries
+  came_told w t moment Junk (FromElsewhere frame) server calm runs same may carries = absurd carries
   came_told w t moment Nothing (WasSent k) server calm runs same may carries = absurd carries
-  came_told w t moment Nothing (IsForeign frame) server calm runs same may carries = absurd carries
+  came_told w t moment Nothing (FromElsewhere frame) server calm runs same may carries = absurd carries
 
   -- ---- the next frame goes out
 

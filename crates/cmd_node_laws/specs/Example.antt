@@ -4,9 +4,9 @@ use Rattle.std.specs.Prelude.{ℕ, false, List, [], ◌∷◌}
 use Rattle.outside.specs.declared.received.Received.TheVariants.{Frame}
 use Rattle.cmd_base.specs.Draws.{next_state, word_at}
 use Rattle.cmd_node.specs.Frames.{raw_of}
-use Rattle.cmd_node.specs.Opening.{Given}
+use Rattle.cmd_node.specs.Opening.{RunInput}
 use Rattle.cmd_node_laws.specs.Stands.{world_after}
-use Rattle.cmd_node_laws.specs.Traces.{Event, IsKilled, Opens, Silence, Turns, WasSent}
+use Rattle.cmd_node_laws.specs.Traces.{Event, DiesInTurn, Opens, Silence, Turns, WasSent}
 use Rattle.cluster_spec.specs.Cluster.{Cluster, frame_at}
 
 abbrev pub two : List ℕ
@@ -19,7 +19,7 @@ first_events = Opens 1 false 0 (word_at (next_state 1)) ∷ Opens 2 false 0 (wor
     ∷ Turns 1 1000 (word_at (next_state (next_state 1))) Silence
     ∷ Turns 1 1010 (word_at (next_state (next_state (next_state 1)))) Silence
     ∷ Turns 2 1020 (word_at (next_state (next_state 2))) (WasSent 2)
-    ∷ IsKilled 2 9000 (word_at (next_state (next_state (next_state 2)))) Silence 1 ∷ []
+    ∷ DiesInTurn 2 9000 (word_at (next_state (next_state (next_state 2)))) Silence 1 ∷ []
 
 -- a new process opens it, and it takes a turn in which that frame comes once more
 abbrev pub later_events : List Event
@@ -30,7 +30,7 @@ abbrev pub world_by_then : Cluster
 world_by_then = world_after two first_events
 
 -- what the new process is given
-abbrev pub given_then : Given
+abbrev pub given_then : RunInput
 given_then = record {
   stored = λ i. (world_by_then.member 2).disk.store;
   coming = λ i. Frame (raw_of (frame_at world_by_then.frames 2)) ∷ [];

@@ -14,7 +14,7 @@ use Rattle.cluster_spec.specs.Members.{MemberStatus, Member, next_frame}
 use Rattle.cluster_spec.specs.Members.MemberStatus.{Down, Failed, Up}
 use Rattle.cmd_node.specs.Frames.{is_frame, raw_of}
 use Rattle.cmd_node.specs.Turn.{Running}
-use Rattle.cmd_node_laws.specs.Traces.{Came, IsForeign, Silence, WasSent}
+use Rattle.cmd_node_laws.specs.Traces.{Came, FromElsewhere, Silence, WasSent}
 
 -- ---- between events: no call of a disk is set to fail, nothing waits for a sync, and no step failed
 
@@ -50,13 +50,13 @@ pub record IsOnLink (raw : RawFrame) (id : ℕ) (bytes : List ℕ) : Type 0 wher
 abbrev pub Carries : List Queued → Received → Came → Type 0
 Carries frames (Frame raw) Silence = is_frame raw ≡ false
 Carries frames (Frame raw) (WasSent k) = IsOnLink raw (frame_at frames k).id (frame_at frames k).bytes
-Carries frames (Frame raw) (IsForeign frame) = IsOnLink raw frame.id frame.bytes.items
+Carries frames (Frame raw) (FromElsewhere frame) = IsOnLink raw frame.id frame.bytes.items
 Carries frames Junk Silence = ⊤
 Carries frames Junk (WasSent k) = ⊥
-Carries frames Junk (IsForeign frame) = ⊥
+Carries frames Junk (FromElsewhere frame) = ⊥
 Carries frames Nothing Silence = ⊤
 Carries frames Nothing (WasSent k) = ⊥
-Carries frames Nothing (IsForeign frame) = ⊥
+Carries frames Nothing (FromElsewhere frame) = ⊥
 
 -- the frames that a member sends in a row, and in all of these
 abbrev pub sent_in : ℕ → Cluster → Row → List Queued

@@ -8,10 +8,10 @@ use Rattle.raft_core.specs.StoredPuts.{store_of}
 use Rattle.alloc_spec.specs.Rules.{Rules, tells}
 use Rattle.cluster_spec.specs.Cluster.{Cluster, after_rows, is_member}
 use Rattle.cluster_spec.specs.Members.MemberStatus.{Down}
-use Rattle.cmd_node.specs.Opening.{Given, together_at_opening, opened_at, readings_after}
+use Rattle.cmd_node.specs.Opening.{RunInput, together_at_opening, opened_at, readings_after}
 use Rattle.cmd_node.specs.Turn.{Running}
 use Rattle.cmd_node.specs.Turns.{Together, all_turns, first_turns}
-use Rattle.cmd_node_laws.specs.Traces.{Came, Event, OfAllocatee, IsKilled, IsKilledAtOpening, Opens, Stops, Turns, rows_of}
+use Rattle.cmd_node_laws.specs.Traces.{Came, Event, OfOthers, DiesInTurn, DiesAtOpening, Opens, Stops, Turns, rows_of}
 use Rattle.cmd_node_laws.specs.Mirrored.{Carries, IsMirrored}
 
 -- what a process does next: it opens the member at a place, or lets it take its turn, when all have taken so many turns
@@ -32,11 +32,11 @@ place_of (Turning taken place) = place
 -- the member of an event; one of an allocatee is of no member
 abbrev pub whose : Event → Option ℕ
 whose (Opens n told moment word) = Some n
-whose (IsKilledAtOpening n told moment word puts) = Some n
+whose (DiesAtOpening n told moment word puts) = Some n
 whose (Turns n moment word came) = Some n
 whose (Stops n) = Some n
-whose (IsKilled n moment word came puts) = Some n
-whose (OfAllocatee row) = None
+whose (DiesInTurn n moment word came puts) = Some n
+whose (OfOthers row) = None
 
 -- the member of an event is one of these
 abbrev pub is_of_these : List ℕ → Option ℕ → Bool
@@ -54,7 +54,7 @@ pub record TakesTurn (w : Cluster) (n moment word : ℕ) (came : Came) (all : To
   pub carries : Carries w.frames (next_item (all.running place).coming) came
 
 -- of a process that opens these members by these rules, with what was handed in
-module _ (rules : Rules) (mine : List ℕ) (given : Given) where
+module _ (rules : Rules) (mine : List ℕ) (given : RunInput) where
   -- the members of the process, when all have taken so many turns, and those before the place one more
   abbrev pub together_at : ℕ → ℕ → Together
   together_at taken place = first_turns place (all_turns (length mine) taken (together_at_opening rules mine given))

@@ -15,10 +15,10 @@ use Rattle.replay_text.specs.declared.row.Row.{Row}
 use Rattle.alloc_spec.specs.Rules.{Rules, tells}
 use Rattle.cluster_spec.specs.Cluster.{AreMembers, Cluster, after_rows, cluster, rules_of}
 use Rattle.cluster_spec.specs.Members.MemberStatus.{Down}
-use Rattle.cmd_node.specs.Opening.{Given, readings_after}
+use Rattle.cmd_node.specs.Opening.{RunInput, readings_after}
 use Rattle.cmd_node.specs.Turn.{Running}
 use Rattle.cmd_node.specs.Turns.{Together}
-use Rattle.cmd_node_laws.specs.Traces.{Came, Event, IsKilled, IsKilledAtOpening, MayAllHappen, MayHappen, Silence, all_rows, rows_of}
+use Rattle.cmd_node_laws.specs.Traces.{Came, Event, DiesInTurn, DiesAtOpening, MayAllHappen, MayHappen, Silence, all_rows, rows_of}
 use Rattle.cmd_node_laws.specs.Alike.{Alike, HoldsAlike, Likeness}
 use Rattle.cmd_node_laws.specs.Mirrored.{Carries, raw_by}
 use Rattle.cmd_node_laws.specs.Processes.{GoesOn, HasStoredAt, IsWaiting, Opening, Point, StandsAt, running_at}
@@ -30,7 +30,7 @@ world_after ids trace = after_rows (cluster ids) (all_rows trace (cluster ids))
 -- A process went from one point to another, and the world from one to another. The member at a place is in the world
 -- what it is in the process, and its link was sent what the member of the world sent. Where it had stored just what it
 -- had in the process, it has so then.
-pub record IsFollowed (rules : Rules) (mine : List ℕ) (given : Given) (w v : Cluster) (from to : Point)
+pub record IsFollowed (rules : Rules) (mine : List ℕ) (given : RunInput) (w v : Cluster) (from to : Point)
     (sent : ℕ → List RawFrame) (i : ℕ) : Type 0 where
   pub stands : StandsAt rules mine given v to i
   pub frames : (running_at rules mine given to i).sent
@@ -49,7 +49,7 @@ pub record IsFound (likeness : Likeness) (image : List ℕ) (w : Cluster) (n : �
 -- The run of these members stands in the trace of a cluster: some events came before it, and some while it went on to a
 -- point. Its members were stopped when it began, and had stored what was handed in.
 pub record IsRunIn (ids : List ℕ) (before during : List Event) (rules : Rules) (mine : List ℕ)
-    (given : Given) (to : Point) : Type 0 where
+    (given : RunInput) (to : Point) : Type 0 where
   pub members : AreMembers ids
   -- they were told how many members there are, or also who
   pub rules_are : rules ≡ rules_of ids (tells rules)
@@ -61,13 +61,13 @@ pub record IsRunIn (ids : List ℕ) (before during : List Event) (rules : Rules)
   pub goes : GoesOn rules mine given (world_after ids before) during (Opening 0) to
 
 -- what the member at a place had stored is like what was handed in
-abbrev pub BeganAlike : Likeness → Cluster → List ℕ → Given → ℕ → Type 0
+abbrev pub BeganAlike : Likeness → Cluster → List ℕ → RunInput → ℕ → Type 0
 BeganAlike likeness w mine given i = Alike likeness (w.member (slice_index mine i)).disk.store (given.stored i)
 
 -- Each link was sent, behind what it was sent before, what these rows send of its member; and whatever a stop leaves of
 -- each disk stands for what is like what the member has stored in the world, where it was so before.
 pub record LeavesAsTold {L D : Type 0} (sent : L → Option (List RawFrame)) (disk : Ghosts D) (links : List L)
-    (disks : List (Option D)) (mine : List ℕ) (given : Given) (w v : Cluster) (rows : List Row) : Type 0 where
+    (disks : List (Option D)) (mine : List ℕ) (given : RunInput) (w v : Cluster) (rows : List Row) : Type 0 where
   pub sent_is : (i : ℕ) (link : L) → i < length mine →
       sent (slice_index_or links i link) ≡ Some (given.sent i ++ raw_by (slice_index mine i) w rows)
   pub stored_is : (likeness : Likeness) (i : ℕ) (after : D) → i < length mine → BeganAlike likeness w mine given i →
@@ -76,7 +76,7 @@ pub record LeavesAsTold {L D : Type 0} (sent : L → Option (List RawFrame)) (di
 
 -- the event of its next turn, in which it is killed after so many puts
 abbrev pub kill_of : Running → ℕ → Came → ℕ → Event
-kill_of r moment came puts = IsKilled r.id moment (word_at (next_state r.draws)) came puts
+kill_of r moment came puts = DiesInTurn r.id moment (word_at (next_state r.draws)) came puts
 
 -- for some number of puts it leaves the member with what the image stands for
 abbrev pub IsFoundKilled : Likeness → List ℕ → Cluster → Running → ℕ → Came → Type 0
@@ -92,7 +92,7 @@ MayBeKilled w r moment came = (puts : ℕ) → MayHappen (kill_of r moment came 
 -- own disk, a kill leaves it with that in the world: a kill in a turn in which nothing comes, where the next item of
 -- its link was not taken; else one in a turn in which that item comes, where the premises hold of it.
 pub record IsCutAsTold {L D : Type 0} (coming : L → Option (List Received)) (sent : L → Option (List RawFrame))
-    (disk : Ghosts D) (links : List L) (disks : List (Option D)) (mine : List ℕ) (given : Given) (w v : Cluster)
+    (disk : Ghosts D) (links : List L) (disks : List (Option D)) (mine : List ℕ) (given : RunInput) (w v : Cluster)
     (rows : List Row) (all : Together) (place : ℕ) : Type 0 where
   pub sent_is : (i : ℕ) (link : L) → i < length mine →
       sent (slice_index_or links i link) ≡ Some (given.sent i ++ raw_by (slice_index mine i) w rows)
@@ -108,16 +108,16 @@ pub record IsCutAsTold {L D : Type 0} (coming : L → Option (List Received)) (s
       MayBeKilled v r moment came → IsFoundKilled likeness image v r moment came))
 
 -- the event in which the process of the member at a place is killed while it opens it, after so many puts
-abbrev pub opening_kill_of : Rules → List ℕ → Given → ℕ → ℕ → Event
+abbrev pub opening_kill_of : Rules → List ℕ → RunInput → ℕ → ℕ → Event
 opening_kill_of rules mine given place puts = let id = slice_index mine place in
-    IsKilledAtOpening id (tells rules) (next_reading (readings_after place given.readings))
+    DiesAtOpening id (tells rules) (next_reading (readings_after place given.readings))
     (word_at (next_state id)) puts
 
 -- A run was cut off at the opening of the member at a place, before which its members in the world had sent nothing.
 -- Each disk before its own holds what its member has stored; its member and those behind it wait as they did. Whatever
 -- a stop leaves of its own disk it could leave before the run, or a kill in that opening leaves it in the world.
 pub record IsCutOpeningAsTold {D : Type 0} (disk : Ghosts D) (disks_old disks : List (Option D)) (rules : Rules)
-    (mine : List ℕ) (given : Given) (w v : Cluster) (rows : List Row) (place : ℕ) : Type 0 where
+    (mine : List ℕ) (given : RunInput) (w v : Cluster) (rows : List Row) (place : ℕ) : Type 0 where
   pub silent : (i : ℕ) → i < length mine → raw_by (slice_index mine i) w rows ≡ []
   pub stored_is : (likeness : Likeness) (i : ℕ) (before after : D) → i < place → BeganAlike likeness w mine given i →
       slice_index_or disks_old i None ≡ Some before → slice_index_or disks i None ≡ Some after →

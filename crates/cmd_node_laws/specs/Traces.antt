@@ -21,32 +21,32 @@ pub data Came : Type 0 where
   -- frame k of the bus, which was sent before
   WasSent : (k : ℕ) → Came
   -- a frame from elsewhere
-  IsForeign : (frame : Frame) → Came
+  FromElsewhere : (frame : Frame) → Came
 
 pub data Event : Type 0 where
   -- the process of a member opens it, and may have told it the list of members
   Opens : (n : ℕ) (told : Bool) (moment word : ℕ) → Event
   -- the process of a member is killed while it opens it, when so many puts of the opening are done
-  IsKilledAtOpening : (n : ℕ) (told : Bool) (moment word puts : ℕ) → Event
+  DiesAtOpening : (n : ℕ) (told : Bool) (moment word puts : ℕ) → Event
   -- a member takes a turn to its end
   Turns : (n moment word : ℕ) (came : Came) → Event
   -- a member stops between two turns: its process ended, or was killed
   Stops : (n : ℕ) → Event
   -- a member is killed in a turn, of whose puts so many are done
-  IsKilled : (n moment word : ℕ) (came : Came) (puts : ℕ) → Event
-  -- a device on the bus that keeps the rules of an allocatee does what this row says. Any other device is heard by the
-  -- frames that come from elsewhere
-  OfAllocatee : (row : Row) → Event
+  DiesInTurn : (n moment word : ℕ) (came : Came) (puts : ℕ) → Event
+  -- what others on the bus do: a device that keeps the rules of an allocatee does what this row says, or a frame from
+  -- elsewhere is on the bus
+  OfOthers : (row : Row) → Event
 
--- a row of an allocatee
-abbrev pub is_of_allocatee : Row → Bool
-is_of_allocatee (AOpen a uid pref moment word) = true
-is_of_allocatee (ATick a moment word) = true
-is_of_allocatee (ARx a k moment word) = true
-is_of_allocatee (ASend a) = true
-is_of_allocatee (AEnd a) = true
-is_of_allocatee (Ext frame) = true
-is_of_allocatee row = false
+-- a row of an allocatee, or a frame from elsewhere
+abbrev pub is_of_others : Row → Bool
+is_of_others (AOpen a uid pref moment word) = true
+is_of_others (ATick a moment word) = true
+is_of_others (ARx a k moment word) = true
+is_of_others (ASend a) = true
+is_of_others (AEnd a) = true
+is_of_others (Ext frame) = true
+is_of_others row = false
 
 -- ---- the rows of an event
 
@@ -61,7 +61,7 @@ rows_then first rest w = first w ++ rest (after_rows w (first w))
 abbrev pub came_rows : ℕ → ℕ → Came → RowsFrom
 came_rows n moment Silence w = []
 came_rows n moment (WasSent k) w = Rx n k moment ∷ []
-came_rows n moment (IsForeign frame) w = Ext frame ∷ Rx n (length w.frames + 1) moment ∷ []
+came_rows n moment (FromElsewhere frame) w = Ext frame ∷ Rx n (length w.frames + 1) moment ∷ []
 
 -- a frame that waits in the queue is sent
 abbrev pub send_if : ℕ → Option Queued → List Row
@@ -79,16 +79,16 @@ while_running n rows w = if is_running (w.member n).status then rows w else []
 -- first `puts` of its puts done and no other. An opening syncs and reads before its puts, which are two calls more.
 abbrev pub rows_of : Event → RowsFrom
 rows_of (Opens n told moment word) w = Open n told moment word ∷ []
-rows_of (IsKilledAtOpening n told moment word puts) w =
+rows_of (DiesAtOpening n told moment word puts) w =
     rows_then (λ w. Crash n (4 * puts + 3) Old ∷ Open n told moment word ∷ [])
     (while_running n (λ w. Crash n 0 Old ∷ [])) w
 rows_of (Turns n moment word came) w =
     rows_then (λ w. Tick n moment word ∷ []) (rows_then (came_rows n moment came) (out_rows n)) w
 rows_of (Stops n) w = Crash n 0 Old ∷ []
-rows_of (IsKilled n moment word came puts) w =
+rows_of (DiesInTurn n moment word came puts) w =
     rows_then (λ w. Crash n (4 * puts + 1) Old ∷ Tick n moment word ∷ [])
     (rows_then (while_running n (came_rows n moment came)) (while_running n (λ w. Crash n 0 Old ∷ []))) w
-rows_of (OfAllocatee row) w = row ∷ []
+rows_of (OfOthers row) w = row ∷ []
 
 abbrev pub all_rows : List Event → RowsFrom
 all_rows [] w = []
@@ -105,7 +105,7 @@ abbrev pub MayOccur : ℕ → ℕ → Came → Cluster → Type 0
 MayOccur n moment Silence w = ⊤
 MayOccur n moment (WasSent k) w =
     (no_such_frame w k ≡ None) × IsHarmlessAt (w.member n).status (arrival_at (frame_at w.frames k) moment)
-MayOccur n moment (IsForeign frame) w = is_forged w.ids (identifier_of frame.id) ≡ false
+MayOccur n moment (FromElsewhere frame) w = is_forged w.ids (identifier_of frame.id) ≡ false
 
 abbrev pub MayOpen : ℕ → Cluster → Type 0
 MayOpen n w = (is_member w.ids n ≡ true) × (is_running (w.member n).status ≡ false)
@@ -116,13 +116,13 @@ pub record MayTurn (n : ℕ) (w : Cluster) : Type 0 where
 
 abbrev pub MayHappen : Event → Cluster → Type 0
 MayHappen (Opens n told moment word) w = MayOpen n w
-MayHappen (IsKilledAtOpening n told moment word puts) w = MayOpen n w
+MayHappen (DiesAtOpening n told moment word puts) w = MayOpen n w
 MayHappen (Turns n moment word came) w = MayTurn n w × MayOccur n moment came (after_row w (Tick n moment word))
 MayHappen (Stops n) w = MayTurn n w
-MayHappen (IsKilled n moment word came puts) w =
+MayHappen (DiesInTurn n moment word came puts) w =
     let ticked : Cluster = after_rows w (Crash n (4 * puts + 1) Old ∷ Tick n moment word ∷ []) in
     MayTurn n w × (is_running (ticked.member n).status ≡ true → MayOccur n moment came ticked)
-MayHappen (OfAllocatee row) w = (is_of_allocatee row ≡ true) × (cause w row ≡ None)
+MayHappen (OfOthers row) w = (is_of_others row ≡ true) × (cause w row ≡ None)
 
 abbrev pub MayAllHappen : List Event → Cluster → Type 0
 MayAllHappen [] w = ⊤

@@ -14,7 +14,7 @@ ghost use Rattle.alloc_spec.specs.Rules.{Rules, rules_by, tells};
 ghost use Rattle.cluster_spec.specs.Cluster.{AreMembers, Cluster, after_rows, cluster, rules_of};
 ghost use Rattle.cluster_spec.specs.Lawful.{DoNoHarm};
 ghost use Rattle.cmd_node.specs.CutRun.{IsCutAtOpening, IsCutAtTurn, KeepsOrOpens};
-ghost use Rattle.cmd_node.specs.Opening.{Given};
+ghost use Rattle.cmd_node.specs.Opening.{RunInput};
 ghost use Rattle.cmd_node.specs.Puts.{turn_puts};
 ghost use Rattle.cmd_node.specs.Turn.{Running, Turning as Turn};
 ghost use Rattle.cmd_node.specs.WholeRun.{LeavesAll, Tell, after_turns};
@@ -60,7 +60,7 @@ pub fn traces_do_no_harm()
 /// in the process, but for marks and the numbers of steps, and its link was sent what the member of
 /// the world sent.
 pub fn processes_are_followed()
-    ensures { (mine : List ℕ) (given : Given) (rules : Rules) (w : Cluster) (trace : List Event)
+    ensures { (mine : List ℕ) (given : RunInput) (rules : Rules) (w : Cluster) (trace : List Event)
         (from to : Point) → HasNoneTwice mine → rules ≡ rules_of w.ids (tells rules) →
         AreCalm w → place_of from < length mine → MayAllHappen trace w → GoesOn rules mine given w trace from to →
         StandAt rules mine given w from → (i : ℕ) → i < length mine →
@@ -99,21 +99,21 @@ pub fn kills_are_events()
 /// disks is what its members of the world sent and have stored.
 pub fn runs_of_node_are_rows<L: Link, D: Disk>()
     ensures done { (ids mine : List ℕ) (before during : List Event) (rules : Rules) (turns : ℕ)
-        (given : Given) (links : List L) (disks : List (Option D)) (readings : Option (List ℕ)) →
+        (given : RunInput) (links : List L) (disks : List (Option D)) (readings : Option (List ℕ)) →
         IsRunIn ids before during rules mine given (Turning turns 0) →
         LeavesAll L.coming L.sent D.Disk links disks readings (length mine)
         (after_turns rules turns mine given) → let w = world_after ids before in
         LeavesAsTold L.sent D.Disk links disks mine given w (world_after ids (before ++ during))
         (all_rows during w) }
     ensures cut { (ids mine : List ℕ) (before during : List Event) (rules : Rules) (taken place : ℕ)
-        (given : Given) (links : List L) (disks : List (Option D)) (readings : Option (List ℕ)) →
+        (given : RunInput) (links : List L) (disks : List (Option D)) (readings : Option (List ℕ)) →
         place < length mine → IsRunIn ids before during rules mine given (Turning taken place) →
         let all = together_at rules mine given taken place in
         IsCutAtTurn L.coming L.sent D.Disk links disks readings (length mine) all place →
         let w = world_after ids before in
         IsCutAsTold L.coming L.sent D.Disk links disks mine given w
         (world_after ids (before ++ during)) (all_rows during w) all place }
-    ensures opening { (ids mine : List ℕ) (before during : List Event) (rules : Rules) (given : Given)
+    ensures opening { (ids mine : List ℕ) (before during : List Event) (rules : Rules) (given : RunInput)
         (links_old links : List L) (disks_old disks : List (Option D))
         (readings_old readings : Option (List ℕ)) (id : ℕ) →
         Tell L.coming L.sent D.Disk links_old disks_old readings_old given →

@@ -9,7 +9,7 @@ use Rattle.cluster_spec.specs.Allocatees.{next_from}
 use Rattle.cluster_spec.specs.Cluster.{Cluster, in_list, after_row}
 use Rattle.cluster_spec.specs.Members.{next_frame}
 use Rattle.cluster_spec.specs.Report.{line_of_row}
-use Rattle.cluster_spec.specs.ReportLine.{is_stop}
+use Rattle.replay_text.specs.ReportLine.{is_stop}
 use Rattle.cmd_soak.specs.Growth.{Fits, Grows, growth}
 use Rattle.cmd_soak.specs.Requests.{request}
 use Rattle.cmd_soak.specs.Rounds.{Soak, arms, arms_by_chance, asks_in_time, begins, draws, drawn, each, for_each, gives, has_heard, has_round, has_turn, hears, hears_all, is_refused, one_if, opens, repeats, sends, sends_some, shows, stop, takes, ticks, word}

@@ -10,7 +10,7 @@ use Rattle.replay_text.specs.declared.row.Row.{Row}
 use Rattle.replay_text.specs.declared.row.Row.TheVariants.{Open, Tick, Rx, Send, Ext, Crash}
 use Rattle.cluster_spec.specs.Cluster.{cluster, after_row}
 use Rattle.cluster_spec.specs.Report.{line_of_row}
-use Rattle.cluster_spec.specs.ReportLine.{is_stop}
+use Rattle.replay_text.specs.ReportLine.{is_stop}
 use Rattle.cmd_soak.specs.Growth.{Fits, Grows, growth, room_for}
 use Rattle.cmd_soak.specs.Requests.{request}
 use Rattle.cmd_soak.specs.Rounds.{Soak, arms, arms_by_chance, asks_in_time, begins, draws, drawn, each, for_each, gives, has_heard, has_round, has_turn, hears, hears_all, is_refused, members, one_if, opens, repeats, seeded, sends, sends_some, shows, takes, ticks, word}

@@ -7,7 +7,7 @@ use Rattle.replay_text.specs.declared.row.Row.TheVariants.{Open, Tick, Rx, Send,
 use Rattle.cluster_spec.specs.Cluster.{Cluster, cluster, after_row}
 use Rattle.cluster_spec.specs.Lawful.{cause}
 use Rattle.cluster_spec.specs.Report.{line_of_row, view_at}
-use Rattle.cluster_spec.specs.ReportLine.{is_stop}
+use Rattle.replay_text.specs.ReportLine.{is_stop}
 use Rattle.cmd_soak.specs.Requests.{request}
 use Rattle.cmd_soak.specs.declared.turn.Turn.{Turn}
 use Rattle.cmd_soak.specs.declared.turn.Turn.TheVariants.{Open as Opening, Tick as Ticking, Hear as Hearing, Send as Sending}

@@ -1,34 +1,22 @@
 -- What the code of a soak stands for.
-use Rattle.std.specs.Prelude.{◌≡◌, ◌<◌, ◌^◌, ℕ, Bool, true, false, List, Option}
+use Rattle.std.specs.Prelude.{◌≡◌, ◌<◌, ◌^◌, ℕ, Bool, true, false, Option}
 use Rattle.std.specs.Borrow.{RattleType}
-use Rattle.allocatee.specs.Accepted as device
-use Rattle.alloc_spec.specs.Accepted as accepted
+use Rattle.cluster_spec.specs.Receivers.{AllocateeReceives, MemberReceives}
 use Rattle.bus_world.specs.World.{StandsFor as IsWorld, accepts, allocatees_accept, frame_room}
 use Rattle.bus_world.specs.declared.world.World.{World}
 use Rattle.can_frame.specs.declared.identifier.Kind.{Kind}
-use Rattle.transfer_rx.specs.Acceptance.{AnswersByRows}
-use Rattle.transfer_rx.specs.Memory.{ReceiverFitsInMemory}
-use Rattle.transfer_rx.specs.declared.accept.AcceptRow.{AcceptRow}
 use Rattle.cmd_soak.specs.Growth.{Fits}
 use Rattle.replay_text.specs.declared.row.Row.{Row}
 use Rattle.cmd_soak.specs.Rounds.{Soak, is_refused, takes}
 use Rattle.cmd_soak.specs.declared.soaking.Soaking.{Soaking}
 
--- a receiver with this closure fits in memory; the closure may be called, and answers by the rows
-pub record Receives {F : Type 0} (row : RattleType) (sessions blocks : ℕ) (rows : List AcceptRow)
-    (may_call : F → Type 0) (answers : F → Kind → ℕ → Option ℕ → Type 0) (accept : F) : Type 0 where
-  pub memory : ReceiverFitsInMemory row sessions blocks
-  pub callable : may_call accept
-  pub by_rows : AnswersByRows (answers accept) rows
-
 module _ {F G : Type 0} where
-  -- so it is with the receivers of the members of a world, and with those of its allocatees
+  -- the receivers of the members of a world have such closures, and those of its allocatees
   abbrev pub MembersReceive : RattleType → (F → Type 0) → (F → Kind → ℕ → Option ℕ → Type 0) → World F G → Type 0
-  MembersReceive row may_call answers world = Receives row 160 128 accepted.rows may_call answers (accepts world)
+  MembersReceive row may_call answers world = MemberReceives row may_call answers (accepts world)
 
   abbrev pub AllocateesReceive : RattleType → (G → Type 0) → (G → Kind → ℕ → Option ℕ → Type 0) → World F G → Type 0
-  AllocateesReceive row may_call answers world =
-      Receives row 8 8 device.rows may_call answers (allocatees_accept world)
+  AllocateesReceive row may_call answers world = AllocateeReceives row may_call answers (allocatees_accept world)
 
   pub record StandsFor (soaking : Soaking F G) (s : Soak) : Type 0 where
     pub world : IsWorld soaking.world s.world

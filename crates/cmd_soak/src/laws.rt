@@ -1,6 +1,7 @@
 //! What holds of every soak, each the contract of a function that does nothing.
 
 ghost use Rattle.std.specs.Prelude.{◌≡◌, ℕ, ◌≤◌, Bool, List, is_some};
+ghost use Rattle.can_frame.specs.Sizes.{most_members};
 ghost use Rattle.raft_model.specs.Lists.{In};
 ghost use Rattle.replay_text.specs.declared.row.Row.{Row};
 ghost use Rattle.cluster_spec.specs.Cluster.{AreMembers, world_of};
@@ -12,7 +13,7 @@ ghost use Rattle.cmd_soak.specs.Rounds.{members, soaked};
 /// The rows that a soak took are lawful rows of a cluster, one after another, and lead to the world in
 /// which it ends. None of them lets a call of a disk fail.
 pub fn rows_are_lawful()
-    ensures members { (size : ℕ) → 1 ≤ size → size ≤ 5 → AreMembers (members size) }
+    ensures members { (size : ℕ) → 1 ≤ size → size ≤ most_members → AreMembers (members size) }
     ensures rows { (told : Bool) (seed rounds size : ℕ) →
         IsLed (members size) (soaked told seed rounds size) }
 {}

@@ -1,5 +1,6 @@
 ghost use Rattle.std.specs.Prelude.{◌≡◌, ◌≤◌, ◌<◌, ◌*◌, ◌^◌, ◌⊎◌};
 ghost use Rattle.std.specs.Io.KnownBytes.{Appends};
+ghost use Rattle.can_frame.specs.Sizes.{most_members};
 ghost use Rattle.outside.specs.Faults.{Rose};
 ghost use Rattle.cmd_base.specs.Output.{WritesFront};
 ghost use Rattle.allocatee.specs.Accepted as device;
@@ -40,7 +41,7 @@ pub fn soak<K: Sink>(
 ) -> Status
     requires rounds { rounds ≤ 20000 }
     requires least { 1 ≤ size }
-    requires most { size ≤ 5 }
+    requires most { size ≤ most_members }
     ensures end { IsEnd result }
     ensures report { result ≡ Status.Done →
         Appends (K.written sink.old) (K.written sink.new) (soak_report told seed rounds size) }

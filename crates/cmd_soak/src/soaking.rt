@@ -1,8 +1,9 @@
 ghost use Rattle.std.specs.Prelude.{◌≡◌, ◌≤◌, ◌<◌, ◌*◌, ℕ, List, length};
+ghost use Rattle.can_frame.specs.Sizes.{most_members};
 ghost use Rattle.disk_model.specs.Pattern.{IsUsable};
 ghost use Rattle.outside.specs.declared.pattern.Pattern.{Pattern};
 ghost use Rattle.replay_text.specs.declared.row.Row.TheVariants.{AOpen, Crash};
-ghost use Rattle.cluster_spec.specs.ReportLine.{is_stop as tells_of_stop, report_line_of};
+ghost use Rattle.replay_text.specs.ReportLine.{is_stop as tells_of_stop, report_line_of};
 ghost use Rattle.cmd_soak.specs.Counts.{counts_of};
 ghost use Rattle.cmd_soak.specs.Rounds.{Soak, asks_in_time, each, for_each, gives, has_round, shows as is_shown};
 
@@ -97,7 +98,7 @@ impl<F: Fn(Kind, u16) -> Option<u64> + Copy, G: Fn(Kind, u16) -> Option<u64> + C
         requires room { HasRoom (rounds * 41) (rounds * 274877906944) self.old }
         requires rounds { rounds ≤ 20000 }
         requires least { 1 ≤ size }
-        requires most { size ≤ 5 }
+        requires most { size ≤ most_members }
         ensures stands { Does (for_each (has_round size) 1 rounds) self.old self.new }
         ensures keeps { Keeps self.old self.new }
     {
@@ -113,7 +114,7 @@ impl<F: Fn(Kind, u16) -> Option<u64> + Copy, G: Fn(Kind, u16) -> Option<u64> + C
         requires room { HasRoom 41 274877906944 self.old }
         requires number { number ≤ 20000 }
         requires least { 1 ≤ size }
-        requires most { size ≤ 5 }
+        requires most { size ≤ most_members }
         ensures stands { Does (has_round size number) self.old self.new }
         ensures keeps { Keeps self.old self.new }
     {

@@ -1,4 +1,5 @@
 ghost use Rattle.std.specs.Prelude.{◌≤◌};
+ghost use Rattle.can_frame.specs.Sizes.{most_members};
 ghost use Rattle.cmd_soak.specs.Growth.{room_for};
 ghost use Rattle.cmd_soak.specs.Rounds.{each, has_turn, opens, sends_some, ticks};
 
@@ -34,7 +35,7 @@ impl<F: Fn(Kind, u16) -> Option<u64> + Copy, G: Fn(Kind, u16) -> Option<u64> + C
         requires members { MembersReceive F.row F.IsAlwaysCallable F.post self.old.world }
         requires allocatees { AllocateesReceive G.row G.IsAlwaysCallable G.post self.old.world }
         requires room { HasRoom (room_for turn 5) 42949672960 self.old }
-        requires size { size ≤ 5 }
+        requires size { size ≤ most_members }
         ensures stands { Does (each turn size) self.old self.new }
         ensures keeps { Keeps self.old self.new }
     {

@@ -3,11 +3,12 @@
 --   uint8 configured_cluster_size   one byte
 --   uint8[<=5] known_nodes          what is left
 use Rattle.std.specs.Prelude.{◌≡◌, ℕ, ◌≤◌, nat_le, List, [], ◌∷◌, length, Option, Some, None, if◌then◌else◌}
+use Rattle.can_frame.specs.Sizes.{most_members}
 use Rattle.dsdl_codec.specs.declared.discovery.Discovery.{Discovery}
 
 -- the values that have bytes
 abbrev pub IsDiscovery : Discovery → Type 0
-IsDiscovery discovery = length discovery.known.items ≤ 5
+IsDiscovery discovery = length discovery.known.items ≤ most_members
 
 -- the bytes of a value
 abbrev pub discovery_bytes : Discovery → List ℕ
@@ -22,4 +23,4 @@ pub record SpellsDiscovery (discovery : Discovery) (bytes : List ℕ) : Type 0 w
 abbrev pub discovery_of : List ℕ → Option Discovery
 discovery_of [] = None
 discovery_of (size ∷ rest) =
-    if nat_le (length rest) 5 then Some (record { size = size; known = record { items = rest } }) else None
+    if nat_le (length rest) most_members then Some (record { size = size; known = record { items = rest } }) else None

@@ -4,6 +4,7 @@ ghost use Rattle.arrayvec.specs.ArrayVec.{array_vec_len};
 use crate::numbers::{Numbers, append_counted};
 use crate::payload::{Payload, append};
 use arrayvec::ArrayVec;
+use can_frame::sizes::MOST_MEMBERS;
 
 /// What allocators of one cluster tell each other until all know all
 /// (`uavcan.protocol.dynamic_node_id.server.Discovery`).
@@ -13,7 +14,7 @@ pub struct Discovery {
     pub size: u8,
 
     /// The node IDs of those that the sender knows, itself among them.
-    pub known: ArrayVec<u8, 5>,
+    pub known: ArrayVec<u8, MOST_MEMBERS>,
 }
 
 impl Discovery {

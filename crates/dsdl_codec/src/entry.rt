@@ -3,6 +3,7 @@
 ghost use Rattle.std.specs.Prelude.{◌≡◌, ◌≤◌, ◌<◌, ◌+◌, ◌++◌, Some, IfSome, Option};
 ghost use Rattle.arrayvec.specs.ArrayVec.{array_vec_len};
 ghost use Rattle.can_frame.specs.declared.entry.Entry.{Entry};
+ghost use Rattle.can_frame.specs.Sizes.{longest_payload};
 ghost use Rattle.dsdl_codec.specs.Entry.{SpellsEntry, SpellsOptionalEntry, entry_bytes, entry_of, optional_entry_of};
 
 use crate::payload::{Payload, append};
@@ -42,7 +43,7 @@ pub fn read_optional_entry(bytes: &[u8]) -> Option<Option<Entry>>
 
 /// Appends the 21 bytes of an entry.
 pub fn append_entry(payload: &mut Payload, entry: &Entry)
-    requires room { array_vec_len payload.old + 21 ≤ 376 }
+    requires room { array_vec_len payload.old + 21 ≤ longest_payload }
     requires node { entry.now.node < 128 }
     ensures items { payload.new.items ≡ payload.old.items ++ entry_bytes entry.now 0 }
     ensures spelled { SpellsEntry entry.now (entry_bytes entry.now 0) }

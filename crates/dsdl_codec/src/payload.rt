@@ -3,16 +3,18 @@
 
 ghost use Rattle.std.specs.Prelude.{◌≡◌, ◌≤◌, ◌+◌, ◌++◌, ◌<◌, ◌↔◌, IfSome, IsNone, IsSomeAnd, List, ℕ, length, slice_index_or};
 ghost use Rattle.arrayvec.specs.ArrayVec.{array_vec_len};
+ghost use Rattle.can_frame.specs.Sizes.{longest_payload};
 ghost use Rattle.dsdl_codec.specs.Fields.{BeginsWith, BeginsWithCounted};
 
 use arrayvec::ArrayVec;
+use can_frame::sizes::LONGEST_PAYLOAD;
 
-/// The payload of a transfer: at most 376 bytes.
-pub type Payload = ArrayVec<u8, 376>;
+/// The payload of a transfer.
+pub type Payload = ArrayVec<u8, LONGEST_PAYLOAD>;
 
 /// Appends bytes for which there is room.
 pub fn append(payload: &mut Payload, bytes: &[u8])
-    requires { array_vec_len payload.old + length bytes.now ≤ 376 }
+    requires { array_vec_len payload.old + length bytes.now ≤ longest_payload }
     ensures items { payload.new.items ≡ payload.old.items ++ bytes.now }
     ensures len { array_vec_len payload.new ≡ array_vec_len payload.old + length bytes.now }
 {

@@ -107,28 +107,6 @@ count_more old mid rest count (Some x) tail some counts = go (nat_le (length old
       told (tail x.1) (rw back counts)
   go false e = absurd (let h = rw e at some in cc)
 
-insert_seam : (a b : List ℕ) (x : ℕ) → insert (a ++ b) (length a) x ≡ a ++ x ∷ b
-insert_seam a b x = rw (take-append_seam a b, drop-append_seam a b) refl
-
--- a tail with its count in front of the numbers
-pub counted_tail : (old mid : List ℕ) (rest : List Bool) (count : ℕ) (tail : Option (ℕ × List ℕ × List Bool)) → behind old (elements tail) ≡ Some (mid, rest)
-    → tail_count tail ≡ Some count → length mid < 400
-    → behind old (tail >>= λ x. Some (x.0 ∷ x.1, x.2)) ≡ Some (insert mid (length old) count, rest)
-counted_tail old mid rest count None gives counts room = absurd (cc)
-counted_tail old mid rest count (Some x) gives counts room = go (nat_le (length old + length x.1) 400) refl where
-  go : (b : Bool) → nat_le (length old + length x.1) 400 ≡ b
-      → behind old (Some (x.0 ∷ x.1, x.2)) ≡ Some (insert mid (length old) count, rest)
-  go true e =
-      let h = rw e at gives in
-      let front : old ++ x.1 ≡ mid = ap numbers_read h in
-      let back : x.2 ≡ rest = ap bits_left h in
-      let first : x.0 ≡ count = ap (λ o. unwrap_or o 0) counts in
-      let size : length old + suc (length x.1) ≤ 400 = omega (arith, ap length front, length-append old x.1) in
-      let same : old ++ x.0 ∷ x.1 ≡ insert mid (length old) count =
-      ap (λ n. old ++ n ∷ x.1) first ∙ sym (insert_seam old x.1 count) ∙ ap (λ m. insert m (length old) count) front in
-      rw (le-leb (length old + suc (length x.1)) 400 size, same, back) refl
-  go false e = absurd (let h = rw e at gives in cc)
-
 -- a field with more behind it is not the last one
 pub part_more : (types : List DataType) (field : Field) (fields : List Field) (bits : List Bool) → 0 < length fields
     → read_part (part_layout types (field ∷ fields)) bits ≡ then (reads (field_layout types field) bits) (read_part (part_layout types fields))

@@ -97,17 +97,6 @@ length-sizes sections = length-map (types_of sections) (λ type. size_of (joined
 pub sizes_push : (types : List DataType) (type : DataType) → sizes_in (types ++ type ∷ []) ≡ sizes_in types ++ size_of (joined type.first) ∷ []
 sizes_push types type = map-append (λ t. size_of (joined t.first)) types (type ∷ [])
 
--- the size at a place
-pub size_there : (types : List DataType) (place : ℕ) → slice_get (sizes_in types) place ≡ None → size_of (first_layout (slice_get types place)) ≡ size_of nothing
-size_there [] place none = refl
-size_there (type ∷ types) zero none = absurd (cc)
-size_there (type ∷ types) (suc place) none = size_there types place none
-
-pub size_at : (types : List DataType) (place : ℕ) (size : Size) → slice_get (sizes_in types) place ≡ Some size → size_of (first_layout (slice_get types place)) ≡ size
-size_at [] place size some = absurd (cc)
-size_at (type ∷ types) zero size some = ap (λ o. unwrap_or o size) some
-size_at (type ∷ types) (suc place) size some = size_at types place size some
-
 take-kept : (types : List DataType) (a : List Section) (n : ℕ) → n ≤ length types → take n (types_onto types a) ≡ take n types
 take-kept types [] n within = refl
 take-kept types (section ∷ a) n within =

@@ -161,12 +161,6 @@ part_at_even types place = rw (half place, even place) refl
 pub part_at_odd : (types : List DataType) (place : ℕ) → part_at types (2 * place + 1) ≡ option_and_then (part_of 2) (slice_get types place)
 part_at_odd types place = rw (half_and place, odd place) refl
 
-pub first_part : (types : List DataType) (section : Section) → part_of 1 (type_of types section) ≡ Some (part_layout types section.first.items)
-first_part types section = refl
-
-pub second_part : (types : List DataType) (section : Section) → part_of 2 (type_of types section) ≡ option_map (λ part. part_layout types part.items) section.second
-second_part types section = refl
-
 pub types_of_push : (a : List Section) (section : Section) → types_of (a ++ section ∷ []) ≡ types_of a ++ type_of (types_of a) section ∷ []
 types_of_push a section = types_onto-append [] a (section ∷ [])
 

@@ -1,14 +1,19 @@
-ghost use Rattle.std.specs.Prelude.{◌≡◌, ◌<◌, ◌≤◌, ◌+◌, ◌^◌, ◌++◌, length};
+ghost use Rattle.std.specs.Prelude.{◌≡◌, ◌<◌, ◌≤◌, ◌+◌, ◌*◌, ◌^◌, ◌++◌, length};
+ghost use Rattle.can_frame.specs.Sizes.{longest_payload};
 ghost use Rattle.dsdl_text.specs.Numbers as numbers;
 
 use arrayvec::ArrayVec;
+use can_frame::sizes::LONGEST_PAYLOAD;
+
+/// No payload has more bits.
+const MOST_BITS: usize = 8 * LONGEST_PAYLOAD;
 
 /// The bits of a payload.
-pub type Bits = ArrayVec<bool, 3008>;
+pub type Bits = ArrayVec<bool, MOST_BITS>;
 
 /// The bits of a payload, those of each byte from the high one.
 pub fn bits_of(payload: &[u8]) -> Bits
-    requires { length payload.now ≤ 376 }
+    requires { length payload.now ≤ longest_payload }
     ensures { result.items ≡ numbers.bits_of payload.now }
 {
     let mut bits = ArrayVec::new();
@@ -20,7 +25,7 @@ pub fn bits_of(payload: &[u8]) -> Bits
 
 /// Appends the bits of a byte, from the high one.
 fn push_byte(bits: &mut Bits, byte: u8)
-    requires { length bits.old.items + 8 ≤ 3008 }
+    requires { length bits.old.items + 8 ≤ 8 * longest_payload }
     ensures items { bits.new.items ≡ bits.old.items ++ numbers.byte_bits byte }
     ensures len { length bits.new.items ≡ length bits.old.items + 8 }
 {

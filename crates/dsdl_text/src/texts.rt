@@ -1,5 +1,6 @@
 ghost use Rattle.std.specs.Prelude.{◌≡◌, ◌≤◌, ◌+◌, ◌++◌, List, length, Some, None, IfSome, IsNone, IsSome};
 ghost use Rattle.std.specs.Option.{option_map, option_to_list};
+ghost use Rattle.can_frame.specs.Sizes.{longest_payload};
 ghost use Rattle.dsdl_text.specs.Layout.{Layout};
 ghost use Rattle.dsdl_text.specs.Numbers as numbers;
 ghost use Rattle.dsdl_text.specs.Sections.{count_of, latest_of, part_at, part_layout, part_named, types_of};
@@ -58,7 +59,7 @@ impl Texts {
     /// 400 numbers.
     pub fn decode(&self, at: usize, payload: &[u8]) -> Option<Numbers>
         requires at { IsSome (part_at (data_types self.now) at) }
-        requires size { length payload.now ≤ 376 }
+        requires size { length payload.now ≤ longest_payload }
         ensures { (part : List Layout) → part_at (data_types self.now) at ≡ Some part →
             option_map (λ found. found.items) result ≡ numbers.numbers_of part payload.now }
     {
@@ -85,7 +86,7 @@ fn find_in(sections: &[Section], name: &[u8], part: u8) -> Option<usize>
 fn decode_in(sections: &[Section], at: usize, payload: &[u8]) -> Option<Numbers>
     requires few { length sections.now ≤ 16 }
     requires at { IsSome (part_at (types_of sections.now) at) }
-    requires size { length payload.now ≤ 376 }
+    requires size { length payload.now ≤ longest_payload }
     ensures { (part : List Layout) → part_at (types_of sections.now) at ≡ Some part →
         option_map (λ found. found.items) result ≡ numbers.numbers_of part payload.now }
 {
@@ -104,7 +105,7 @@ fn decode_in(sections: &[Section], at: usize, payload: &[u8]) -> Option<Numbers>
 /// The numbers of a payload under a part, whose types are these.
 fn numbers_under(earlier: &[Section], part: &Part, payload: &[u8]) -> Option<Numbers>
     requires few { length earlier.now ≤ 16 }
-    requires size { length payload.now ≤ 376 }
+    requires size { length payload.now ≤ longest_payload }
     ensures { option_map (λ found. found.items) result
         ≡ numbers.numbers_of (part_layout (types_of earlier.now) part.now.items) payload.now }
 {
@@ -116,7 +117,7 @@ fn numbers_under(earlier: &[Section], part: &Part, payload: &[u8]) -> Option<Num
 /// The numbers of a payload under a part, by its types and their sizes.
 fn numbers_by(types: &[Section], sizes: &[Size], part: &Part, payload: &[u8]) -> Option<Numbers>
     requires sizes { sizes.now ≡ sizes_in (types_of types.now) }
-    requires size { length payload.now ≤ 376 }
+    requires size { length payload.now ≤ longest_payload }
     ensures { option_map (λ found. found.items) result
         ≡ numbers.numbers_of (part_layout (types_of types.now) part.now.items) payload.now }
 {

@@ -3,7 +3,7 @@ use Rattle.std.proofs.Common.{◌≡◌, ℕ, List, [], ◌∷◌, Option, Some,
 use Rattle.std.specs.Prelude.{codes}
 use Rattle.std.specs.Fmt.{digits}
 use Rattle.dsdl_text.specs.declared.line.Line.{Line}
-use Rattle.dsdl_text.specs.declared.profile.TheConstants.{PROFILE}
+use Rattle.dsdl_text_codec_laws.specs.declared.text.TheConstants.{PROFILE}
 use Rattle.dsdl_text.specs.Layout.{Layout}
 use Rattle.dsdl_text.specs.Sections.{part_named}
 use Rattle.dsdl_text.specs.Text.{TakesLines, Text, no_text, types_in}

@@ -1,6 +1,7 @@
 ghost use Rattle.std.specs.Prelude.{◌≡◌, ◌≤◌, ◌==◌, length, None};
 ghost use Rattle.std.specs.List.{position_or_len};
 ghost use Rattle.std.specs.Option.{option_map};
+ghost use Rattle.can_frame.specs.Sizes.{longest_payload};
 ghost use Rattle.dsdl_text.specs.declared.line.Line.{Line};
 ghost use Rattle.dsdl_text.specs.Lines.{Reads};
 ghost use Rattle.dsdl_text.specs.Reader.{data_types, text_of};
@@ -9,8 +10,9 @@ ghost use Rattle.dsdl_text_codec_laws.specs.Codecs.{codec_numbers};
 ghost use Rattle.dsdl_text_codec_laws.specs.Profile.{EndsAs, profile};
 
 use crate::codec::Codec;
+use crate::text::PROFILE;
 use dsdl_codec::Numbers;
-use dsdl_text::{PROFILE, TextReader, Texts};
+use dsdl_text::{TextReader, Texts};
 
 /// The types of the profile, read from its text.
 pub fn profile_types() -> Texts
@@ -25,7 +27,7 @@ pub fn profile_types() -> Texts
 /// `None` exactly where it reads none.
 pub fn numbers_by_text(texts: &Texts, codec: Codec, payload: &[u8]) -> Option<Numbers>
     requires profile { data_types texts.now ≡ types_in profile }
-    requires size { length payload.now ≤ 376 }
+    requires size { length payload.now ≤ longest_payload }
     ensures { option_map (λ found. found.items) result ≡ codec_numbers codec payload.now }
 {
     match texts.find(codec.type_name(), codec.part()) {

@@ -15,7 +15,7 @@ ghost use Rattle.dsdl_text.specs.Text.{Text};
 ghost use Rattle.dsdl_text_codec_laws.specs.Profile.{IsText, ReadAs, TextGivesNumbers, lines_of, profile};
 ghost use Rattle.dsdl_text_codec_laws.specs.Published.{profile_lines};
 
-use dsdl_text::PROFILE;
+use crate::text::PROFILE;
 
 /// The lines of the profile are these, each with its names and numbers; none has a fault, and these are its types.
 pub fn the_profile_is_a_text()

@@ -8,6 +8,8 @@
 mod calls;
 mod codec;
 pub mod laws;
+mod text;
 
 pub use calls::{numbers_by_text, profile_types};
 pub use codec::Codec;
+pub use text::PROFILE;

@@ -3,11 +3,12 @@ ghost use Rattle.std.specs.Option.{option_or};
 ghost use Rattle.id_selector.specs.Choice.{preference, upwards, downwards, is_free, chosen, IsFree, NoneFreeFrom, IsChoice};
 
 use can_frame::NodeId;
+use can_frame::sizes::NODE_IDS;
 
 /// Chooses a node ID of 1 to 125 for a device that would like `preferred`: the least free one from
 /// there up to 125, else the greatest free one below. A preference of 0 or above 125 counts as 125.
 /// `taken` says of each number whether a node has it; `None` where 1 to 125 are all taken.
-pub fn choose(taken: &[bool; 128], preferred: u8) -> Option<NodeId>
+pub fn choose(taken: &[bool; NODE_IDS], preferred: u8) -> Option<NodeId>
     ensures chosen { result ≡ chosen taken.now preferred }
     ensures choice { IsChoice taken.now preferred result }
     ensures free { IfSome result (λ id. IsFree taken.now id) }
@@ -28,7 +29,7 @@ fn counted(preferred: u8) -> u8
     }
 }
 
-fn first_free(taken: &[bool; 128], from: u8) -> Option<NodeId>
+fn first_free(taken: &[bool; NODE_IDS], from: u8) -> Option<NodeId>
     requires least { 1 ≤ from }
     requires most { from ≤ 125 }
     ensures { result
@@ -38,7 +39,7 @@ fn first_free(taken: &[bool; 128], from: u8) -> Option<NodeId>
     first_up(taken, from).or_else(|| first_down(taken, from))
 }
 
-fn first_up(taken: &[bool; 128], from: u8) -> Option<NodeId>
+fn first_up(taken: &[bool; NODE_IDS], from: u8) -> Option<NodeId>
     requires { 1 ≤ from }
     ensures { result ≡ find (is_free taken.now) (upwards from) }
 {
@@ -50,7 +51,7 @@ fn first_up(taken: &[bool; 128], from: u8) -> Option<NodeId>
     None
 }
 
-fn first_down(taken: &[bool; 128], from: u8) -> Option<NodeId>
+fn first_down(taken: &[bool; NODE_IDS], from: u8) -> Option<NodeId>
     requires { from ≤ 125 }
     ensures { result ≡ find (is_free taken.now) (downwards (from - 1)) }
 {

@@ -6,12 +6,16 @@
 #![tactic(auto)]
 
 ghost use Rattle.std.specs.Prelude.{◌≡◌, ◌≤◌, ◌<◌, [], Some, length, take};
+ghost use Rattle.can_frame.specs.Sizes.{longest_payload, most_members};
 ghost use Rattle.cmd_base.specs.Codes.{status_code};
 ghost use Rattle.cmd_bus_logs.specs.Converted.{Converts};
 ghost use Rattle.cmd_bus_logs.specs.Watched.{Watches};
 ghost use Rattle.cmd_decode.specs.Ends.{Decodes};
 ghost use Rattle.log_page.specs.Came.{Came};
+ghost use Rattle.log_page.specs.Forms.{form_of};
 
+use can_frame::sizes::{LONGEST_PAYLOAD, MOST_MEMBERS};
+use can_logs::Form;
 use cmd_base::Status;
 use cmd_bus_logs::{convert, watch};
 use cmd_decode::decode;
@@ -36,17 +40,18 @@ pub extern "C" fn log_page_watch(
     report: &mut [u8],
     answer: &mut Answer,
 )
-    ensures watches { lines ≤ 1000000 → length ids.now ≤ 5 → Came (λ left read wrote whole status.
-        Watches candump lines ids.now (Some log.now) left 0 read 0 wrote
+    ensures watches { lines ≤ 1000000 → length ids.now ≤ most_members → Came (λ left read wrote whole status.
+        Watches (form_of candump) lines ids.now (Some log.now) left 0 read 0 wrote
         (Some []) (Some whole) status) report.new answer.new.status answer.new.len }
 {
-    if lines > 1000000 || ids.len() > 5 {
+    if lines > 1000000 || ids.len() > MOST_MEMBERS {
         *answer = refused();
         return;
     }
     let mut source = MemorySource::new(log, None);
     let mut sink = ArraySink::new();
-    let status = watch(candump, lines, ids, &mut source, &mut sink);
+    let form = form_of(candump);
+    let status = watch(form, lines, ids, &mut source, &mut sink);
     *answer = told(status, sink.written(), report);
 }
 
@@ -61,7 +66,7 @@ pub extern "C" fn log_page_convert(
     answer: &mut Answer,
 )
     ensures converts { lines ≤ 1000000 → Came (λ left read wrote whole status.
-        Converts from_candump to_candump lines (Some log.now) left 0 read 0 wrote
+        Converts (form_of from_candump) (form_of to_candump) lines (Some log.now) left 0 read 0 wrote
         (Some []) (Some whole) status) report.new answer.new.status answer.new.len }
 {
     if lines > 1000000 {
@@ -70,7 +75,9 @@ pub extern "C" fn log_page_convert(
     }
     let mut source = MemorySource::new(log, None);
     let mut sink = ArraySink::new();
-    let status = convert(from_candump, to_candump, lines, &mut source, &mut sink);
+    let from = form_of(from_candump);
+    let to = form_of(to_candump);
+    let status = convert(from, to, lines, &mut source, &mut sink);
     *answer = told(status, sink.written(), report);
 }
 
@@ -84,11 +91,11 @@ pub extern "C" fn log_page_decode(
     report: &mut [u8],
     answer: &mut Answer,
 )
-    ensures decodes { length payload.now ≤ 376 → Came (λ left read wrote whole status.
+    ensures decodes { length payload.now ≤ longest_payload → Came (λ left read wrote whole status.
         Decodes name.now part payload.now (Some text.now) left 0 read 0 wrote
         (Some []) (Some whole) status) report.new answer.new.status answer.new.len }
 {
-    if payload.len() > 376 {
+    if payload.len() > LONGEST_PAYLOAD {
         *answer = refused();
         return;
     }
@@ -96,6 +103,13 @@ pub extern "C" fn log_page_decode(
     let mut sink = ArraySink::new();
     let status = decode(name, part, payload, &mut source, &mut sink);
     *answer = told(status, sink.written(), report);
+}
+
+/// The form that a caller names.
+fn form_of(candump: bool) -> Form
+    ensures { result ≡ form_of candump }
+{
+    if candump { Form::Candump } else { Form::Slcan }
 }
 
 /// Puts a report into the room for it, where it fits.

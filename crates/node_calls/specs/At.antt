@@ -4,6 +4,7 @@ use Rattle.std.specs.Option.{unwrap_or}
 use Rattle.std.specs.Int.{from_le_bytes, to_le_bytes, w64}
 use Rattle.can_frame.specs.declared.step.Role.{Role}
 use Rattle.can_frame.specs.declared.step.Role.TheVariants.{Follower, Candidate, Leader}
+use Rattle.can_frame.specs.Sizes.{most_members}
 use Rattle.alloc_server.specs.Server.{StandsFor, disk_of, durable_of, fault_of, queued}
 use Rattle.alloc_spec.specs.AllocatorState.{AllocatorState, entry_of, opening, view_of}
 use Rattle.alloc_spec.specs.Rules.{IsToldAll, rules_by, with_told}
@@ -56,7 +57,7 @@ first_bytes count word = take count (to_le_bytes w64 word)
 -- ---- a node that is made: of this ID, in a cluster of this size, where these are possible; it is not open
 
 pub record IsNew (node : Node) (id size : ℕ) : Type 0 where
-  pub made : IsSome node.server ↔ ((1 ≤ id) × ((id ≤ 125) × ((1 ≤ size) × (size ≤ 5))))
+  pub made : IsSome node.server ↔ ((1 ≤ id) × ((id ≤ 125) × ((1 ≤ size) × (size ≤ most_members))))
   pub its_id : IsSome node.server → node.id ≡ id
   pub its_size : IsSome node.server → node.size ≡ size
   pub closed : IsSome node.server → IsClosed node

@@ -1,11 +1,13 @@
 ghost use Rattle.std.specs.Prelude.{◌≡◌, ◌≤◌, ◌↔◌, IsTrue, slice_index, ℕ};
 ghost use Rattle.std.specs.Int.{from_le_bytes, w64};
+ghost use Rattle.can_frame.specs.Sizes.{most_members};
 ghost use Rattle.alloc_spec.specs.Accepted as accepted;
 ghost use Rattle.alloc_spec.specs.Rules.{IsToldAll, rules_by};
 ghost use Rattle.raft_model.specs.Lists.{In};
 ghost use Rattle.transfer_rx.specs.Acceptance.{first_signature};
 
 use alloc_server::{Event, Role, Server, accept_rows};
+use can_frame::sizes::MOST_MEMBERS;
 use can_frame::{Entry, Kind};
 use cluster_spec::are_members;
 use fd_disk::FdDisk;
@@ -46,7 +48,7 @@ pub struct Node {
     ghost least: { 1 ≤ id },
     ghost most: { id ≤ 125 },
     ghost some: { 1 ≤ size },
-    ghost five: { size ≤ 5 },
+    ghost five: { size ≤ most_members },
 }
 
 impl Node {
@@ -58,7 +60,7 @@ impl Node {
     pub fn closed(id: u32, size: u32, fd: u32) -> Node
         ensures new { IsNew result id size }
     {
-        if id < 1 || 125 < id || size < 1 || 5 < size {
+        if id < 1 || 125 < id || size < 1 || size > MOST_MEMBERS as u32 {
             return Node {
                 server: None,
                 id: 1,
@@ -227,7 +229,7 @@ fn accept(kind: Kind, number: u16) -> Option<u64>
 /// Whether these may be all members of a cluster of this size, with this one among them.
 fn are_all_members(members: &[u8], me: u8, size: u8) -> bool
     requires some { 1 ≤ size }
-    requires five { size ≤ 5 }
+    requires five { size ≤ most_members }
     ensures { IsTrue result ↔ IsToldAll me (rules_by size members.now) }
 {
     if members.len() != size as usize {

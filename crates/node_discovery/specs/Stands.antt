@@ -1,5 +1,6 @@
 -- Which events the table of the code stands for.
 use Rattle.std.specs.Prelude.{ℕ, ◌≡◌, ◌<◌, ◌≤◌, List, [], min, slice_index_or}
+use Rattle.can_frame.specs.Sizes.{node_ids}
 use Rattle.node_discovery.specs.declared.node.Node.{Node}
 use Rattle.node_discovery.specs.declared.watch.Watch.{Watch}
 use Rattle.node_discovery.specs.Heard.{heard}
@@ -18,7 +19,7 @@ pub record Tells (node : Node) (events : List Event) : Type 0 where
 -- each node by its place in the table, and the nodes that were heard on the list; a number that has no place has no
 -- event, and no status was taken but from 1 to 125
 pub record StandsFor (watch : Watch) (events : List Watched) : Type 0 where
-  pub nodes : (node : ℕ) (d : Node) → node < 128 → Tells (slice_index_or watch.nodes node d) (history node events)
-  pub others : (node : ℕ) → 128 ≤ node → history node events ≡ []
+  pub nodes : (node : ℕ) (d : Node) → node < node_ids → Tells (slice_index_or watch.nodes node d) (history node events)
+  pub others : (node : ℕ) → node_ids ≤ node → history node events ≡ []
   pub strangers : HearsDevicesAlone events
   pub heard : watch.heard.items ≡ heard events

@@ -1,11 +1,13 @@
 ghost use Rattle.std.specs.Prelude.{◌≡◌, ◌↔◌, ◌∷◌, ◌<◌, ◌≤◌, [], ℕ, Contains, IsTrue, List, true, false, length, slice_index_or};
 ghost use Rattle.arrayvec.specs.ArrayVec.{array_vec_len};
+ghost use Rattle.can_frame.specs.Sizes.{node_ids};
 ghost use Rattle.node_discovery.specs.Heard.{heard_count};
 
 use crate::counting::Counting;
 use crate::laws::silence_is_computed;
 use crate::node::Node;
 use arrayvec::ArrayVec;
+use can_frame::sizes::NODE_IDS;
 use can_frame::{NodeId, Uid};
 
 /// The nodes of the bus: who is online, who is to be asked for its unique ID, and who told which.
@@ -13,10 +15,10 @@ use can_frame::{NodeId, Uid};
 #[derive(Drop)]
 pub struct Watch {
     /// By node ID.
-    nodes: [Node; 128],
+    nodes: [Node; NODE_IDS],
 
     /// The nodes that a status was heard of, in the order of their first one.
-    heard: ArrayVec<u8, 128>,
+    heard: ArrayVec<u8, NODE_IDS>,
 
     ghost each_once: { array_vec_len heard ≡ heard_count nodes },
     ghost devices: { (i : ℕ) → i < length heard.items → slice_index_or heard.items i 0 ≤ 125 },
@@ -33,7 +35,7 @@ impl Watch {
         ensures { StandsFor result [] }
     {
         Watch {
-            nodes: [Node::new(); 128],
+            nodes: [Node::new(); NODE_IDS],
             heard: ArrayVec::new(),
         }
     }
@@ -70,7 +72,7 @@ impl Watch {
             StandsFor self.new (after_info events from transfer_id uid.now now) }
         ensures refused { result ≡ false → self.new ≡ self.old }
     {
-        if from > 127 || !self.nodes[from as usize].takes(transfer_id, now) {
+        if from as usize >= NODE_IDS || !self.nodes[from as usize].takes(transfer_id, now) {
             return false;
         }
         self.nodes[from as usize].take(uid, now);
@@ -93,17 +95,17 @@ impl Watch {
         ensures { (events : List Watched) → StandsFor self.now events →
             result ≡ is_online (history node events) now }
     {
-        node < 128 && self.nodes[node as usize].is_online(now)
+        (node as usize) < NODE_IDS && self.nodes[node as usize].is_online(now)
     }
 
     /// By node ID, who is online.
-    pub fn seen(&self, now: u64) -> [bool; 128]
+    pub fn seen(&self, now: u64) -> [bool; NODE_IDS]
         ensures { (events : List Watched) → StandsFor self.now events →
-            (node : ℕ) → node < 128 →
+            (node : ℕ) → node < node_ids →
             slice_index_or result node false ≡ is_online (history node events) now }
     {
-        let mut seen = [false; 128];
-        for node in 0..128 {
+        let mut seen = [false; NODE_IDS];
+        for node in 0..NODE_IDS {
             seen[node] = self.nodes[node].is_online(now);
         }
         seen
@@ -118,7 +120,7 @@ impl Watch {
             ↔ IsSilent counting (history node events) now }
     {
         silence_is_computed();
-        node < 128 && self.nodes[node as usize].is_silent(counting, now)
+        (node as usize) < NODE_IDS && self.nodes[node as usize].is_silent(counting, now)
     }
 
     /// The unique ID that the node told in its spell; `None` where it told none, or is offline.
@@ -126,7 +128,7 @@ impl Watch {
         ensures { (events : List Watched) → StandsFor self.now events →
             result ≡ identity (history node events) now }
     {
-        if node > 127 {
+        if node as usize >= NODE_IDS {
             return None;
         }
         self.nodes[node as usize].identity(now)
@@ -134,7 +136,7 @@ impl Watch {
 
     /// The least node that is to be asked for its unique ID: it is online, not known (`known` is by
     /// node ID), has not told it, and was not asked in the last 1,000 ms. `None` where there is none.
-    pub fn next_query(&self, known: &[bool; 128], now: u64) -> Option<NodeId>
+    pub fn next_query(&self, known: &[bool; NODE_IDS], now: u64) -> Option<NodeId>
         ensures computed { (events : List Watched) → StandsFor self.now events →
             result ≡ next_query events known.now now }
         ensures least { (events : List Watched) → StandsFor self.now events →
@@ -149,7 +151,7 @@ impl Watch {
     }
 
     /// Whether some node is online that is not known and has not told its unique ID.
-    pub fn unknown(&self, known: &[bool; 128], now: u64) -> bool
+    pub fn unknown(&self, known: &[bool; NODE_IDS], now: u64) -> bool
         ensures computed { (events : List Watched) → StandsFor self.now events →
             result ≡ some_unknown events known.now now }
         ensures some { (events : List Watched) → StandsFor self.now events → result ≡ true →
@@ -165,16 +167,16 @@ impl Watch {
         false
     }
 
-    fn is_unknown(&self, known: &[bool; 128], node: u8, now: u64) -> bool
-        requires { node < 128 }
+    fn is_unknown(&self, known: &[bool; NODE_IDS], node: u8, now: u64) -> bool
+        requires { node < node_ids }
         ensures { (events : List Watched) → StandsFor self.now events →
             result ≡ is_unknown events known.now node now }
     {
         self.nodes[node as usize].is_nameless(now) && !known[node as usize]
     }
 
-    fn is_due(&self, known: &[bool; 128], node: u8, now: u64) -> bool
-        requires { node < 128 }
+    fn is_due(&self, known: &[bool; NODE_IDS], node: u8, now: u64) -> bool
+        requires { node < node_ids }
         ensures { (events : List Watched) → StandsFor self.now events →
             result ≡ is_due events known.now node now }
     {

@@ -13,13 +13,13 @@ use Rattle.raft_model.specs.Moves.{memory_after}
 use Rattle.raft_model.specs.Moves.Appending.{matched_memory}
 use Rattle.raft_model.specs.Moves.Elections.{votes_with, counts, memory_without_call, has_quorum, is_leader, term_memory, term_puts, with_term}
 use Rattle.raft_model.specs.Moves.Move.{TakeAppendAnswer, TakeVoteAnswer}
-use Rattle.raft_model.specs.Server.{Memory, RaftServer, put_all, Role as MachineRole}
+use Rattle.raft_model.specs.Server.{Memory, RaftServer, put_all, Role as ModelRole}
 use Rattle.raft_model.specs.Server.Put.{PutTerm, PutVote}
 use Rattle.raft_core.specs.declared.raft.Raft.{Raft}
 use Rattle.raft_core.specs.Handled.{MakesMoves}
 use Rattle.raft_core.specs.Stands.{StandsFor, role_of}
 use Rattle.raft_core.specs.StoredPuts.{CallWrites, with_origin}
-use Rattle.raft_core.specs.Times.{Given, Times, end_call, end_vote_call, raise, step_down, win}
+use Rattle.raft_core.specs.Times.{HandedIn, Times, end_call, end_vote_call, raise, step_down, win}
 use Rattle.raft_core.proofs.Moving.{one_move}
 use Rattle.raft_core.proofs.VoteAnswer.{CountsVotes}
 
@@ -37,19 +37,19 @@ pub unraised : (raft : Raft) (members : List ℕ) (s : Stored) (p : RaftServer) 
     → StandsFor raft members s (record { store = with_term p.store term; memory = term_memory p term }) (raise now term p t) → StandsFor raft members s p t
 unraised raft members s p t now term low st = by_test (nat_lt p.store.term term) low st where
   by_test : (b : Bool) → b ≡ false → StandsFor raft members s
-      (record { store = put_all p.store (if b then PutTerm term ∷ PutVote None ∷ [] else []); memory = if b then record p.memory { role = MachineRole.Follower } else p.memory }) (if b then step_down now p.memory.role t else t) → StandsFor raft members s p t
+      (record { store = put_all p.store (if b then PutTerm term ∷ PutVote None ∷ [] else []); memory = if b then record p.memory { role = ModelRole.Follower } else p.memory }) (if b then step_down now p.memory.role t else t) → StandsFor raft members s p t
   by_test true e h = absurd (cc e)
   by_test false e h = h
 
 -- who is no Follower by then had no higher term
 pub not_higher : (p : RaftServer) (term : ℕ) (role : Role) → (term_memory p term).role ≡ role_of role → (role ≡ Follower → ⊥) → nat_lt p.store.term term ≡ false
 not_higher p term role same other = by_test (nat_lt p.store.term term) same where
-  follower : (x : Role) → MachineRole.Follower ≡ role_of x → x ≡ Follower
+  follower : (x : Role) → ModelRole.Follower ≡ role_of x → x ≡ Follower
   follower Follower h = refl
   follower Candidate h = absurd (cc h)
   follower Leader h = absurd (cc h)
 
-  by_test : (b : Bool) → (if b then record p.memory { role = MachineRole.Follower } else p.memory).role ≡ role_of role → b ≡ false
+  by_test : (b : Bool) → (if b then record p.memory { role = ModelRole.Follower } else p.memory).role ≡ role_of role → b ≡ false
   by_test true h = absurd (other (follower role h))
   by_test false h = refl
 
@@ -61,7 +61,7 @@ leader_stays raft raft2 stays leads = sym (stays (λ h. no_follower (sym leads �
 
 -- ---- exits
 
-module _ {D : Type 0} {disk : Ghosts D} (members : List ℕ) (m n : ℕ) (given : Given) (p : RaftServer) (t : Times) (a : Answer) (old new : Durable D disk) (raft2 : Raft) where
+module _ {D : Type 0} {disk : Ghosts D} (members : List ℕ) (m n : ℕ) (given : HandedIn) (p : RaftServer) (t : Times) (a : Answer) (old new : Durable D disk) (raft2 : Raft) where
   abbrev p1 : RaftServer
   p1 = record p { memory = memory_without_call p.memory a.from }
 
@@ -78,7 +78,7 @@ module _ {D : Type 0} {disk : Ghosts D} (members : List ℕ) (m n : ℕ) (given 
       (subst (λ (x : Times). StandsFor raft2 members (durable_state new) (record { store = with_term p.store a.term; memory = memory_after members m n p (TakeVoteAnswer a) }) x)
       (skip higher (counts p a && has_quorum members (votes_with p.memory a)) (step_down given.now p.memory.role (end_vote_call a.from t)) (win (end_vote_call a.from t)) (end_vote_call a.from t) (λ low. and_false (counts p a) _ (none low)))
       (subst (λ (x : Memory). StandsFor raft2 members (durable_state new) (record { store = with_term p.store a.term; memory = x }) (raise given.now a.term p1 (end_vote_call a.from t)))
-      (skip higher (counts p a) (record (memory_without_call p.memory a.from) { role = MachineRole.Follower }) _ (memory_without_call p.memory a.from) none) after))
+      (skip higher (counts p a) (record (memory_without_call p.memory a.from) { role = ModelRole.Follower }) _ (memory_without_call p.memory a.from) none) after))
 
   -- one that counts
   pub vote_counted : nat_lt p.store.term a.term ≡ false → counts p a ≡ true → CallWrites (with_origin LEADER (term_puts p.store a.term)) old new None
@@ -91,7 +91,7 @@ module _ {D : Type 0} {disk : Ghosts D} (members : List ℕ) (m n : ℕ) (given 
       → MakesMoves members m n given (TakeAppendAnswer a ∷ []) p t old new raft2 None
   not_matched none made after = one_move members m n given (TakeAppendAnswer a) p t old new raft2 made
       (subst (λ (x : Memory). StandsFor raft2 members (durable_state new) (record { store = with_term p.store a.term; memory = x }) (raise given.now a.term p1 (end_call a.from t)))
-      (skip higher (is_leader p.memory.role && (a.term == p.store.term)) (record (memory_without_call p.memory a.from) { role = MachineRole.Follower }) (matched_memory p.memory a) (memory_without_call p.memory a.from) none) after)
+      (skip higher (is_leader p.memory.role && (a.term == p.store.term)) (record (memory_without_call p.memory a.from) { role = ModelRole.Follower }) (matched_memory p.memory a) (memory_without_call p.memory a.from) none) after)
 
   -- one that counts
   pub matched : nat_lt p.store.term a.term ≡ false → (is_leader p.memory.role && (a.term == p.store.term)) ≡ true → CallWrites (with_origin LEADER (term_puts p.store a.term)) old new None

@@ -19,12 +19,12 @@ use Rattle.raft_core.specs.declared.raft.Raft.{Raft}
 use Rattle.raft_core.specs.Handled.{MakesMoves}
 use Rattle.raft_core.specs.Stands.{StandsFor}
 use Rattle.raft_core.specs.StoredPuts.{CallWrites, with_origin, store_of}
-use Rattle.raft_core.specs.Times.{Given, Times, raise}
+use Rattle.raft_core.specs.Times.{HandedIn, Times, raise}
 use Rattle.raft_core.proofs.Judged.{IsLate, append_counts, judged_outdated, judged_ruled, late, no_term_puts, not_late, not_lower, outdated_term, own_term, raised_term, taken_stands}
 use Rattle.raft_core.proofs.Moving.{one_move, one_move_failed, put_then, store_after}
 use Rattle.raft_core.proofs.Puts.{none_made}
 
-module _ {D : Type 0} {disk : Ghosts D} (members : List ℕ) (m n : ℕ) (given : Given) (p : RaftServer) (t : Times) (r : Request) (v : Verdict) (judged : IsJudged p r v)
+module _ {D : Type 0} {disk : Ghosts D} (members : List ℕ) (m n : ℕ) (given : HandedIn) (p : RaftServer) (t : Times) (r : Request) (v : Verdict) (judged : IsJudged p r v)
     (old new : Durable D disk) (raft : Raft) (st : StandsFor raft members (durable_state old) p t) where
   -- what is made of it, and what is answered
   abbrev pub IsTaken : Durable D disk → Raft → Result AppendAnswer Fault → Type 0

@@ -64,9 +64,6 @@ module _ {D : Type 0} {disk : Ghosts D} (s : Store) (r : Request) (v : Verdict) 
     pub held_without : (place : ℕ) → v ≡ Held → r.entry ≡ None → place ≡ min r.commit r.previous → CallWrites (with_origin LEADER (commit_puts s place)) old new (result_err result) → IfOk result (λ success. IsTrue success) → AnswersAs old new result v
     held_without place is none at_place = held_so place is (ap (min r.commit) (reach_none r none) ∙ sym at_place)
 
-    pub held_with : (e : Entry) (place : ℕ) → v ≡ Held → r.entry ≡ Some e → place ≡ min r.commit (r.previous + 1) → CallWrites (with_origin LEADER (commit_puts s place)) old new (result_err result) → IfOk result (λ success. IsTrue success) → AnswersAs old new result v
-    held_with e place is one at_place = held_so place is (ap (min r.commit) (reach_one r e one) ∙ sym at_place)
-
     -- what an added entry puts is what is written and what is committed
     all_puts : (e : Entry) (place : ℕ) → r.entry ≡ Some e → place ≡ min r.commit (r.previous + 1) → write_puts s r.previous e ++ commit_puts s place ≡ append_puts s r (Added e)
     all_puts e place one at_place = append_assoc (cut_to s r.previous) (PutEntry e ∷ PutLonger e ∷ []) (commit_puts s place)

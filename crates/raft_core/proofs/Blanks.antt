@@ -22,7 +22,7 @@ use Rattle.raft_core.specs.declared.raft.Raft.{Raft}
 use Rattle.raft_core.specs.Handled.{MakesMoves, blank_behind, is_moment, puts_with_origins, with_blank}
 use Rattle.raft_core.specs.Stands.{StandsFor, role_of}
 use Rattle.raft_core.specs.StoredPuts.{CallWrites, PutWithOrigin, with_origin}
-use Rattle.raft_core.specs.Times.{Given, Times, begin_wait, end_call, end_vote_call, raise, stand, step_down, times_after, win}
+use Rattle.raft_core.specs.Times.{HandedIn, Times, begin_wait, end_call, end_vote_call, raise, stand, step_down, times_after, win}
 use Rattle.raft_core.proofs.Judged.{down_waits, raise_waits}
 use Rattle.raft_core.proofs.Moving.{no_move, one_move_failed}
 use Rattle.raft_core.proofs.Origins.{noted_in_turn, raft_server_of_moves}
@@ -35,7 +35,7 @@ each_waits true x y waits h k = h
 each_waits false x y waits h k = k
 
 -- no move changes it
-waits_still : (members : List ℕ) (m : ℕ) (given : Given) (p : RaftServer) (move : Move) (t : Times) → (times_after members m given p move t).waits ≡ t.waits
+waits_still : (members : List ℕ) (m : ℕ) (given : HandedIn) (p : RaftServer) (move : Move) (t : Times) → (times_after members m given p move t).waits ≡ t.waits
 waits_still members m given p TimeOut t = each_waits (has_quorum members (own_vote m)) (win (stand given t)) (stand given t) t.waits refl refl
 waits_still members m given p (TakeVoteRequest r granted) t = each_waits granted (begin_wait given.now t) (raise given.now r.term p t) t.waits refl (raise_waits given.now r.term p t)
 waits_still members m given p (TakeVoteAnswer a) t = let t1 = end_vote_call a.from t in
@@ -68,7 +68,7 @@ no_moves true false moves h = refl
 no_moves false true moves h = refl
 no_moves false false moves h = refl
 
-module _ {D : Type 0} {disk : Ghosts D} (members : List ℕ) (m n : ℕ) (given : Given) (p : RaftServer) (t : Times) (old : Durable D disk) (raft : Raft) (st : StandsFor raft members (durable_state old) p t) (moment : Bool) where
+module _ {D : Type 0} {disk : Ghosts D} (members : List ℕ) (m n : ℕ) (given : HandedIn) (p : RaftServer) (t : Times) (old : Durable D disk) (raft : Raft) (st : StandsFor raft members (durable_state old) p t) (moment : Bool) where
   -- the blank that the server is to add
   own_blank : (origin : ℕ) (new : Durable D disk) (failed : Option Fault) → CallWrites (with_origin origin (PutEntry (blank (durable_state old).term) ∷ PutLonger (blank (durable_state old).term) ∷ [])) old new failed
       → CallWrites (with_origin origin (PutEntry (blank p.store.term) ∷ PutLonger (blank p.store.term) ∷ [])) old new failed
@@ -113,7 +113,7 @@ leads_alike p role led same tells = ap is_leader same ∙ each role led tells wh
 
 -- ---- behind a move
 
-module _ (members : List ℕ) (m n : ℕ) (given : Given) (move : Move) (p : RaftServer) (t : Times) where
+module _ (members : List ℕ) (m n : ℕ) (given : HandedIn) (move : Move) (p : RaftServer) (t : Times) where
   -- the server and the times after the move, and a blank where the moment for it came by then
   abbrev p1 : RaftServer
   p1 = server_after members m n p move
@@ -158,6 +158,6 @@ module _ (members : List ℕ) (m n : ℕ) (given : Given) (move : Move) (p : Raf
     }
 
 -- moves of a call that hands the fault on
-pub handed_on : {T : Type 0} {D : Type 0} {disk : Ghosts D} (members : List ℕ) (m n : ℕ) (given : Given) (moves : List Move) (p : RaftServer) (t : Times) (old new : Durable D disk) (raft : Raft) (result : Result T Fault) (fault : Fault) → result ≡ Err fault
+pub handed_on : {T : Type 0} {D : Type 0} {disk : Ghosts D} (members : List ℕ) (m n : ℕ) (given : HandedIn) (moves : List Move) (p : RaftServer) (t : Times) (old new : Durable D disk) (raft : Raft) (result : Result T Fault) (fault : Fault) → result ≡ Err fault
     → MakesMoves members m n given moves p t old new raft (Some fault) → MakesMoves members m n given moves p t old new raft (result_err result)
 handed_on members m n given moves p t old new raft result fault is made = subst (λ (r : Result _ Fault). MakesMoves members m n given moves p t old new raft (result_err r)) (sym is) made

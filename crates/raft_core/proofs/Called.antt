@@ -10,7 +10,7 @@ use Rattle.raft_model.specs.Messages.{Request, items, reach}
 use Rattle.raft_model.specs.Moves.{Move}
 use Rattle.raft_model.specs.Moves.Leading.{append_request, vote_request}
 use Rattle.raft_model.specs.Moves.Move.{CallForVote, CallToAppend}
-use Rattle.raft_model.specs.Server.{RaftServer, Role as MachineRole}
+use Rattle.raft_model.specs.Server.{RaftServer, Role as ModelRole}
 use Rattle.raft_model.specs.Lists.{at_here, at_other}
 use Rattle.raft_core.specs.declared.calls.Call.{Call}
 use Rattle.raft_core.specs.declared.calls.Call.TheVariants.{Vote, Append}
@@ -63,7 +63,7 @@ module _ (p : RaftServer) (t : Times) (q : ℕ) (r : Request) (call : Waiting) (
   }
 
   tells_called : (old kept : Peer) → kept ≡ record old { appended = kept.appended } → Asks call.asked r → r.step ≡ call.step
-      → (p.memory.role ≡ MachineRole.Leader → appended q ≡ kept.appended) → Tells old p t q → Tells (with_call kept call) p2 t2 q
+      → (p.memory.role ≡ ModelRole.Leader → appended q ≡ kept.appended) → Tells old p t q → Tells (with_call kept call) p2 t2 q
   tells_called old kept same asks step when tells = record {
     call = subst (λ x. Waits (Some call) x (t2.sending q)) (sym (at_here p.memory.pending q q (Some r) refl))
         (subst (λ x. Waits (Some call) (Some r) x) (sym (at_here t.sending q q (Some (record { id = call.id; moment = call.sent })) refl)) (record { asks = asks; step = step; id = refl; moment = refl }));
@@ -103,7 +103,7 @@ module _ (raft raft2 : Raft) (state : Stored) (q : ℕ) (below : q < 128) (kept 
 
   module _ (members : List ℕ) (p : RaftServer) (t : Times) (st : StandsFor raft members state p t) where
     with_call_stands : (r : Request) (appended : ℕ → Option ℕ) → kept ≡ record old { appended = kept.appended } → Asks call.asked r → r.step ≡ call.step
-        → (p.memory.role ≡ MachineRole.Leader → appended q ≡ kept.appended) → ((i : ℕ) → i ≢ q → appended i ≡ t.appended i)
+        → (p.memory.role ≡ ModelRole.Leader → appended q ≡ kept.appended) → ((i : ℕ) → i ≢ q → appended i ≡ t.appended i)
         → StandsFor raft2 members state (with_pending p q r) (with_sending t q (record { id = call.id; moment = call.sent }) appended)
     with_call_stands r appended same asks step when others = record {
       store = st.store;

@@ -12,7 +12,7 @@ use Rattle.raft_log.specs.Stored.{Stored}
 use Rattle.raft_model.specs.Messages.{Request, items}
 use Rattle.raft_model.specs.Moves.Leading.{append_request, entry_after}
 use Rattle.raft_model.specs.Moves.Move.{CallForVote, CallToAppend}
-use Rattle.raft_model.specs.Server.{RaftServer, Store, Role as MachineRole}
+use Rattle.raft_model.specs.Server.{RaftServer, Store, Role as ModelRole}
 use Rattle.raft_core.specs.declared.calls.Call.TheVariants.{Vote, Append}
 use Rattle.raft_core.specs.declared.peer.Peer.{Peer}
 use Rattle.raft_core.specs.declared.raft.Raft.{Raft}
@@ -62,7 +62,7 @@ module _ (raft : Raft) (state : Stored) (q now : ℕ) (below : q < 128) where
 
   pub owes_append : raft.role ≡ Leader → kept.call ≡ None → 1 ≤ kept.next → HasToSay kept (length state.log) now → Owes raft state q now (Append (append_call state kept.next))
   owes_append leads no_call least say = λ members n p t st.
-      let role : p.memory.role ≡ MachineRole.Leader = st.role ∙ ap role_of leads in
+      let role : p.memory.role ≡ ModelRole.Leader = st.role ∙ ap role_of leads in
       let tells = st.peers q (fresh 0) below in
       let free : p.memory.pending q ≡ None = nothing_waits (p.memory.pending q) (t.sending q) (subst (λ c. Waits c (p.memory.pending q) (t.sending q)) no_call tells.call) in
       let said : (nat_le (p.memory.next q) (length p.store.log) || is_silent (t.appended q) now) ≡ true = rw (tells.next role, tells.appended role, st.store) (has_to_say kept (length state.log) now say) in
@@ -84,20 +84,20 @@ same_previous true q k previous x y h = cc h
 same_previous false q k previous x y h = absurd (cc h)
 
 -- a call to append is a Leader's, with the place before the one that the peer is sent next
-append_was_due : (waits : Option Request) (role : MachineRole) (p : RaftServer) (t : Times) (q now previous : ℕ) → due_unless waits (due role p t q now) ≡ Some (CallToAppend q previous true)
-    → (role ≡ MachineRole.Leader) × (previous ≡ p.memory.next q - 1)
+append_was_due : (waits : Option Request) (role : ModelRole) (p : RaftServer) (t : Times) (q now previous : ℕ) → due_unless waits (due role p t q now) ≡ Some (CallToAppend q previous true)
+    → (role ≡ ModelRole.Leader) × (previous ≡ p.memory.next q - 1)
 append_was_due (Some r) role p t q now previous h = absurd (cc h)
-append_was_due None MachineRole.Follower p t q now previous h = absurd (cc h)
-append_was_due None MachineRole.Candidate p t q now previous h = absurd (no_vote (t.answered q) q previous true h)
-append_was_due None MachineRole.Leader p t q now previous h =
+append_was_due None ModelRole.Follower p t q now previous h = absurd (cc h)
+append_was_due None ModelRole.Candidate p t q now previous h = absurd (no_vote (t.answered q) q previous true h)
+append_was_due None ModelRole.Leader p t q now previous h =
     (refl, same_previous (nat_le (p.memory.next q) (length p.store.log) || is_silent (t.appended q) now) q (p.memory.next q - 1) previous true true h)
 
 -- a call for a vote is no Leader's
-vote_was_due : (waits : Option Request) (role : MachineRole) (p : RaftServer) (t : Times) (q now : ℕ) → due_unless waits (due role p t q now) ≡ Some (CallForVote q) → role ≡ MachineRole.Leader → ⊥
+vote_was_due : (waits : Option Request) (role : ModelRole) (p : RaftServer) (t : Times) (q now : ℕ) → due_unless waits (due role p t q now) ≡ Some (CallForVote q) → role ≡ ModelRole.Leader → ⊥
 vote_was_due (Some r) role p t q now h leader = absurd (cc h)
-vote_was_due None MachineRole.Follower p t q now h leader = absurd (cc leader)
-vote_was_due None MachineRole.Candidate p t q now h leader = absurd (cc leader)
-vote_was_due None MachineRole.Leader p t q now h leader =
+vote_was_due None ModelRole.Follower p t q now h leader = absurd (cc leader)
+vote_was_due None ModelRole.Candidate p t q now h leader = absurd (cc leader)
+vote_was_due None ModelRole.Leader p t q now h leader =
     no_append (nat_le (p.memory.next q) (length p.store.log) || is_silent (t.appended q) now) q (p.memory.next q - 1) true h
 
 -- what it reaches lies in the log

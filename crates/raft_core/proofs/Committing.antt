@@ -14,7 +14,7 @@ use Rattle.raft_model.specs.Duty.{commit_moves, commit_phase}
 use Rattle.raft_model.specs.Moves.Elections.{is_leader}
 use Rattle.raft_model.specs.Moves.Leading.{CanCommit, IsCommitIndex}
 use Rattle.raft_model.specs.Moves.Move.{CommitTo}
-use Rattle.raft_model.specs.Server.{RaftServer, Store, Role as MachineRole}
+use Rattle.raft_model.specs.Server.{RaftServer, Store, Role as ModelRole}
 use Rattle.raft_model.specs.Server.Put.{PutCommit}
 use Rattle.raft_core.specs.declared.peer.Peer.{Peer}
 use Rattle.raft_core.specs.declared.raft.Cause.{Cause}
@@ -25,7 +25,7 @@ use Rattle.raft_core.specs.Handled.{MakesMoves}
 use Rattle.raft_core.specs.Peers.{fresh}
 use Rattle.raft_core.specs.Stands.{StandsFor, role_of}
 use Rattle.raft_core.specs.StoredPuts.{CallWrites, with_origin, store_of}
-use Rattle.raft_core.specs.Times.{Given, Times}
+use Rattle.raft_core.specs.Times.{HandedIn, Times}
 use Rattle.raft_core.proofs.Moving.{leads, no_move, one_move, one_move_failed, storing_stands}
 
 itself : (me place node : ℕ) (peer : Peer) → node ≡ me → (node == me) ≡ backs me (Place place) node peer
@@ -47,20 +47,20 @@ next_down members me p place below one not_here none i above can = elim (eqb_tel
   | inr t ↦ none i (let other = t.1 in omega (arith, one, above, other)) can
 ]
 
-pub not_leading : (x : MachineRole) → (x ≡ MachineRole.Leader → ⊥) → is_leader x ≡ false
-not_leading MachineRole.Follower h = refl
-not_leading MachineRole.Candidate h = refl
-not_leading MachineRole.Leader h = absurd (h refl)
+pub not_leading : (x : ModelRole) → (x ≡ ModelRole.Leader → ⊥) → is_leader x ≡ false
+not_leading ModelRole.Follower h = refl
+not_leading ModelRole.Candidate h = refl
+not_leading ModelRole.Leader h = absurd (h refl)
 
-found_moves : (members : List ℕ) (m : ℕ) (p : RaftServer) (k : ℕ) → p.memory.role ≡ MachineRole.Leader → commit_index members m p ≡ Some k → commit_phase members m p ≡ CommitTo k ∷ []
+found_moves : (members : List ℕ) (m : ℕ) (p : RaftServer) (k : ℕ) → p.memory.role ≡ ModelRole.Leader → commit_index members m p ≡ Some k → commit_phase members m p ≡ CommitTo k ∷ []
 found_moves members m p k role is = rw (role, is) refl
 
-no_moves : (members : List ℕ) (m : ℕ) (p : RaftServer) → (p.memory.role ≡ MachineRole.Leader → commit_index members m p ≡ None) → commit_phase members m p ≡ []
+no_moves : (members : List ℕ) (m : ℕ) (p : RaftServer) → (p.memory.role ≡ ModelRole.Leader → commit_index members m p ≡ None) → commit_phase members m p ≡ []
 no_moves members m p none = by_role p.memory.role refl where
-  by_role : (x : MachineRole) → p.memory.role ≡ x → (if is_leader x then commit_moves (commit_index members m p) else []) ≡ []
-  by_role MachineRole.Follower is = refl
-  by_role MachineRole.Candidate is = refl
-  by_role MachineRole.Leader is = rw (none is) refl
+  by_role : (x : ModelRole) → p.memory.role ≡ x → (if is_leader x then commit_moves (commit_index members m p) else []) ≡ []
+  by_role ModelRole.Follower is = refl
+  by_role ModelRole.Candidate is = refl
+  by_role ModelRole.Leader is = rw (none is) refl
 
 known : (o : Option ℕ) → (o ≡ None) ⊎ ((k : ℕ) × (o ≡ Some k))
 known None = inl refl
@@ -70,7 +70,7 @@ known (Some k) = inr (k, refl)
 pub no_index : (members : List ℕ) (m : ℕ) (p : RaftServer) → ((k : ℕ) → commit_index members m p ≡ Some k → IsCommitIndex members m p k) → ((k : ℕ) → CanCommit members m p k → ⊥) → commit_index members m p ≡ None
 no_index members m p law none = elim (known (commit_index members m p)) [ inl e ↦ e | inr x ↦ absurd (none x.0 (law x.0 x.1).can) ]
 
-module _ {D : Type 0} {disk : Ghosts D} (members : List ℕ) (m n : ℕ) (given : Given) (p : RaftServer) (t : Times) (old : Durable D disk) (raft : Raft) (st : StandsFor raft members (durable_state old) p t) where
+module _ {D : Type 0} {disk : Ghosts D} (members : List ℕ) (m n : ℕ) (given : HandedIn) (p : RaftServer) (t : Times) (old : Durable D disk) (raft : Raft) (st : StandsFor raft members (durable_state old) p t) where
   module _ (k : ℕ) (role : raft.role ≡ Leader) (is : commit_index members m p ≡ Some k) (new : Durable D disk) where
     moves : commit_phase members m p ≡ CommitTo k ∷ []
     moves = found_moves members m p k (st.role ∙ ap role_of role) is

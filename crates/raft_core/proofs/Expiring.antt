@@ -15,7 +15,7 @@ use Rattle.raft_core.specs.declared.raft.Raft.{Raft}
 use Rattle.raft_core.specs.Handled.{moves_of_expire}
 use Rattle.raft_core.specs.Peers.{expired, young}
 use Rattle.raft_core.specs.Stands.{StandsFor, Tells, Waits, role_of}
-use Rattle.raft_core.specs.Times.{Given, Sending, Times, is_overdue, overdue, times_after_all}
+use Rattle.raft_core.specs.Times.{HandedIn, Sending, Times, is_overdue, overdue, times_after_all}
 
 -- ---- those that are overdue
 
@@ -83,7 +83,7 @@ first_ended node qs p p2 t t2 rest = record {
     here : (q : ℕ) → q ≡ node → IsFree q p2 t2
     here q same = rest.free q (at_here p.memory.pending node q None same, at_here t.sending node q None same)
 
-module _ (members : List ℕ) (m n : ℕ) (given : Given) where
+module _ (members : List ℕ) (m n : ℕ) (given : HandedIn) where
   given_up : (qs : List ℕ) (p : RaftServer) (t : Times)
       → HaveEnded qs p (server_after_all members m n p (moves_of_expire qs)) t (times_after_all members m n given p (moves_of_expire qs) t)
   given_up [] p t = record { store = refl; memory = refl; times = refl; free = λ q h. h; ended = λ q h. absurd h; others = λ q h. (refl, refl) }
@@ -147,6 +147,6 @@ module _ (members : List ℕ) (now : ℕ) (state : Stored) (p : RaftServer) (t :
         (λ young. ended.others q (λ late. young (overdue_only t now q nodes late)))));
   }
 
-  pub expired_stands : (m n : ℕ) (given : Given)
+  pub expired_stands : (m n : ℕ) (given : HandedIn)
       → StandsFor raft2 members state (server_after_all members m n p (moves_of_expire (overdue t now nodes))) (times_after_all members m n given p (moves_of_expire (overdue t now nodes)) t)
   expired_stands m n given = ended_stands _ _ (given_up members m n given (overdue t now nodes) p t)

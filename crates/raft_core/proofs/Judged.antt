@@ -14,7 +14,7 @@ use Rattle.raft_model.specs.Moves.Appending.{IsCurrent, IsJudged, IsOutdated, Is
 use Rattle.raft_model.specs.Moves.Elections.{term_memory, term_puts, with_term}
 use Rattle.raft_model.specs.Moves.Move.{TakeAppendRequest}
 use Rattle.raft_model.specs.Moves.Appending.Verdict.{Outdated, Refused, Held, Added}
-use Rattle.raft_model.specs.Server.{Memory, RaftServer, Put, Store, put_all, Role as MachineRole}
+use Rattle.raft_model.specs.Server.{Memory, RaftServer, Put, Store, put_all, Role as ModelRole}
 use Rattle.raft_model.specs.Server.Put.{PutTerm, PutVote, PutShorter, PutCommit}
 use Rattle.raft_core.specs.declared.raft.Raft.{Raft}
 use Rattle.can_frame.specs.declared.step.Role.{Role}
@@ -22,7 +22,7 @@ use Rattle.can_frame.specs.declared.step.Role.TheVariants.{Follower, Candidate, 
 use Rattle.raft_core.specs.Roles.{StepsDown, since_after}
 use Rattle.raft_core.specs.Stands.{StandsFor, role_of}
 use Rattle.raft_core.specs.StoredPuts.{CallWrites, VoteForNodes, with_origin, store_of}
-use Rattle.raft_core.specs.Times.{Given, Times, raise, step_down, times_after}
+use Rattle.raft_core.specs.Times.{HandedIn, Times, raise, step_down, times_after}
 use Rattle.raft_core.proofs.Appending.{lt_false, lt_true}
 use Rattle.raft_core.proofs.Puts.{does}
 use Rattle.raft_core.proofs.Moving.{follower_stands, leads}
@@ -49,25 +49,25 @@ if_same true x y f e = e
 if_same false x y f e = refl
 
 pub term_told : (p : RaftServer) (term : ℕ) → (term_memory p term).told ≡ p.memory.told
-term_told p term = if_same (nat_lt p.store.term term) (record p.memory { role = MachineRole.Follower }) p.memory (λ (x : Memory). x.told) refl
+term_told p term = if_same (nat_lt p.store.term term) (record p.memory { role = ModelRole.Follower }) p.memory (λ (x : Memory). x.told) refl
 
 pub term_pending : (p : RaftServer) (term : ℕ) → (term_memory p term).pending ≡ p.memory.pending
-term_pending p term = if_same (nat_lt p.store.term term) (record p.memory { role = MachineRole.Follower }) p.memory (λ (x : Memory). x.pending) refl
+term_pending p term = if_same (nat_lt p.store.term term) (record p.memory { role = ModelRole.Follower }) p.memory (λ (x : Memory). x.pending) refl
 
-down_sending : (now : ℕ) (role : MachineRole) (t : Times) → (step_down now role t).sending ≡ t.sending
-down_sending now MachineRole.Follower t = refl
-down_sending now MachineRole.Candidate t = refl
-down_sending now MachineRole.Leader t = refl
+down_sending : (now : ℕ) (role : ModelRole) (t : Times) → (step_down now role t).sending ≡ t.sending
+down_sending now ModelRole.Follower t = refl
+down_sending now ModelRole.Candidate t = refl
+down_sending now ModelRole.Leader t = refl
 
-down_word : (now : ℕ) (role : MachineRole) (t : Times) → (step_down now role t).word ≡ t.word
-down_word now MachineRole.Follower t = refl
-down_word now MachineRole.Candidate t = refl
-down_word now MachineRole.Leader t = refl
+down_word : (now : ℕ) (role : ModelRole) (t : Times) → (step_down now role t).word ≡ t.word
+down_word now ModelRole.Follower t = refl
+down_word now ModelRole.Candidate t = refl
+down_word now ModelRole.Leader t = refl
 
-pub down_waits : (now : ℕ) (role : MachineRole) (t : Times) → (step_down now role t).waits ≡ t.waits
-down_waits now MachineRole.Follower t = refl
-down_waits now MachineRole.Candidate t = refl
-down_waits now MachineRole.Leader t = refl
+pub down_waits : (now : ℕ) (role : ModelRole) (t : Times) → (step_down now role t).waits ≡ t.waits
+down_waits now ModelRole.Follower t = refl
+down_waits now ModelRole.Candidate t = refl
+down_waits now ModelRole.Leader t = refl
 
 pub raise_sending : (now term : ℕ) (p : RaftServer) (t : Times) → (raise now term p t).sending ≡ t.sending
 raise_sending now term p t = if_same (nat_lt p.store.term term) (step_down now p.memory.role t) t (λ (x : Times). x.sending) (down_sending now p.memory.role t)
@@ -88,13 +88,13 @@ pub raised_stands : (raft raft2 : Raft) (members : List ℕ) (s s2 : Stored) (p 
     → StandsFor raft2 members s2 (record { store = with_term p.store term; memory = term_memory p term }) (raise now term p t)
 raised_stands raft raft2 members s s2 p t now term st higher stored down =
     let test : nat_lt p.store.term term ≡ true = subst (λ (z : Store). nat_lt z.term term ≡ true) (sym st.store) (lt_true s.term term higher) in
-    rw test (follower_stands raft raft2 members s s2 p (record { store = record p.store { term = term; vote = None }; memory = record p.memory { role = MachineRole.Follower } }) t (step_down now p.memory.role t) st
+    rw test (follower_stands raft raft2 members s s2 p (record { store = record p.store { term = term; vote = None }; memory = record p.memory { role = ModelRole.Follower } }) t (step_down now p.memory.role t) st
     refl refl refl
     (ap (λ (z : Store). record z { term = term; vote = None }) st.store ∙ sym (ap store_of stored))
     (down_sending now p.memory.role t)
     (down_word now p.memory.role t)
     (down_waits now p.memory.role t)
-    (ap (λ (x : MachineRole). (step_down now x t).since) st.role ∙ (down_since now raft.role t ∙ (ap (λ (k : ℕ). since_after raft.role k now) st.since ∙ sym down.since)))
+    (ap (λ (x : ModelRole). (step_down now x t).since) st.role ∙ (down_since now raft.role t ∙ (ap (λ (k : ℕ). since_after raft.role k now) st.since ∙ sym down.since)))
     down.role down.rest.told down.rest.word down.rest.waits down.rest.peers)
 
 -- a higher term is stored, with no vote
@@ -143,7 +143,7 @@ append_counts s r Refused = tt
 append_counts s r Held = commits_count (nat_lt s.commit (min r.commit (reach r))) (min r.commit (reach r))
 append_counts s r (Added e) = after_cut (nat_lt r.previous (length s.log)) r.previous _ (tt, (tt, commits_count (nat_lt s.commit (min r.commit (reach r))) (min r.commit (reach r))))
 
-append_role : (p : RaftServer) (r : Request) (s : Store) (v : Verdict) → IsRuled s r v → (append_memory p r v).role ≡ MachineRole.Follower
+append_role : (p : RaftServer) (r : Request) (s : Store) (v : Verdict) → IsRuled s r v → (append_memory p r v).role ≡ ModelRole.Follower
 append_role p r s Outdated h = absurd h
 append_role p r s Refused h = refl
 append_role p r s Held h = refl
@@ -161,7 +161,7 @@ append_pending p r Refused = refl
 append_pending p r Held = refl
 append_pending p r (Added e) = refl
 
-append_times : (members : List ℕ) (m : ℕ) (given : Given) (p : RaftServer) (t : Times) (r : Request) (s : Store) (v : Verdict) → IsRuled s r v
+append_times : (members : List ℕ) (m : ℕ) (given : HandedIn) (p : RaftServer) (t : Times) (r : Request) (s : Store) (v : Verdict) → IsRuled s r v
     → times_after members m given p (TakeAppendRequest r v) t ≡ record t { since = given.now }
 append_times members m given p t r s Outdated h = absurd h
 append_times members m given p t r s Refused h = refl
@@ -169,7 +169,7 @@ append_times members m given p t r s Held h = refl
 append_times members m given p t r s (Added e) h = refl
 
 -- the member after an append request that is not outdated
-pub taken_stands : (members : List ℕ) (m n : ℕ) (given : Given) (p : RaftServer) (t : Times) (r : Request) (v : Verdict) (raft raft2 : Raft) (mid new : Stored)
+pub taken_stands : (members : List ℕ) (m n : ℕ) (given : HandedIn) (p : RaftServer) (t : Times) (r : Request) (v : Verdict) (raft raft2 : Raft) (mid new : Stored)
     → StandsFor raft members mid (record { store = with_term p.store r.term; memory = term_memory p r.term }) (raise given.now r.term p t)
     → IsRuled (with_term p.store r.term) r v
     → store_of new ≡ put_all p.store (term_puts p.store r.term ++ append_puts (with_term p.store r.term) r v)

@@ -1,4 +1,4 @@
--- One move of the machine: its puts, and the server and times after it.
+-- One move of the Raft model: its puts, and the server and times after it.
 use Rattle.std.proofs.Common.{◌≡◌, ℕ, zero, suc, List, [], ◌∷◌, ◌++◌, Option, Some, None, refl, sym, ap, subst, ◌∙◌, arith}
 use Rattle.std.specs.Prelude.{Result, Err, slice_index_or}
 use Rattle.std.specs.Result.{result_err}
@@ -11,14 +11,14 @@ use Rattle.raft_log.specs.DurableViews.{durable_state}
 use Rattle.raft_log.specs.Stored.{Stored, after_put, after_puts}
 use Rattle.raft_model.specs.Handlers.{server_after}
 use Rattle.raft_model.specs.Moves.{Move, puts}
-use Rattle.raft_model.specs.Server.{RaftServer, Put, Store, put, put_all, Role as MachineRole}
+use Rattle.raft_model.specs.Server.{RaftServer, Put, Store, put, put_all, Role as ModelRole}
 use Rattle.raft_model.specs.Server.Put.{PutTerm, PutVote, PutEntry, PutLonger, PutShorter, PutCommit}
 use Rattle.raft_core.specs.declared.peer.Peer.{Peer}
 use Rattle.raft_core.specs.declared.raft.Raft.{Raft}
 use Rattle.raft_core.specs.Handled.{LeavesMoves, MakesMoves, origin_of}
 use Rattle.raft_core.specs.Stands.{StandsFor, Tells, Waits, role_of}
 use Rattle.raft_core.specs.StoredPuts.{CallWrites, PutWithOrigin, VoteForNodes, VotesForNode, with_origin, puts_alone, put_from, store_of, stored_put, stored_puts}
-use Rattle.raft_core.specs.Times.{Given, Times, begin_wait, times_after}
+use Rattle.raft_core.specs.Times.{HandedIn, Times, begin_wait, times_after}
 use Rattle.raft_core.proofs.Origins.{raft_server_of_moves}
 
 -- ---- what is stored
@@ -57,7 +57,7 @@ nothing_more (x ∷ xs) = ap (λ (rest : List PutWithOrigin). x ∷ rest) (nothi
 
 -- ---- one move
 
-module _ {D : Type 0} {disk : Ghosts D} (members : List ℕ) (m n : ℕ) (given : Given) (move : Move) (p : RaftServer) (t : Times) (old new : Durable D disk) (raft : Raft) where
+module _ {D : Type 0} {disk : Ghosts D} (members : List ℕ) (m n : ℕ) (given : HandedIn) (move : Move) (p : RaftServer) (t : Times) (old new : Durable D disk) (raft : Raft) where
   abbrev own : List PutWithOrigin
   own = with_origin (origin_of given move) (puts members m p move)
 
@@ -81,14 +81,14 @@ module _ {D : Type 0} {disk : Ghosts D} (members : List ℕ) (m n : ℕ) (given 
 
 -- ---- roles
 
-pub leads : (x : Role) → role_of x ≡ MachineRole.Leader → x ≡ Leader
+pub leads : (x : Role) → role_of x ≡ ModelRole.Leader → x ≡ Leader
 leads Follower h = absurd (cc h)
 leads Candidate h = absurd (cc h)
 leads Leader h = refl
 
 -- a Follower stands for whatever has its role, its stored state and its calls
 pub follower_stands : (raft raft2 : Raft) (members : List ℕ) (mid new : Stored) (p p2 : RaftServer) (t t2 : Times) → StandsFor raft members mid p t
-    → p2.memory.role ≡ MachineRole.Follower → p2.memory.told ≡ p.memory.told → p2.memory.pending ≡ p.memory.pending → p2.store ≡ store_of new
+    → p2.memory.role ≡ ModelRole.Follower → p2.memory.told ≡ p.memory.told → p2.memory.pending ≡ p.memory.pending → p2.store ≡ store_of new
     → t2.sending ≡ t.sending → t2.word ≡ t.word → t2.waits ≡ t.waits → t2.since ≡ raft2.since
     → raft2.role ≡ Follower → raft2.told ≡ raft.told → raft2.word ≡ raft.word → raft2.waits ≡ raft.waits → raft2.peers ≡ raft.peers
     → StandsFor raft2 members new p2 t2
@@ -111,10 +111,10 @@ follower_stands raft raft2 members mid new p p2 t t2 st role told pending store 
   });
 }
   where
-    no_candidate : p2.memory.role ≡ MachineRole.Candidate → ⊥
+    no_candidate : p2.memory.role ≡ ModelRole.Candidate → ⊥
     no_candidate h = cc (sym role ∙ h)
 
-    no_leader : p2.memory.role ≡ MachineRole.Leader → ⊥
+    no_leader : p2.memory.role ≡ ModelRole.Leader → ⊥
     no_leader h = cc (sym role ∙ h)
 
 -- another stored state, and a wait that begins anew

@@ -8,7 +8,7 @@ use Rattle.raft_model.specs.Moves.{Move, puts}
 use Rattle.raft_model.specs.Server.{RaftServer, Put}
 use Rattle.raft_core.specs.Handled.{puts_with_origins, origin_of}
 use Rattle.raft_core.specs.StoredPuts.{PutWithOrigin, with_origin, puts_alone, store_of}
-use Rattle.raft_core.specs.Times.{Given}
+use Rattle.raft_core.specs.Times.{HandedIn}
 
 -- ---- the puts alone
 
@@ -26,7 +26,7 @@ raft_server_front [] (suc count) = refl
 raft_server_front (x ∷ xs) zero = refl
 raft_server_front (x ∷ xs) (suc count) = ap (λ (rest : List Put). x.put ∷ rest) (raft_server_front xs count)
 
-module _ (members : List ℕ) (m n : ℕ) (given : Given) where
+module _ (members : List ℕ) (m n : ℕ) (given : HandedIn) where
   pub raft_server_of_moves : (p : RaftServer) (moves : List Move) → puts_alone (puts_with_origins members m n given p moves) ≡ puts_of_all members m n p moves
   raft_server_of_moves p [] = refl
   raft_server_of_moves p (move ∷ moves) = noted_then (origin_of given move) (puts members m p move) (puts_with_origins members m n given (server_after members m n p move) moves)

@@ -16,7 +16,7 @@ use Rattle.raft_log.specs.MayFollow.{IsStorable, MayFollow}
 use Rattle.raft_log.specs.Stored.{Stored, after_puts, puts_of_append, Put as StoredPut}
 use Rattle.raft_model.specs.Moves.Leading.{MayPropose}
 use Rattle.raft_model.specs.Moves.Move.{ProposeEntry}
-use Rattle.raft_model.specs.Server.{RaftServer, Store, Role as MachineRole}
+use Rattle.raft_model.specs.Server.{RaftServer, Store, Role as ModelRole}
 use Rattle.raft_model.specs.Server.Put.{PutEntry, PutLonger}
 use Rattle.raft_core.specs.declared.peer.Asked.{Asked}
 use Rattle.raft_core.specs.declared.peer.Asked.TheVariants.{Vote, Append}
@@ -30,7 +30,7 @@ use Rattle.raft_core.specs.Proposing.{Appends, IsTried, entry_puts}
 use Rattle.raft_core.specs.Stands.{StandsFor, role_of}
 use Rattle.raft_core.specs.StoredPuts.{CallWrites, CallFaultIsSticky, with_origin, store_of, stored_puts}
 use Rattle.raft_core.specs.Taken.{IsTaken, proposal}
-use Rattle.raft_core.specs.Times.{Given, Times}
+use Rattle.raft_core.specs.Times.{HandedIn, Times}
 use Rattle.raft_core.proofs.Moving.{one_move, one_move_failed, storing_stands}
 use Rattle.raft_core.proofs.Puts.{quiet, still}
 
@@ -67,7 +67,7 @@ module _ (reserved : (log : List Entry) (e : Entry) → IsReservation e → IsIn
     abbrev entry : Entry
     entry = proposal p.store.term uid node
 
-    pub may_propose : p.memory.role ≡ MachineRole.Leader → length s.log < 127 → IsInjective s.log → 1 ≤ node → node ≤ 125 → (IsTaken s.log uid node → ⊥) → MayPropose p (proposal p.store.term uid node)
+    pub may_propose : p.memory.role ≡ ModelRole.Leader → length s.log < 127 → IsInjective s.log → 1 ≤ node → node ≤ 125 → (IsTaken s.log uid node → ⊥) → MayPropose p (proposal p.store.term uid node)
     may_propose leads room injective least most free = record {
       leads = leads;
       room = subst (λ (z : Store). length z.log < 127) (sym same) room;
@@ -124,7 +124,7 @@ pub fits_grown : (raft : Raft) (s s2 : Stored) (e : Entry) (origin : ℕ) → Fi
 fits_grown raft s s2 e origin fits grown = subst (Fits raft) (sym grown)
     (fits_longer raft s (record s { log = s.log ++ (e ∷ []); origins = s.origins ++ (Some origin ∷ []) }) fits refl refl (omega (arith, length-append s.log (e ∷ []))))
 
-module _ {D : Type 0} {disk : Ghosts D} (members : List ℕ) (m n : ℕ) (given : Given) (p : RaftServer) (t : Times) (old new : Durable D disk) (raft : Raft) (st : StandsFor raft members (durable_state old) p t) (e : Entry) where
+module _ {D : Type 0} {disk : Ghosts D} (members : List ℕ) (m n : ℕ) (given : HandedIn) (p : RaftServer) (t : Times) (old new : Durable D disk) (raft : Raft) (st : StandsFor raft members (durable_state old) p t) (e : Entry) where
   pub proposed : CallWrites (with_origin given.origin (PutEntry e ∷ PutLonger e ∷ [])) old new None → MakesMoves members m n given (ProposeEntry e ∷ []) p t old new raft None
   proposed made = one_move members m n given (ProposeEntry e) p t old new raft made
       (storing_stands raft members (durable_state old) (durable_state new) p t _ st

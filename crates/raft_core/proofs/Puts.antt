@@ -1,6 +1,6 @@
--- Puts of the machine as they are made of a stored state, one after another.
+-- Puts of the Raft model as they are made of a stored state, one after another.
 use Rattle.std.proofs.Common.{◌≡◌, ◌⊎◌, inl, inr, ℕ, List, [], ◌∷◌, ◌++◌, Option, Some, None, refl, sym, ap, subst, ◌∙◌}
-use Rattle.std.specs.Prelude.{⊤, Bool, true, false, Result, Ok, Err, OnOk, IfSome, is_ok, is_none}
+use Rattle.std.specs.Prelude.{⊤, Bool, true, false, Result, Ok, Err, IfSome, is_ok, is_none}
 use Rattle.std.specs.Result.{result_err}
 use Rattle.disk_model.specs.declared.disk.Disk.{Ghosts}
 use Rattle.kv_store.specs.declared.fault.Fault.{Fault}
@@ -31,14 +31,6 @@ front_none (x ∷ xs) ys none = absurd (subst IsSomePut none tt)
 back_none : (xs ys : List PutWithOrigin) → xs ++ ys ≡ [] → ys ≡ []
 back_none [] ys none = none
 back_none (x ∷ xs) ys none = absurd (subst IsSomePut none tt)
-
--- where the call succeeds
-pub each_ok : {T E : Type 0} (r : Result T E) (Q : Type 0) → ((value : T) → r ≡ Ok value → Q) → OnOk r Q
-each_ok (Ok value) Q f = f value refl
-each_ok (Err error) Q f = tt
-
-pub got : {T E : Type 0} (r : Result T E) (value : T) (P : Type 0) → r ≡ Ok value → OnOk r P → P
-got r value P is h = subst (λ x. OnOk x P) is h
 
 known : {A : Type 0} (o : Option A) → (o ≡ None) ⊎ ((a : A) × (o ≡ Some a))
 known None = inl refl

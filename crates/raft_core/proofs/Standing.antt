@@ -6,20 +6,20 @@ use Rattle.std.proofs.lemmas.List.{get_or-replicate, length-replicate}
 use Rattle.can_frame.specs.declared.step.Role.TheVariants.{Candidate}
 use Rattle.raft_log.specs.Stored.{Stored}
 use Rattle.raft_model.specs.Moves.Elections.{stand_memory, stand_puts}
-use Rattle.raft_model.specs.Server.{RaftServer, Store, put_all, Role as MachineRole}
+use Rattle.raft_model.specs.Server.{RaftServer, Store, put_all, Role as ModelRole}
 use Rattle.raft_model.specs.Server.Put.{PutTerm, PutVote}
 use Rattle.raft_core.specs.declared.peer.Peer.{Peer}
 use Rattle.raft_core.specs.declared.raft.Raft.{Raft}
 use Rattle.raft_core.specs.Peers.{fresh, voter}
 use Rattle.raft_core.specs.Stands.{StandsFor, Tells, Waits, role_of}
 use Rattle.raft_core.specs.StoredPuts.{store_of, vote_of}
-use Rattle.raft_core.specs.Times.{Given, Times, stand}
+use Rattle.raft_core.specs.Times.{HandedIn, Times, stand}
 
 vote_is : (m : ℕ) → 1 ≤ m → vote_of m ≡ Some m
 vote_is zero least = absurd (omega (arith, least))
 vote_is (suc m) least = refl
 
-pub stood_stands : (raft raft2 : Raft) (members peers : List ℕ) (s s2 : Stored) (p : RaftServer) (t : Times) (given : Given) → StandsFor raft members s p t
+pub stood_stands : (raft raft2 : Raft) (members peers : List ℕ) (s s2 : Stored) (p : RaftServer) (t : Times) (given : HandedIn) → StandsFor raft members s p t
     → raft.me < 128 → 1 ≤ raft.me
     → raft2.role ≡ Candidate → raft2.since ≡ given.now → raft2.word ≡ given.word → raft2.waits ≡ raft.waits → raft2.told ≡ raft.told → raft2.members.items ≡ raft.me ∷ peers
     → raft2.peers ≡ slice_set (replicate 128 (fresh 1)) raft.me voter
@@ -43,7 +43,7 @@ stood_stands raft raft2 members peers s s2 p t given st inside least role since 
     t2 : Times
     t2 = stand given t
 
-    no_leader : MachineRole.Candidate ≡ MachineRole.Leader → ⊥
+    no_leader : ModelRole.Candidate ≡ ModelRole.Leader → ⊥
     no_leader h = cc h
 
     tells : (q : ℕ) (x : Peer) → x.call ≡ None → (q == raft.me) ≡ x.voted → false ≡ x.answered → Tells x p2 t2 q

@@ -1,7 +1,6 @@
 -- What a leader tells next.
 use Rattle.std.proofs.Common.{◌≡◌, ◌≢◌, ◌⊎◌, inl, inr, ℕ, ◌+◌, ◌<◌, ◌≤◌, Bool, true, false, List, Decides, refl, sym, ap, ◌∙◌, add-one, arith}
 use Rattle.std.specs.Prelude.{slice_index_or, ◌&&◌, nat_lt}
-use Rattle.std.proofs.Math.Bool.{and-false}
 use Rattle.std.specs.Str.{bytes_eq}
 use Rattle.std.proofs.lemmas.Slice.Eq.{bytes_eq-Decides}
 use Rattle.can_frame.specs.declared.entry.Entry.{Entry}
@@ -10,15 +9,13 @@ use Rattle.can_frame.specs.Log.{IsPair, IsWellFormed, blank, entry_at}
 use Rattle.can_frame.specs.Zeros.{zeros}
 use Rattle.raft_log.specs.Stored.{Stored}
 use Rattle.raft_model.specs.Moves.Elections.{is_leader}
-use Rattle.raft_model.specs.Server.{RaftServer, Role as MachineRole}
+use Rattle.raft_model.specs.Server.{RaftServer, Role as ModelRole}
 use Rattle.raft_core.specs.declared.raft.Raft.{Raft}
-use Rattle.raft_core.specs.declared.tell.Telling.TheVariants.{Nothing, Skip, Pair}
+use Rattle.raft_core.specs.declared.tell.Telling.TheVariants.{Skip, Pair}
 use Rattle.raft_core.specs.Stands.{StandsFor, role_of}
 use Rattle.raft_core.specs.Telling.{IsToTell}
 use Rattle.raft_core.specs.Times.{Times}
-use Rattle.raft_core.proofs.Appending.{lt_false, lt_true}
-use Rattle.raft_core.proofs.Committing.{not_leading}
-use Rattle.raft_core.proofs.Moving.{leads}
+use Rattle.raft_core.proofs.Appending.{lt_true}
 
 no_pair : (e : Entry) → (e.node ≡ 0) ⊎ (127 < e.node) → IsPair e → ⊥
 no_pair e (inl zero) pair = let least = pair.least in omega (arith, zero, least)
@@ -48,15 +45,10 @@ module _ (raft : Raft) (members : List ℕ) (state : Stored) (p : RaftServer) (t
   same_next : next ≡ entry_at state.log (raft.told + 1)
   same_next = rw (st.told, st.store) (sym (entry_next state.log raft.told))
 
-  -- it does not lead, or all is told
-  pub all_told : (raft.role ≢ Leader) ⊎ (state.commit ≤ raft.told) → IsToTell p Nothing
-  all_told (inl follows) room = let none : is_leader p.memory.role ≡ false = not_leading p.memory.role (λ led. follows (leads raft.role (sym st.role ∙ led))) in rw none refl
-  all_told (inr told) room = let none : nat_lt p.memory.told p.store.commit ≡ false = rw (st.told, st.store) (lt_false raft.told state.commit told) in rw (none, and-false (is_leader p.memory.role)) refl
-
   module _ (role : raft.role ≡ Leader) (below : raft.told < state.commit) where
     something : (is_leader p.memory.role && nat_lt p.memory.told p.store.commit) ≡ true
     something =
-        let led : p.memory.role ≡ MachineRole.Leader = st.role ∙ ap role_of role in
+        let led : p.memory.role ≡ ModelRole.Leader = st.role ∙ ap role_of role in
         let less : nat_lt p.memory.told p.store.commit ≡ true = rw (st.told, st.store) (lt_true raft.told state.commit below) in
         rw (led, less) refl
 

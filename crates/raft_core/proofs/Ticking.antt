@@ -19,7 +19,7 @@ use Rattle.raft_core.specs.Backs.{Backs}
 use Rattle.raft_core.specs.Handled.{MakesMoves, counted_at, moves_of_tick, with_blank}
 use Rattle.raft_core.specs.Stands.{StandsFor, role_of}
 use Rattle.raft_core.specs.StoredPuts.{CallWrites, with_origin, store_of}
-use Rattle.raft_core.specs.Times.{Given, Times, has_waited, stand, win}
+use Rattle.raft_core.specs.Times.{HandedIn, Times, has_waited, stand, win}
 use Rattle.raft_core.proofs.Moving.{no_move, one_move, one_move_failed}
 
 -- whether a tick begins an election
@@ -27,10 +27,10 @@ abbrev pub stands : Bool → ℕ → RaftServer → Times → Bool
 stands complete now p t = (complete && has_waited t now) && (not (is_leader p.memory.role) && nat_lt p.store.term term_limit)
 
 -- `last` are the members of the last election, `known` those that are known now
-abbrev pub Ticks : {D : Type 0} {disk : Ghosts D} → List ℕ → List ℕ → ℕ → ℕ → Given → RaftServer → Times → Bool → Durable D disk → Durable D disk → Raft → Option Fault → Type 0
+abbrev pub Ticks : {D : Type 0} {disk : Ghosts D} → List ℕ → List ℕ → ℕ → ℕ → HandedIn → RaftServer → Times → Bool → Durable D disk → Durable D disk → Raft → Option Fault → Type 0
 Ticks last known m n given p t complete old new raft2 failed = let moves = moves_of_tick known m n complete given.now p t in MakesMoves (counted_at moves last known) m n given moves p t old new raft2 failed
 
--- what a candidate counts is what the machine counts
+-- what a candidate counts is what the Raft model counts
 pub counted_as : (raft : Raft) (members : List ℕ) (s : Stored) (p : RaftServer) (t : Times) → StandsFor raft members s p t → raft.role ≡ Candidate → (result : Bool)
     → ((test : ℕ → Bool) → Backs raft.me raft.peers Candidacy test → result ≡ nat_le (quorum raft.members.items) (how_many test raft.members.items)) → result ≡ has_quorum members p.memory.votes
 counted_as raft members s p t st role result counts =
@@ -41,12 +41,12 @@ counted_as raft members s p t st role result counts =
     no_follower h = cc h
 
 -- a tick that begins no election
-pub stays : {D : Type 0} {disk : Ghosts D} (members known : List ℕ) (m n : ℕ) (given : Given) (p : RaftServer) (t : Times) (complete : Bool) (old : Durable D disk) (raft : Raft) → StandsFor raft members (durable_state old) p t
+pub stays : {D : Type 0} {disk : Ghosts D} (members known : List ℕ) (m n : ℕ) (given : HandedIn) (p : RaftServer) (t : Times) (complete : Bool) (old : Durable D disk) (raft : Raft) → StandsFor raft members (durable_state old) p t
     → stands complete given.now p t ≡ false → CallWrites [] old old None → Ticks members known m n given p t complete old old raft None
 stays members known m n given p t complete old raft st no_stand made = rw no_stand (no_move members m n p t old raft made st)
 
 -- a tick that begins one
-pub ticked : {D : Type 0} {disk : Ghosts D} (last known : List ℕ) (m n : ℕ) (given : Given) (p : RaftServer) (t : Times) (complete : Bool) (old new : Durable D disk) (raft2 : Raft) (failed : Option Fault)
+pub ticked : {D : Type 0} {disk : Ghosts D} (last known : List ℕ) (m n : ℕ) (given : HandedIn) (p : RaftServer) (t : Times) (complete : Bool) (old new : Durable D disk) (raft2 : Raft) (failed : Option Fault)
     → stands complete given.now p t ≡ true → MakesMoves known m n given (with_blank known m n t p (TimeOut ∷ [])) p t old new raft2 failed → Ticks last known m n given p t complete old new raft2 failed
 ticked last known m n given p t complete old new raft2 failed yes_stand made = rw yes_stand made
 
@@ -60,7 +60,7 @@ no_leader_stands complete now p t yes_stand = by_test (complete && has_waited t 
 
 -- ---- an election
 
-module _ {D : Type 0} {disk : Ghosts D} (members : List ℕ) (m n : ℕ) (given : Given) (p : RaftServer) (t : Times) (old new : Durable D disk) (raft2 : Raft) (store : p.store ≡ store_of (durable_state old)) where
+module _ {D : Type 0} {disk : Ghosts D} (members : List ℕ) (m n : ℕ) (given : HandedIn) (p : RaftServer) (t : Times) (old new : Durable D disk) (raft2 : Raft) (store : p.store ≡ store_of (durable_state old)) where
   its_puts : (failed : Option Fault) → CallWrites (with_origin LEADER (stand_puts m (store_of (durable_state old)))) old new failed → CallWrites (with_origin LEADER (stand_puts m p.store)) old new failed
   its_puts failed made = subst (λ (z : Store). CallWrites (with_origin LEADER (stand_puts m z)) old new failed) (sym store) made
 

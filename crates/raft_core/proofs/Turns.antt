@@ -12,11 +12,11 @@ use Rattle.raft_core.specs.declared.raft.Raft.{Raft}
 use Rattle.raft_core.specs.Handled.{LeavesMoves}
 use Rattle.raft_core.specs.Stands.{StandsFor}
 use Rattle.raft_core.specs.StoredPuts.{CallWrites, PutWithOrigin, puts_alone}
-use Rattle.raft_core.specs.Times.{Given, Times, times_after, times_after_all}
+use Rattle.raft_core.specs.Times.{HandedIn, Times, times_after, times_after_all}
 use Rattle.raft_core.proofs.Origins.{raft_server_both}
 
 module _ (members : List ℕ) (m n : ℕ) where
-  pub times_joined : (given : Given) (xs ys : List Move) (p : RaftServer) (t : Times)
+  pub times_joined : (given : HandedIn) (xs ys : List Move) (p : RaftServer) (t : Times)
       → times_after_all members m n given p (xs ++ ys) t ≡ times_after_all members m n given (server_after_all members m n p xs) ys (times_after_all members m n given p xs t)
   times_joined given [] ys p t = refl
   times_joined given (x ∷ xs) ys p t = times_joined given xs ys (server_after members m n p x) (times_after members m given p x t)

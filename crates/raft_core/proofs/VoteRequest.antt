@@ -13,7 +13,7 @@ use Rattle.raft_log.specs.Stored.{Stored}
 use Rattle.raft_model.specs.Messages.{Request}
 use Rattle.raft_model.specs.Moves.Elections.{IsGranted, MayGrant, grant_puts, term_memory, term_puts, vote_puts, with_term}
 use Rattle.raft_model.specs.Moves.Move.{TakeVoteRequest}
-use Rattle.raft_model.specs.Server.{RaftServer, Store, put_all, Role as MachineRole}
+use Rattle.raft_model.specs.Server.{RaftServer, Store, put_all, Role as ModelRole}
 use Rattle.raft_model.specs.Server.Put.{PutVote}
 use Rattle.raft_core.specs.declared.peer.Peer.{Peer}
 use Rattle.raft_core.specs.declared.raft.Raft.{Raft}
@@ -21,7 +21,7 @@ use Rattle.raft_core.specs.Fits.{Fits, IsWithin}
 use Rattle.raft_core.specs.Handled.{MakesMoves}
 use Rattle.raft_core.specs.Stands.{StandsFor}
 use Rattle.raft_core.specs.StoredPuts.{CallWrites, VoteForNodes, with_origin, store_of, vote_of}
-use Rattle.raft_core.specs.Times.{Given, Times, begin_wait, raise, step_down}
+use Rattle.raft_core.specs.Times.{HandedIn, Times, begin_wait, raise, step_down}
 use Rattle.raft_core.proofs.Moving.{one_move, one_move_failed, put_then, store_after, waiting_stands}
 
 -- ---- grants
@@ -43,10 +43,10 @@ vote_counts None node least = (least, tt)
 vote_counts (Some vote) node least = tt
 
 -- a wait that begins anew begins where it begins
-down_wait : (now : ℕ) (role : MachineRole) (t : Times) → begin_wait now (step_down now role t) ≡ begin_wait now t
-down_wait now MachineRole.Follower t = refl
-down_wait now MachineRole.Candidate t = refl
-down_wait now MachineRole.Leader t = refl
+down_wait : (now : ℕ) (role : ModelRole) (t : Times) → begin_wait now (step_down now role t) ≡ begin_wait now t
+down_wait now ModelRole.Follower t = refl
+down_wait now ModelRole.Candidate t = refl
+down_wait now ModelRole.Leader t = refl
 
 raise_wait : (now term : ℕ) (p : RaftServer) (t : Times) → begin_wait now (raise now term p t) ≡ begin_wait now t
 raise_wait now term p t = by_test (nat_lt p.store.term term) where
@@ -68,7 +68,7 @@ voted_fits raft raft2 s s2 node fits stored role told me peers = record {
       (subst (λ (z : Stored). IsWithin (slice_index_or raft.peers q d) (length z.log)) (sym stored) (fits.peers (sym role ∙ leads) q d below));
 }
 
-module _ {D : Type 0} {disk : Ghosts D} (members : List ℕ) (m n : ℕ) (given : Given) (p : RaftServer) (t : Times) (r : Request) (granted : Bool) (is : IsGranted (with_term p.store r.term) r granted)
+module _ {D : Type 0} {disk : Ghosts D} (members : List ℕ) (m n : ℕ) (given : HandedIn) (p : RaftServer) (t : Times) (r : Request) (granted : Bool) (is : IsGranted (with_term p.store r.term) r granted)
     (old : Durable D disk) (raft : Raft) (st : StandsFor raft members (durable_state old) p t) where
   -- what is made of it, and what is answered
   abbrev pub IsVoted : Durable D disk → Raft → Result VoteAnswer Fault → Type 0

@@ -5,7 +5,7 @@ use Rattle.std.proofs.lemmas.List.{get_or-replicate}
 use Rattle.can_frame.specs.declared.step.Role.TheVariants.{Follower, Leader}
 use Rattle.raft_log.specs.Stored.{Stored}
 use Rattle.raft_model.specs.Moves.Elections.{win_memory}
-use Rattle.raft_model.specs.Server.{RaftServer, Store, memory_when_opened, Role as MachineRole}
+use Rattle.raft_model.specs.Server.{RaftServer, Store, memory_when_opened, Role as ModelRole}
 use Rattle.raft_core.specs.declared.peer.Peer.{Peer}
 use Rattle.raft_core.specs.declared.raft.Raft.{Raft}
 use Rattle.raft_core.specs.Fits.{Fits, IsWithin}
@@ -40,7 +40,7 @@ module _ (raft raft2 : Raft) (members : List ℕ) (s : Stored) (role : raft2.rol
         });
   }
     where
-      no_candidate : MachineRole.Leader ≡ MachineRole.Candidate → ⊥
+      no_candidate : ModelRole.Leader ≡ ModelRole.Candidate → ⊥
       no_candidate h = cc h
 
   pub won_fits : Fits raft s → raft.role ≢ Follower → raft2.me ≡ raft.me → Fits raft2 s
@@ -72,5 +72,5 @@ opened_stands raft members s now word role told since is_word waits peers = reco
   });
 }
   where
-    no_leader : MachineRole.Follower ≡ MachineRole.Leader → ⊥
+    no_leader : ModelRole.Follower ≡ ModelRole.Leader → ⊥
     no_leader h = cc h

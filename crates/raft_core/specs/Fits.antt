@@ -1,6 +1,7 @@
 -- A member fits what it has stored.
 use Rattle.std.specs.Prelude.{◌≡◌, ◌≢◌, ⊤, ℕ, ◌+◌, ◌<◌, ◌≤◌, Option, Some, None, length, slice_index_or}
 use Rattle.can_frame.specs.declared.step.Role.TheVariants.{Follower, Leader}
+use Rattle.can_frame.specs.Sizes.{node_ids}
 use Rattle.raft_log.specs.Stored.{Stored}
 use Rattle.raft_core.specs.declared.peer.Asked.{Asked}
 use Rattle.raft_core.specs.declared.peer.Asked.TheVariants.{Vote, Append}
@@ -29,5 +30,5 @@ pub record Fits (raft : Raft) (state : Stored) : Type 0 where
   pub told : raft_told raft ≤ state.commit
   -- a Candidate or Leader is itself the stored vote
   pub vote : raft_role raft ≢ Follower → state.vote ≡ raft_me raft
-  pub peers : raft_role raft ≡ Leader → (node : ℕ) (none : Peer) → node < 128 →
+  pub peers : raft_role raft ≡ Leader → (node : ℕ) (none : Peer) → node < node_ids →
       IsWithin (slice_index_or (raft_peers raft) node none) (length state.log)

@@ -1,4 +1,4 @@
--- What a call of a member does: it makes moves of the message machine.
+-- What a call of a member does: it makes moves of the Raft model.
 use Rattle.std.specs.Prelude.{◌≡◌, ℕ, Bool, true, false, not, ◌&&◌, if◌then◌else◌, List, [], ◌∷◌, ◌++◌, Option, None, IfNone}
 use Rattle.disk_model.specs.declared.disk.Disk.{Ghosts}
 use Rattle.kv_store.specs.declared.fault.Fault.{Fault}
@@ -17,16 +17,16 @@ use Rattle.raft_model.specs.Server.{RaftServer}
 use Rattle.raft_core.specs.declared.raft.Raft.{Raft}
 use Rattle.raft_core.specs.Stands.{StandsFor}
 use Rattle.raft_core.specs.StoredPuts.{CallWrites, PutWithOrigin, with_origin, puts_alone}
-use Rattle.raft_core.specs.Times.{Given, Times, has_waited, times_after_all}
+use Rattle.raft_core.specs.Times.{HandedIn, Times, has_waited, times_after_all}
 
 -- the origin of the entry that a move puts: an entry that is proposed with the origin that was given, and what a leader
 -- sent
-abbrev pub origin_of : Given → Move → ℕ
+abbrev pub origin_of : HandedIn → Move → ℕ
 origin_of given (ProposeEntry entry) = given.origin
 origin_of given move = LEADER
 
 -- the puts of these moves, which are given this, each with its origin
-abbrev pub puts_with_origins : List ℕ → ℕ → ℕ → Given → RaftServer → List Move → List PutWithOrigin
+abbrev pub puts_with_origins : List ℕ → ℕ → ℕ → HandedIn → RaftServer → List Move → List PutWithOrigin
 puts_with_origins members member step given server [] = []
 puts_with_origins members member step given server (move ∷ moves) =
     with_origin (origin_of given move) (puts members member server move)
@@ -43,13 +43,13 @@ pub record LeavesMoves {D : Type 0} {disk : Ghosts D} (members : List ℕ) (memb
       (StandsFor raft members (durable_state new) (server_after_all members member step server moves) times_then)
 
 -- they are given this: the origins are as it says, and they leave the times after them
-abbrev pub MakesMoves : {D : Type 0} {disk : Ghosts D} → List ℕ → ℕ → ℕ → Given → List Move →
+abbrev pub MakesMoves : {D : Type 0} {disk : Ghosts D} → List ℕ → ℕ → ℕ → HandedIn → List Move →
     RaftServer → Times → Durable D disk → Durable D disk → Raft → Option Fault → Type 0
 MakesMoves members member step given moves server times =
     LeavesMoves members member step moves server (puts_with_origins members member step given server moves)
     (times_after_all members member step given server moves times)
 
--- the request of the machine that a vote request carries, which the node `from` made in a step for the node `to`
+-- the request of the Raft model that a vote request carries, which the node `from` made in a step for the node `to`
 abbrev pub vote_request_of : VoteRequest → ℕ → ℕ → ℕ → Request
 vote_request_of request step from to =
     (record {
@@ -79,7 +79,7 @@ append_request_of request step from to =
       entry = request.entry;
     })
 
--- the answer of the machine that the node `from` made in a step to this request
+-- the answer of the Raft model that the node `from` made in a step to this request
 abbrev pub answer_of : ℕ → ℕ → Request → ℕ → Bool → Answer
 answer_of step from request term success =
     record { step = step; from = from; request = request; term = term; success = success }

@@ -19,7 +19,7 @@ use Rattle.raft_core.specs.RaftViews.{raft_me, raft_role}
 use Rattle.raft_core.specs.Stands.{StandsFor, role_of}
 use Rattle.raft_core.specs.StoredPuts.{CallWrites, IsStill, CallFaultIsSticky, with_origin, store_of}
 use Rattle.raft_core.specs.Taken.{proposal}
-use Rattle.raft_core.specs.Times.{Given, Times}
+use Rattle.raft_core.specs.Times.{HandedIn, Times}
 
 -- no rule refuses the entry: it is appended, or the store fails
 abbrev pub IsTried : Result Proposed Fault → Type 0
@@ -36,7 +36,7 @@ entry_puts entry = PutEntry entry ∷ PutLonger entry ∷ []
 -- a leader is to append the entry of its term with this unique ID and this node ID, and to store it with this origin
 pub record Appends {D : Type 0} {disk : Ghosts D} (raft : Raft) (uid : List ℕ) (node origin : ℕ)
     (old new : Durable D disk) (result : Result Proposed Fault) : Type 0 where
-  -- it is tried exactly where the machine may propose it
+  -- it is tried exactly where the Raft model may propose it
   pub tried : (server : RaftServer) → server.store ≡ store_of (durable_state old) →
       server.memory.role ≡ role_of (raft_role raft) →
       IsTried result ↔ MayPropose server (proposal server.store.term uid node)
@@ -46,7 +46,7 @@ pub record Appends {D : Type 0} {disk : Ghosts D} (raft : Raft) (uid : List ℕ)
       old new (result_err result)
   pub moves : (members : List ℕ) (step : ℕ) (server : RaftServer) (times : Times) →
       StandsFor raft members (durable_state old) server times →
-      (given : Given) → given.origin ≡ origin →
+      (given : HandedIn) → given.origin ≡ origin →
       let entry = proposal server.store.term uid node in MayPropose server entry →
       MakesMoves members (raft_me raft) step given (ProposeEntry entry ∷ []) server times old new raft
       (result_err result)

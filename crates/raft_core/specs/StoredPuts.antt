@@ -1,4 +1,4 @@
--- The stored state and its puts, in the words of the message machine and in those of `raft_log`.
+-- The stored state and its puts, in the words of the Raft model and in those of `raft_log`.
 use Rattle.std.specs.Prelude.{◌≡◌, ◌≤◌, ⊤, ℕ, zero, suc, List, [], ◌∷◌, ◌++◌, take, Option, Some, None, IfSome, is_none}
 use Rattle.disk_model.specs.declared.disk.Disk.{Ghosts}
 use Rattle.kv_store.specs.declared.fault.Fault.{Fault}
@@ -23,8 +23,8 @@ number_of_vote (Some node) = node
 abbrev pub store_of : Stored → Store
 store_of state = record { term = state.term; vote = vote_of state.vote; log = state.log; commit = state.commit }
 
--- a put of the machine, which knows no origins, and beside it the origin of the entry that it puts; a put of no entry
--- uses none
+-- a put of the Raft model, which knows no origins, and beside it the origin of the entry that it puts; a put of no
+-- entry uses none
 pub record PutWithOrigin : Type 0 where
   pub put : Put
   pub origin : ℕ
@@ -39,7 +39,7 @@ abbrev pub puts_alone : List PutWithOrigin → List Put
 puts_alone [] = []
 puts_alone (first ∷ rest) = first.put ∷ puts_alone rest
 
--- a put of the machine as it is made of a stored state, with this origin of its entry: a log that is longer, or
+-- a put of the Raft model as it is made of a stored state, with this origin of its entry: a log that is longer, or
 -- shorter, is put by its last
 abbrev pub put_from : ℕ → Put → Stored → StoredPut
 put_from origin (PutTerm term) state = StoredPut.PutTerm term
@@ -58,7 +58,7 @@ stored_puts [] state = []
 stored_puts (first ∷ rest) state =
     stored_put first state ∷ stored_puts rest (after_put (stored_put first state) state)
 
--- a put of a vote is for none, or for a node, whose ID is not 0: then what is stored says the same as the machine
+-- a put of a vote is for none, or for a node, whose ID is not 0: then what is stored says the same as the Raft model
 abbrev pub VotesForNode : Put → Type 0
 VotesForNode (PutTerm term) = ⊤
 VotesForNode (PutVote None) = ⊤
@@ -95,7 +95,7 @@ pub record CallFaultIsSticky {D : Type 0} {disk : Ghosts D} (old new : Durable D
   pub still : (fault : Fault) → durable_fault old ≡ Some fault → IsStill old new
   pub kept : IfSome failed (λ fault. durable_fault new ≡ Some fault)
 
--- these puts of the machine are made in order, each with its origin, up to the first that fails, whose fault is
+-- these puts of the Raft model are made in order, each with its origin, up to the first that fails, whose fault is
 -- answered; so without a put none is
 pub record CallWrites {D : Type 0} {disk : Ghosts D} (puts : List PutWithOrigin) (old new : Durable D disk)
     (failed : Option Fault) : Type 0 where

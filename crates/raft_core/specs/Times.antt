@@ -1,5 +1,5 @@
--- What a member keeps beside the message machine: when it began to wait, and what it knows of its calls.
--- A move changes it as it changes the memory of the machine (`raft_model`, `memory_after`).
+-- What a member keeps beside the Raft model: when it began to wait, and what it knows of its calls.
+-- A move changes it as it changes the memory of the Raft model (`raft_model`, `memory_after`).
 use Rattle.std.specs.Prelude.{ℕ, ◌+◌, ◌-◌, ◌%◌, ◌&&◌, ◌==◌, Bool, true, false, not, if◌then◌else◌, nat_lt, nat_le, List, [], ◌∷◌, Option, Some, None}
 use Rattle.can_frame.specs.Timing.{call_timeout, election_spread, election_wait, heartbeat_interval}
 use Rattle.raft_log.specs.declared.origin.TheConstants.{WIN}
@@ -34,23 +34,23 @@ pub record Times : Type 0 where
 
 -- what the caller hands in: the moment, the word of a tick, the transfer ID of a call, and the origin of an entry
 -- that is proposed
-pub record Given : Type 0 where
+pub record HandedIn : Type 0 where
   pub now : ℕ
   pub word : ℕ
   pub id : ℕ
   pub origin : ℕ
 
 -- a moment alone, that of a tick, that of a call, and that of a proposal; a leader's blank has the origin of a win
-abbrev pub given_at : ℕ → Given
+abbrev pub given_at : ℕ → HandedIn
 given_at now = record { now = now; word = 0; id = 0; origin = WIN }
 
-abbrev pub given_tick : ℕ → ℕ → Given
+abbrev pub given_tick : ℕ → ℕ → HandedIn
 given_tick now word = record { now = now; word = word; id = 0; origin = WIN }
 
-abbrev pub given_call : ℕ → ℕ → Given
+abbrev pub given_call : ℕ → ℕ → HandedIn
 given_call now id = record { now = now; word = 0; id = id; origin = 0 }
 
-abbrev pub given_proposal : ℕ → ℕ → Given
+abbrev pub given_proposal : ℕ → ℕ → HandedIn
 given_proposal now origin = record { now = now; word = 0; id = 0; origin = origin }
 
 -- a member that opens
@@ -116,7 +116,7 @@ step_down now Leader times = begin_wait now times
 abbrev pub raise : ℕ → ℕ → RaftServer → Times → Times
 raise now term server times = if nat_lt server.store.term term then step_down now server.memory.role times else times
 
-abbrev pub stand : Given → Times → Times
+abbrev pub stand : HandedIn → Times → Times
 stand given times =
     record times { since = given.now; word = given.word; answered = λ node. false; sending = λ node. None }
 
@@ -126,7 +126,7 @@ win times = record times { appended = λ node. None; sending = λ node. None }
 abbrev pub end_call : ℕ → Times → Times
 end_call node times = record times { sending = at times.sending node None }
 
-abbrev pub begin_call : ℕ → Given → Times → Times
+abbrev pub begin_call : ℕ → HandedIn → Times → Times
 begin_call node given times =
     record times { sending = at times.sending node (Some (record { id = given.id; moment = given.now })) }
 
@@ -135,7 +135,7 @@ abbrev pub end_vote_call : ℕ → Times → Times
 end_vote_call node times = record (end_call node times) { answered = at times.answered node true }
 
 -- the times after a move of a member, in a cluster of these members
-abbrev pub times_after : List ℕ → ℕ → Given → RaftServer → Move → Times → Times
+abbrev pub times_after : List ℕ → ℕ → HandedIn → RaftServer → Move → Times → Times
 times_after members member given server TimeOut times =
     if has_quorum members (own_vote member) then win (stand given times) else stand given times
 times_after members member given server (TakeVoteRequest request granted) times =
@@ -162,7 +162,7 @@ times_after members member given server (AnswerAgain place) times = times
 times_after members member given server (GiveUp node) times = end_call node times
 
 -- after these moves of a step with a number
-abbrev pub times_after_all : List ℕ → ℕ → ℕ → Given → RaftServer → List Move → Times → Times
+abbrev pub times_after_all : List ℕ → ℕ → ℕ → HandedIn → RaftServer → List Move → Times → Times
 times_after_all members member step given server [] times = times
 times_after_all members member step given server (move ∷ moves) times =
     times_after_all members member step given (server_after members member step server move) moves

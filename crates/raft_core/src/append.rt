@@ -23,6 +23,7 @@ ghost use Rattle.raft_core.specs.Times.{Times, given_at, is_awaited};
 use crate::laws::puts_in_turn;
 use crate::raft::Raft;
 use can_frame::laws::logs_stay_injective;
+use can_frame::sizes::LOG_LIMIT;
 use can_frame::{Entry, Role};
 use disk_model::Disk;
 use dsdl_codec::{AppendAnswer, AppendRequest};
@@ -170,8 +171,8 @@ impl Raft {
     /// Updates the matched and the next index of a peer from its answer.
     fn move_on(&mut self, from: u8, reach: u8, success: bool)
         requires most { from ≤ 125 }
-        requires reach { reach ≤ 127 }
-        requires matched { (none : Peer) → (slice_index_or self.old.peers from none).matched ≤ 127 }
+        requires reach { reach ≤ log_limit }
+        requires matched { (none : Peer) → (slice_index_or self.old.peers from none).matched ≤ log_limit }
         ensures stands { (members : List ℕ) (state : Stored) (server : RaftServer) (times : Times) →
             StandsFor self.old members state server times → self.old.role ≡ Leader →
             (answer : Answer) → answer.from ≡ from → answer.success ≡ success →
@@ -275,7 +276,7 @@ fn may_add<D: Disk>(d: &Durable<D>, previous: u8, entry: &Entry) -> bool
     ensures { IsTrue result ↔ ((previous < log_limit) × ((durable_state d.now).commit ≤ previous) ×
         MayFollow (take previous (durable_state d.now).log) (durable_state d.now).term entry.now) }
 {
-    previous < 127
+    (previous as usize) < LOG_LIMIT
         && d.commit() <= previous
         && may_follow(&d.log()[..previous as usize], d.term(), entry)
 }

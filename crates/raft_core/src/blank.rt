@@ -9,10 +9,11 @@ ghost use Rattle.raft_model.specs.Duty.{is_heard, takes_blank};
 ghost use Rattle.raft_model.specs.Moves.Elections.{is_leader};
 ghost use Rattle.raft_model.specs.Server.{RaftServer};
 ghost use Rattle.raft_core.specs.StoredPuts.{CallFaultIsSticky, store_of};
-ghost use Rattle.raft_core.specs.Times.{Given, Times};
+ghost use Rattle.raft_core.specs.Times.{HandedIn, Times};
 
 use crate::laws::puts_in_turn;
 use crate::raft::{Cause, Raft};
+use can_frame::sizes::LOG_LIMIT;
 use can_frame::{Entry, Role};
 use disk_model::Disk;
 use kv_store::Fault;
@@ -33,7 +34,7 @@ impl Raft {
         requires fits { Fits self.now (durable_state d.old) }
         ensures moves { (members : List ℕ) (step : ℕ) (server : RaftServer) (times : Times) →
             StandsFor self.now members (durable_state d.old) server times →
-            (given : Given) → given.origin ≡ WIN →
+            (given : HandedIn) → given.origin ≡ WIN →
             (before : RaftServer) → is_leader before.memory.role ≡ led →
             MakesMoves members self.now.me step given
             (blank_behind (is_moment members self.now.me times before server) server)
@@ -88,7 +89,7 @@ impl Raft {
 fn takes_blank<D: Disk>(d: &Durable<D>) -> bool
     ensures { result ≡ takes_blank (store_of (durable_state d.now)) }
 {
-    d.commit() < d.last() && d.last() < 127
+    d.commit() < d.last() && (d.last() as usize) < LOG_LIMIT
 }
 
 /// The blank of a term.

@@ -1,4 +1,6 @@
 ghost use Rattle.std.specs.Prelude.{◌≡◌, ◌≢◌, ◌≤◌, ◌<◌, ◌∷◌, [], ℕ, List, true, false, Option, Some, None, IsNone, IfSome, length, ◌+◌};
+ghost use Rattle.can_frame.specs.Log.{log_limit};
+ghost use Rattle.can_frame.specs.Sizes.{node_ids};
 ghost use Rattle.raft_log.specs.DurableViews.{durable_state};
 ghost use Rattle.raft_log.specs.Stored.{Stored};
 ghost use Rattle.raft_core.specs.Requests.{append_call, vote_call};
@@ -17,6 +19,7 @@ ghost use Rattle.can_frame.specs.declared.step.Role.TheVariants.{Leader};
 use crate::peer::{Asked, Peer, Waiting};
 use crate::raft::Raft;
 use can_frame::Role;
+use can_frame::sizes::NODE_IDS;
 use can_frame::timing::CALL_TIMEOUT;
 use disk_model::Disk;
 use dsdl_codec::{AppendRequest, VoteRequest};
@@ -58,7 +61,7 @@ impl Raft {
         ensures moves { (members : List ℕ) (step : ℕ) (state : Stored)
             (server : RaftServer) (times : Times) →
             StandsFor self.old members state server times →
-            (nodes : List ℕ) → ((node : ℕ) → node < 128 → server.memory.pending node ≢ None →
+            (nodes : List ℕ) → ((node : ℕ) → node < node_ids → server.memory.pending node ≢ None →
             In node nodes) → let moves = moves_of_expire (overdue times now nodes) in
             StandsFor self.new members state
             (server_after_all members (raft_me self.old) step server moves)
@@ -215,7 +218,7 @@ impl Raft {
 }
 
 /// When the first of the calls that wait was made; the last moment there is where none waits.
-fn first_call(peers: &[Peer; 128]) -> u64
+fn first_call(peers: &[Peer; NODE_IDS]) -> u64
     ensures { WaitSince result peers.now }
 {
     let mut first = u64::MAX;
@@ -256,7 +259,7 @@ fn append_request<D: Disk>(d: &Durable<D>, next: u8) -> AppendRequest
 
 /// The last place that an append request speaks of.
 fn last_place(request: &AppendRequest) -> u8
-    requires { request.now.prev_index ≤ 127 }
+    requires { request.now.prev_index ≤ log_limit }
     ensures { result ≡ request.now.prev_index + items request.now.entry }
 {
     match request.entry {

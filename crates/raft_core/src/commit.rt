@@ -6,7 +6,7 @@ ghost use Rattle.raft_model.specs.Duty.{commit_phase};
 ghost use Rattle.raft_model.specs.Moves.Leading.{CanCommit, IsCommitIndex};
 ghost use Rattle.raft_model.specs.Server.{RaftServer};
 ghost use Rattle.raft_core.specs.StoredPuts.{CallFaultIsSticky};
-ghost use Rattle.raft_core.specs.Times.{Given, Times};
+ghost use Rattle.raft_core.specs.Times.{HandedIn, Times};
 
 use crate::laws::puts_in_turn;
 use crate::raft::{Cause, Raft};
@@ -28,7 +28,7 @@ impl Raft {
         requires fits { Fits self.old (durable_state d.old) }
         ensures moves { (members : List ℕ) (step : ℕ) (server : RaftServer) (times : Times) →
             StandsFor self.old members (durable_state d.old) server times →
-            (given : Given) →
+            (given : HandedIn) →
             MakesMoves members (raft_me self.old) step given
             (commit_phase members (raft_me self.old) server) server times
             d.old d.new self.new (result_err result) }

@@ -2,6 +2,7 @@ ghost use Rattle.std.specs.Prelude.{◌≡◌, ◌≢◌, ◌≤◌, ◌<◌, �
 ghost use Rattle.std.specs.Result.{result_err};
 ghost use Rattle.arrayvec.specs.ArrayVec.{array_vec_len};
 ghost use Rattle.can_frame.specs.declared.step.Role.TheVariants.{Follower, Candidate};
+ghost use Rattle.can_frame.specs.Sizes.{most_members, node_ids};
 ghost use Rattle.raft_log.specs.DurableViews.{durable_state};
 ghost use Rattle.raft_model.specs.Moves.Elections.{is_leader, stand_memory, stand_puts, term_limit, win_memory};
 ghost use Rattle.raft_model.specs.Moves.Move.{TimeOut};
@@ -16,6 +17,7 @@ use crate::peer::Peer;
 use crate::raft::{Cause, Raft};
 use arrayvec::ArrayVec;
 use can_frame::Role;
+use can_frame::sizes::{MOST_MEMBERS, NODE_IDS};
 use can_frame::timing::{ELECTION_SPREAD, ELECTION_WAIT};
 use disk_model::Disk;
 use kv_store::Fault;
@@ -159,7 +161,7 @@ impl Raft {
     {
         self.role = Role::Leader;
         self.told = d.commit();
-        self.peers = [Peer::new(d.last() + 1); 128];
+        self.peers = [Peer::new(d.last() + 1); NODE_IDS];
     }
 }
 
@@ -181,18 +183,18 @@ fn vote_for_itself<D: Disk>(d: &mut Durable<D>, me: u8) -> Result<(), Fault>
 }
 
 /// A candidate has its own vote, and knows nothing of the others.
-fn peers_of_candidate(me: u8) -> [Peer; 128]
-    requires { me < 128 }
-    ensures { result ≡ slice_set (replicate 128 (fresh 1)) me voter }
+fn peers_of_candidate(me: u8) -> [Peer; NODE_IDS]
+    requires { me < node_ids }
+    ensures { result ≡ slice_set (replicate node_ids (fresh 1)) me voter }
 {
-    let mut peers = [Peer::new(1); 128];
+    let mut peers = [Peer::new(1); NODE_IDS];
     peers[me as usize] = Peer::voter();
     peers
 }
 
 /// All members: the member itself and its peers.
-fn all_members(me: u8, peers: &[u8]) -> ArrayVec<u8, 5>
-    requires { length peers.now < 5 }
+fn all_members(me: u8, peers: &[u8]) -> ArrayVec<u8, MOST_MEMBERS>
+    requires { length peers.now < most_members }
     ensures items { result.items ≡ me ∷ peers.now }
     ensures len { array_vec_len result ≡ length peers.now + 1 }
 {

@@ -14,7 +14,7 @@ ghost use Rattle.raft_core.specs.Handled.{LeavesMoves, puts_with_origins};
 ghost use Rattle.raft_core.specs.RaftViews.{raft_members};
 ghost use Rattle.raft_core.specs.Stands.{StandsFor};
 ghost use Rattle.raft_core.specs.StoredPuts.{AreOfNodes, CallWrites, CallFaultIsSticky, PutWithOrigin, VoteForNodes, puts_alone, store_of, stored_puts};
-ghost use Rattle.raft_core.specs.Times.{Given, Times, times_after_all};
+ghost use Rattle.raft_core.specs.Times.{HandedIn, Times, times_after_all};
 
 use disk_model::Disk;
 
@@ -56,7 +56,7 @@ pub fn moves_in_turn<D: Disk>()
         ≡ puts_of_all members member step (server_after_all members member step server xs) ys →
         LeavesMoves members member step (xs ++ ys) server (one ++ two) second
         old new after (Some fault) }
-    ensures times { (members : List ℕ) (member step : ℕ) (given : Given) (xs ys : List Move)
+    ensures times { (members : List ℕ) (member step : ℕ) (given : HandedIn) (xs ys : List Move)
         (server : RaftServer) (times : Times) →
         times_after_all members member step given server (xs ++ ys) times
         ≡ times_after_all members member step given
@@ -67,25 +67,25 @@ pub fn moves_in_turn<D: Disk>()
     raft_model::laws::law_joined();
 }
 
-/// Puts that are noted with their origins are the puts of the machine, of moves and of moves one after the
+/// Puts that are noted with their origins are the puts of the Raft model, of moves and of moves one after the
 /// other.
 pub fn noted_puts_are_the_puts()
-    ensures raft_server { (members : List ℕ) (member step : ℕ) (given : Given)
+    ensures raft_server { (members : List ℕ) (member step : ℕ) (given : HandedIn)
         (server : RaftServer) (moves : List Move) →
         puts_alone (puts_with_origins members member step given server moves)
         ≡ puts_of_all members member step server moves }
     ensures both { (xs ys : List PutWithOrigin) → puts_alone (xs ++ ys) ≡ puts_alone xs ++ puts_alone ys }
     ensures front { (puts : List PutWithOrigin) (count : ℕ) →
         puts_alone (take count puts) ≡ take count (puts_alone puts) }
-    ensures in_turn { (members : List ℕ) (member step : ℕ) (given : Given)
+    ensures in_turn { (members : List ℕ) (member step : ℕ) (given : HandedIn)
         (server : RaftServer) (xs ys : List Move) →
         puts_with_origins members member step given server (xs ++ ys)
         ≡ puts_with_origins members member step given server xs ++ puts_with_origins members member step given
         (server_after_all members member step server xs) ys }
 {}
 
-/// What is stored after the puts of a member is what the machine's server has after them, and so after
-/// some of the first of them: a stop leaves the server that the machine has then. The machine's vote for
+/// What is stored after the puts of a member is what the Raft model's server has after them, and so after
+/// some of the first of them: a stop leaves the server that the Raft model has then. The Raft model's vote for
 /// node 0 would be stored as none; no move of a member makes one.
 pub fn puts_are_stored()
     ensures votes { (members : List ℕ) (member step : ℕ) (server : RaftServer) (moves : List Move) →
@@ -100,8 +100,8 @@ pub fn puts_are_stored()
         ≡ put_all (store_of state) (take count (puts_alone puts)) }
 {}
 
-/// An opening that gives a store its second form changes nothing of what the machine's server has stored,
-/// wherever it is cut: the machine knows no origins.
+/// An opening that gives a store its second form changes nothing of what the Raft model's server has stored,
+/// wherever it is cut: the Raft model knows no origins.
 pub fn an_opening_keeps_the_store()
     ensures { (state : Stored) (count : ℕ) →
         store_of (after_puts (take count (opening_puts state)) state) ≡ store_of state }

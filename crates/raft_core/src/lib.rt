@@ -4,9 +4,9 @@
 //! through stops. It is handed the moment and what came, makes its puts through the `Durable`, and
 //! sends nothing: it says what is owed, and its caller sends.
 //!
-//! The model is a server of the message machine (`raft_model`), and beside it the times that the machine
-//! does not know (`specs/Times.antt`): waits, and the moments and transfer IDs of calls. A `Raft` stands
-//! for such a pair (`specs/Stands.antt`). The one contract: each call makes moves of the machine
+//! The model of a `Raft` is a server of the Raft model (`raft_model`), and beside it the times that the Raft
+//! model does not know (`specs/Times.antt`): waits, and the moments and transfer IDs of calls. A `Raft` stands
+//! for such a pair (`specs/Stands.antt`). The one contract: each call makes moves of the Raft model
 //! (`specs/Handled.antt`), with exactly their puts, in order; and where no put fails, it leaves a `Raft`
 //! that stands for the server and the times after those moves. Where a put fails, the puts before it are
 //! done, and the `Raft` is not to be used again. The fault is one of the disk, counted in this call, and is
@@ -14,7 +14,7 @@
 //! [`laws`] joins the calls of a step.
 //!
 //! Each entry is stored with its origin, by which it came into this member's log: from a leader, by a
-//! proposal, as a reservation or as the blank of a win. The machine knows no origins: a put of it is noted
+//! proposal, as a reservation or as the blank of a win. The Raft model knows no origins: a put of it is noted
 //! with one beside it.
 //!
 //! A `Raft` fits what is stored (`specs/Fits.antt`); every call that takes the stored state asks for

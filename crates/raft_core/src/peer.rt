@@ -1,4 +1,5 @@
 ghost use Rattle.std.specs.Prelude.{◌≡◌, ◌≤◌, ◌+◌, ◌-◌, true, false, Some, None};
+ghost use Rattle.can_frame.specs.Log.{log_limit};
 ghost use Rattle.raft_core.specs.Times as clock;
 
 use can_frame::timing::{CALL_TIMEOUT, HEARTBEAT_INTERVAL};
@@ -124,8 +125,8 @@ impl Peer {
     /// The peer answered an append request that reached up to a place. Where it refused it, the entry
     /// before is tried next.
     pub fn move_on(&mut self, reach: u8, success: bool)
-        requires reach { reach ≤ 127 }
-        requires matched { self.old.matched ≤ 127 }
+        requires reach { reach ≤ log_limit }
+        requires matched { self.old.matched ≤ log_limit }
         ensures { self.new ≡ moved_on reach success self.old }
     {
         if success {

@@ -9,6 +9,7 @@ ghost use Rattle.raft_core.specs.Taken.{IsTaken};
 use crate::laws::puts_in_turn;
 use crate::raft::Raft;
 use can_frame::laws::logs_stay_injective;
+use can_frame::sizes::LOG_LIMIT;
 use can_frame::{Entry, NodeId, Role, Uid, has_node_id, has_uid, is_zero};
 use disk_model::Disk;
 use kv_store::Fault;
@@ -23,7 +24,7 @@ pub enum Proposed {
 
     NotLeader,
 
-    /// The log has 127 entries, and takes no more.
+    /// The log has [`LOG_LIMIT`] entries, and takes no more.
     LogFull,
 
     /// The unique ID that was to be given a node ID, or the node ID, stands in the log already.
@@ -113,7 +114,7 @@ impl Raft {
         if self.role != Role::Leader {
             return Ok(Proposed::NotLeader);
         }
-        if d.last() >= 127 {
+        if d.last() as usize >= LOG_LIMIT {
             return Ok(Proposed::LogFull);
         }
         if is_taken(d.log(), uid, node.get()) {

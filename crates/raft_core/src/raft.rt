@@ -2,6 +2,7 @@ ghost use Rattle.std.specs.Prelude.{◌≡◌, ◌≢◌, ◌<◌, ◌≤◌, �
 ghost use Rattle.std.specs.Result.{result_err};
 ghost use Rattle.arrayvec.specs.ArrayVec.{array_vec_len};
 ghost use Rattle.can_frame.specs.declared.step.Role.TheVariants.{Follower};
+ghost use Rattle.can_frame.specs.Sizes.{most_members, node_ids};
 ghost use Rattle.raft_log.specs.DurableViews.{durable_state};
 ghost use Rattle.raft_log.specs.Stored.{Stored};
 ghost use Rattle.raft_model.specs.Lists.{how_many};
@@ -13,6 +14,7 @@ use crate::laws::puts_in_turn;
 use crate::peer::Peer;
 use arrayvec::ArrayVec;
 use can_frame::Role;
+use can_frame::sizes::{MOST_MEMBERS, NODE_IDS};
 use disk_model::Disk;
 use kv_store::Fault;
 use raft_log::Durable;
@@ -41,21 +43,21 @@ pub struct Raft {
     pub(crate) waits: bool,
 
     /// All members, itself first, since the last election.
-    pub(crate) members: ArrayVec<u8, 5>,
+    pub(crate) members: ArrayVec<u8, MOST_MEMBERS>,
 
     /// By node ID.
-    pub(crate) peers: [Peer; 128],
+    pub(crate) peers: [Peer; NODE_IDS],
 
     /// No call that waits was made before this moment.
     pub(crate) calls_since: u64,
 
     ghost least: { 1 ≤ me },
     ghost most: { me ≤ 125 },
-    ghost five: { size ≤ 5 },
-    ghost short: { array_vec_len members ≤ 5 },
-    ghost table: { length peers ≡ 128 },
+    ghost five: { size ≤ most_members },
+    ghost short: { array_vec_len members ≤ most_members },
+    ghost table: { length peers ≡ node_ids },
     ghost young: { WaitSince calls_since peers },
-    ghost numbered: { (i : ℕ) → i < length members.items → slice_index_or members.items i 0 < 128 },
+    ghost numbered: { (i : ℕ) → i < length members.items → slice_index_or members.items i 0 < node_ids },
     ghost complete: { role ≢ Follower → array_vec_len members ≡ size },
 }
 
@@ -79,13 +81,13 @@ impl Raft {
     ghost use Rattle.raft_core.specs.Times as clock;
     ghost use Rattle.raft_core.specs.Times.{Times, opened_times};
 
-    /// A member that opens now, in a cluster of 1 to 5 members. The word makes its wait for an election
-    /// differ from the others'.
+    /// A member that opens now, in a cluster of 1 to [`MOST_MEMBERS`] members. The word makes its wait for
+    /// an election differ from the others'.
     pub fn new(me: u8, size: u8, now: u64, word: u32) -> Raft
         requires least { 1 ≤ me }
         requires most { me ≤ 125 }
         requires some { 1 ≤ size }
-        requires five { size ≤ 5 }
+        requires five { size ≤ most_members }
         ensures stands { (members : List ℕ) (state : Stored) →
             StandsFor result members state (record { store = store_of state; memory = memory_when_opened })
             (opened_times now word) }
@@ -102,7 +104,7 @@ impl Raft {
             word,
             waits: false,
             members: ArrayVec::new(),
-            peers: [Peer::new(1); 128],
+            peers: [Peer::new(1); NODE_IDS],
             calls_since: u64::MAX,
         }
     }
@@ -189,7 +191,7 @@ impl Raft {
     }
 
     fn backs(&self, node: u8, cause: Cause) -> bool
-        requires { node < 128 }
+        requires { node < node_ids }
         ensures { (test : ℕ → Bool) → Backs self.now.me self.now.peers cause test →
             result ≡ test node }
     {

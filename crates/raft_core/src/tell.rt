@@ -4,7 +4,7 @@ ghost use Rattle.raft_log.specs.Stored.{Stored};
 ghost use Rattle.raft_model.specs.Handlers.{server_after_all};
 ghost use Rattle.raft_model.specs.Moves.{Move};
 ghost use Rattle.raft_model.specs.Server.{RaftServer};
-ghost use Rattle.raft_core.specs.Times.{Given, Times, times_after_all};
+ghost use Rattle.raft_core.specs.Times.{HandedIn, Times, times_after_all};
 
 use crate::raft::Raft;
 use can_frame::{NodeId, Role, Uid, is_zero};
@@ -56,7 +56,7 @@ impl Raft {
         ensures moves { (members : List ℕ) (step : ℕ) (state : Stored)
             (server : RaftServer) (times : Times) →
             StandsFor self.old members state server times →
-            (given : Given) (move : Move) → IsTelling move →
+            (given : HandedIn) (move : Move) → IsTelling move →
             StandsFor self.new members state
             (server_after_all members (raft_me self.old) step server (move ∷ []))
             (times_after_all members (raft_me self.old) step given server (move ∷ []) times) }

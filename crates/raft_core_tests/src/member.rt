@@ -2,12 +2,14 @@
 
 ghost use Rattle.std.specs.Prelude.{◌≡◌, ◌<◌, ◌≤◌};
 ghost use Rattle.std.proofs.Props.{props};
+ghost use Rattle.can_frame.specs.Sizes.{most_members};
 ghost use Rattle.raft_core.specs.Fits.{Fits};
 ghost use Rattle.raft_core.specs.OneFit.{Fits-prop};
 ghost use Rattle.raft_core.specs.RaftViews.{raft_size};
 ghost use Rattle.raft_core.specs.Telling.{IsNext};
 ghost use Rattle.raft_log.specs.DurableViews.{durable_state};
 
+use can_frame::sizes::LOG_LIMIT;
 use can_frame::{Entry, NodeId, Uid, is_zero};
 use disk_model::{IMAGE, MemoryDisk};
 use dsdl_codec::{AppendAnswer, AppendRequest, VoteAnswer, VoteRequest};
@@ -55,7 +57,7 @@ pub(crate) fn stored(term: u32, entries: &[Entry], commit: u8) -> Option<Durable
 }
 
 fn append(durable: &mut Durable<MemoryDisk>, entry: Entry) -> Option<()> {
-    if durable.last() >= 127 || !may_follow(durable.log(), durable.term(), &entry) {
+    if durable.last() as usize >= LOG_LIMIT || !may_follow(durable.log(), durable.term(), &entry) {
         return None;
     }
     durable.append(entry, origin::EXCHANGE).ok()
@@ -80,7 +82,7 @@ impl Member {
     /// Member 1 of a cluster of this size, opened at 0 ms with a word.
     pub fn open(durable: Durable<MemoryDisk>, size: u8, word: u32) -> Member
         requires some { 1 ≤ size }
-        requires five { size ≤ 5 }
+        requires five { size ≤ most_members }
     {
         let raft = Raft::new(1, size, 0, word);
         Member {

@@ -8,7 +8,7 @@ use Rattle.kv_store.specs.declared.fault.Fault.{Fault}
 use Rattle.kv_store.specs.Image.{AlwaysStandsFor, StandsFor, put_calls, put_in, turned}
 use Rattle.kv_store.specs.StoreViews.{store_map}
 use Rattle.raft_log.specs.declared.durable.Durable.{Durable}
-use Rattle.raft_log.specs.Allowed.{IsAllowed, IsNext, next_after}
+use Rattle.raft_log.specs.Allowed.{IsAllowed, IsNext}
 use Rattle.raft_log.specs.declared.change.Change.{Change}
 use Rattle.raft_log.specs.declared.change.Change.TheVariants.{Term, Vote, Next, Longer, Shorter, Commit, Origin, Version}
 use Rattle.raft_log.specs.Changes.{FitsBytes, MayMake, next_for, put_of}
@@ -23,15 +23,13 @@ use Rattle.raft_log.proofs.States.{image_stands, old_or_new}
 -- a map after a put that is allowed
 module _ (map : ℕ → List ℕ) (s : Stored) (next : Option Kept) (put : Put) (key : ℕ) (bytes : List ℕ) (is_key : key ≡ key_of put s) (is_bytes : bytes ≡ bytes_of put)
     (has : Stores map s) (at : IsNext map s next) (allowed : IsAllowed put s next) where
+  -- the map after the put stores the state after it
   pub put_stores : Stores (put_in map key bytes) (after_put put s)
   put_stores = subst (λ k. Stores (put_in map k bytes) (after_put put s)) (sym is_key) (subst (λ v. Stores (put_in map (key_of put s) v) (after_put put s)) (sym is_bytes) (step map s next put has at allowed).0)
 
+  -- so does each map that is equal to it
   pub now_stores : (map' : ℕ → List ℕ) → ((k : ℕ) → map' k ≡ put_in map key bytes k) → Stores map' (after_put put s)
   now_stores map' each = subst (λ m. Stores m (after_put put s)) (λ i k. sym (each k) i) put_stores
-
-  pub put_next : IsNext (put_in map key bytes) (after_put put s) (next_after put next)
-  put_next = subst (λ k. IsNext (put_in map k bytes) (after_put put s) (next_after put next)) (sym is_key)
-      (subst (λ v. IsNext (put_in map (key_of put s) v) (after_put put s) (next_after put next)) (sym is_bytes) (step map s next put has at allowed).1)
 
 -- a change that may be made is an allowed put
 pub allowed_change : (change : Change) (s : Stored) → MayMake change s → FitsBytes change s → IsAllowed (put_of change s) s (next_for change)
@@ -56,6 +54,7 @@ module _ {D : Type 0} {disk : Ghosts D} (next : Option Kept) (put : Put) (old ne
   made_of : (ok : Bool) → MadeAt key bytes ok → MadeAt (key_of put (durable_state old)) (bytes_of put) ok
   made_of ok made = subst (λ k. MadeAt k (bytes_of put) ok) is_key (subst (λ b. MadeAt key b ok) is_bytes made)
 
+  -- a put that failed wrote all of it or nothing
   pub put_failed : {T : Type 0} (result : Result T Fault) (fault : Fault) → result ≡ Err fault → disk.tells (durable_disk new) ≡ disk.tells (durable_disk old) → durable_state new ≡ durable_state old
       → (durable_fault old ≡ None → disk.tells (durable_disk old) ≡ true → (image : List ℕ) → MayLeave (disk.contents (durable_disk new)) image
       → StandsFor image (store_map old.store) ⊎ StandsFor image (put_in (store_map old.store) key bytes))
@@ -75,6 +74,7 @@ module _ {D : Type 0} {disk : Ghosts D} (next : Option Kept) (put : Put) (old ne
     stop works told image left = old_or_new image (store_map old.store) (put_in (store_map old.store) key bytes) (durable_state old) (after_put put (durable_state old)) (old.stored works)
         (put_stores (store_map old.store) (durable_state old) next put key bytes is_key is_bytes (old.stored works) at allowed) (left_either works told image left)
 
+  -- a put that was done
   pub put_done : durable_fault new ≡ None → durable_state new ≡ after_put put (durable_state old)
       → (disk.tells (durable_disk old) ≡ true → AlwaysStandsFor (disk.contents (durable_disk new)) (store_map new.store))
       → MadeAt key bytes true

@@ -3,14 +3,14 @@
 -- key 0 version: empty, which is 0, or the byte 1 or 2
 -- key 1 term: empty, which is 0, or 4 bytes, the low one first
 -- key 2 vote: empty, which is 0, or a byte of 0 to 125
--- key 3 last: empty, which is 0, or a byte of 0 to 127
+-- key 3 last: empty, which is 0, or a byte of 0 to log_limit
 -- key 4 commit: empty, which is 0, or a byte of 0 to last
 -- key 4 + i, for i from 1 to last: the entry at place i, 21 bytes, which may follow the entries before it,
 -- and its origin, a byte of 0 to 4, which may be missing unless the version is 2
 use Rattle.std.specs.Prelude.{◌≡◌, ℕ, ◌+◌, ◌*◌, ◌%◌, ◌<◌, ◌≤◌, List, Option, None, length, map, take, drop, slice_get, slice_index, slice_index_or}
 use Rattle.std.specs.List.{range_with_len}
 use Rattle.can_frame.specs.declared.entry.Entry.{Entry}
-use Rattle.can_frame.specs.Log.{blank}
+use Rattle.can_frame.specs.Log.{blank, log_limit}
 use Rattle.disk_model.specs.Contents.{Contents, MayLeave}
 use Rattle.kv_store.specs.Image.{IsFirstDamaged, key_count, length_byte, value_in, value_limit}
 use Rattle.raft_log.specs.MayFollow.{IsStorable, MayFollow}
@@ -71,7 +71,7 @@ pub record KeepsRules (map : ℕ → List ℕ) (below : ℕ) : Type 0 where
   pub version : 0 < below → IsVersion (map 0)
   pub term : 1 < below → IsTerm (map 1)
   pub vote : 2 < below → IsByteUpTo 125 (map 2)
-  pub last : 3 < below → IsByteUpTo 127 (map 3)
+  pub last : 3 < below → IsByteUpTo log_limit (map 3)
   pub commit : 4 < below → IsByteUpTo (last_of map) (map 4)
   pub entry_value : (i : ℕ) → 5 + i < below → i < last_of map → IsEntryValue (version_of map) (map (5 + i))
   pub entry : (i : ℕ) → 5 + i < below → i < last_of map →

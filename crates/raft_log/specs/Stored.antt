@@ -4,7 +4,7 @@ use Rattle.std.specs.Prelude.{ℕ, zero, suc, ◌+◌, ◌==◌, ◌⊎◌, List
 use Rattle.can_frame.specs.declared.entry.Entry.{Entry}
 
 -- how an entry came into the log of this member: 0 from a leader, or stored before origins were, 1 by the
--- exchange, 2 by GetNodeInfo, 3 a reservation, 4 the blank of its own win
+-- exchange, 2 by GetNodeInfo, 3 a reservation, 4 a leader's blank
 abbrev pub origin_limit : ℕ
 origin_limit = 4
 

@@ -12,5 +12,5 @@ pub const NODE_INFO: u8 = 2;
 /// A reservation of a node ID.
 pub const RESERVATION: u8 = 3;
 
-/// The blank that this member appended when it won an election.
+/// A leader's blank, which this member appended as the leader.
 pub const WIN: u8 = 4;

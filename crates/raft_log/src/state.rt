@@ -14,21 +14,19 @@ use crate::values::{
 };
 use arrayvec::ArrayVec;
 use can_frame::Entry;
+use can_frame::sizes::LOG_LIMIT;
 use kv_store::Table;
-
-/// How many entries a log has at most.
-const PLACES: u8 = 127;
 
 /// A stored state in memory. A vote of 0 is none.
 #[derive(Drop)]
 pub struct State {
     pub term: u32,
     pub vote: u8,
-    pub log: ArrayVec<Entry, 127>,
+    pub log: ArrayVec<Entry, LOG_LIMIT>,
     pub commit: u8,
 
     /// Of each entry; none where it is stored in the first form, which has no place for it.
-    pub origins: ArrayVec<Option<u8>, 127>,
+    pub origins: ArrayVec<Option<u8>, LOG_LIMIT>,
 
     /// Of the store, 0 where none is stored.
     pub version: u8,
@@ -70,7 +68,7 @@ impl State {
         let Some(vote) = read_byte(table.get(VOTE), 125) else {
             return Err(VOTE);
         };
-        let Some(last) = read_byte(table.get(LAST), PLACES) else {
+        let Some(last) = read_byte(table.get(LAST), LOG_LIMIT as u8) else {
             return Err(LAST);
         };
         let Some(commit) = read_byte(table.get(COMMIT), last) else {

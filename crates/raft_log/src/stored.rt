@@ -7,6 +7,7 @@ use crate::origin::LEADER;
 use crate::state::State;
 use arrayvec::ArrayVec;
 use can_frame::Entry;
+use can_frame::sizes::LOG_LIMIT;
 use disk_model::IMAGE;
 use kv_store::Table;
 
@@ -20,11 +21,11 @@ pub struct Stored {
 
     /// How many of the entries are committed.
     pub commit: u8,
-    pub entries: ArrayVec<Entry, 127>,
+    pub entries: ArrayVec<Entry, LOG_LIMIT>,
 
     /// How each entry came into the log: a number of [`crate::origin`]. One that was stored before origins
     /// were is 0.
-    pub origins: ArrayVec<u8, 127>,
+    pub origins: ArrayVec<u8, LOG_LIMIT>,
 }
 
 impl Stored {
@@ -54,7 +55,7 @@ impl Stored {
 }
 
 /// Origins as numbers.
-fn told(origins: &[Option<u8>]) -> ArrayVec<u8, 127>
+fn told(origins: &[Option<u8>]) -> ArrayVec<u8, LOG_LIMIT>
     requires { length origins.now ≤ log_limit }
     ensures { result.items ≡ told_origins origins.now }
 {

@@ -51,7 +51,16 @@ leg_yield members m f r v up c h = subst (λ (l : List Put). Leg members m (Take
     (leg_term members m (TakeAppendRequest r v) f r.term up c)
     (record {
       marks = Silent (Yield m) ∷ [];
-      walk = ((term_up f.raft_server r.term ∙ up, current_role f.raft_server r h), refl, refl, refl, refl, tt);
+      walk = (
+        record {
+          may = (term_up f.raft_server r.term ∙ up, current_role f.raft_server r h);
+          bag = refl;
+          store = refl;
+          history = refl;
+          ledger = refl;
+        },
+        tt,
+      );
       puts = refl;
       ends = refl;
     }))
@@ -65,7 +74,7 @@ accepted members m n g r v h = elim (lt_tells g.raft_server.store.commit (min r.
     between = focused m g (Advance m r);
     leg = record {
       marks = Puts (PutCommit (min r.commit (reach r))) (Advance m r) ∷ [];
-      walk = (record { holds = h; above = z.1 }, refl, refl, refl, refl, tt);
+      walk = (record { may = record { holds = h; above = z.1 }; bag = refl; store = refl; history = refl; ledger = refl }, tt);
       puts = refl;
       ends = refl;
     };
@@ -159,27 +168,31 @@ pub leg_grow : (members : List ℕ) (m : ℕ) (g : Focus) (r : Request) (v : Ver
 leg_grow members m g r v e h = record {
   marks = Puts (PutEntry e) (Write m e) ∷ Puts (PutLonger e) (Grow m r e) ∷ [];
   walk = (
-    h.fits.up,
-    refl,
-    refl,
-    refl,
-    sym (ledger_stays g.ledger g.raft_server.store h.covered),
+    record {
+      may = h.fits.up;
+      bag = refl;
+      store = refl;
+      history = refl;
+      ledger = sym (ledger_stays g.ledger g.raft_server.store h.covered);
+    },
     (
       record {
-        fits = h.fits;
-        entry = h.entry;
-        at_end = h.at_end;
-        room = h.room;
-        well_formed = h.well_formed;
-        rises = h.rises;
-        below = h.below;
-        injective = h.injective;
+        may = record {
+          fits = h.fits;
+          entry = h.entry;
+          at_end = h.at_end;
+          room = h.room;
+          well_formed = h.well_formed;
+          rises = h.rises;
+          below = h.below;
+          injective = h.injective;
+        };
+        bag = refl;
+        store = refl;
+        history = refl;
+        ledger = sym (ledger_stays g.ledger (put g.raft_server.store (PutLonger e))
+            (same_commit g.ledger g.raft_server.store (put g.raft_server.store (PutLonger e)) h.covered refl));
       },
-      refl,
-      refl,
-      refl,
-      sym (ledger_stays g.ledger (put g.raft_server.store (PutLonger e))
-          (same_commit g.ledger g.raft_server.store (put g.raft_server.store (PutLonger e)) h.covered refl)),
       tt,
     ),
   );
@@ -279,16 +292,18 @@ append_request_lawful members m n f r (Added e) up c h = elim (lt_tells r.previo
         marks = Puts (PutShorter r.previous) (Cut m r e) ∷ [];
         walk = (
           record {
-            fits = fits;
-            entry = a.carried;
-            inside = z.1;
-            differs = λ d. a.not_there (z.1, d);
-            after_commit = omega (arith, a.after_commit);
+            may = record {
+              fits = fits;
+              entry = a.carried;
+              inside = z.1;
+              differs = λ d. a.not_there (z.1, d);
+              after_commit = omega (arith, a.after_commit);
+            };
+            bag = refl;
+            store = refl;
+            history = refl;
+            ledger = sym (ledger_stays f.ledger (put (with_term f.raft_server.store r.term) (PutShorter r.previous)) shorter);
           },
-          refl,
-          refl,
-          refl,
-          sym (ledger_stays f.ledger (put (with_term f.raft_server.store r.term) (PutShorter r.previous)) shorter),
           tt,
         );
         puts = refl;

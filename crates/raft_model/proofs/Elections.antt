@@ -1,5 +1,5 @@
 -- Time out, vote requests and vote answers are lawful lists of micro moves.
-use Rattle.std.proofs.Common.{◌≡◌, ℕ, ◌+◌, Bool, true, false, List, [], ◌∷◌, refl, arith, sym, ◌∙◌, subst, inl, inr, Option, Some, None}
+use Rattle.std.proofs.Common.{◌≡◌, ℕ, ◌+◌, ◌<◌, Bool, true, false, List, [], ◌∷◌, refl, arith, sym, ◌∙◌, subst, inl, inr, Option, Some, None}
 use Rattle.std.specs.Prelude.{◌&&◌, ◌==◌}
 use Rattle.std.proofs.lemmas.Bool.{eqb-true}
 use Rattle.raft_model.specs.Lists.{In}
@@ -8,17 +8,17 @@ use Rattle.raft_model.specs.Messages.Message.{Answers}
 use Rattle.raft_model.specs.Server.{Role, Store, put, put_all}
 use Rattle.raft_model.specs.Server.Role.{Follower, Candidate, Leader}
 use Rattle.raft_model.specs.Server.Put.{PutTerm, PutVote}
-use Rattle.raft_model.specs.History.{with_vote_kept}
+use Rattle.raft_model.specs.History.{History, with_vote_kept}
 use Rattle.raft_model.specs.Ledger.{ledger_with}
-use Rattle.raft_model.specs.Moves.{Move, IsEnabled, IsHeard, has_quorum, own_vote, stand_puts, is_candidate, counts, votes_with, vote_puts, vote_history, answer_to}
+use Rattle.raft_model.specs.Moves.{Move, IsEnabled, IsHeard, has_quorum, own_vote, stand_puts, is_candidate, counts, votes_with, vote_puts, vote_history, stepped_down, move_history, answer_to}
 use Rattle.raft_model.specs.Moves.Move.{TimeOut, TakeVoteRequest, TakeVoteAnswer}
 use Rattle.raft_model.proofs.Micro.Micro.{Raise, Clear, Stand, Grant, Deny, Count, Drop, Win}
 use Rattle.raft_model.proofs.Focus.{Focus, focused}
 use Rattle.raft_model.proofs.Here.{MayHere, SaidHere}
 use Rattle.raft_model.proofs.Walk.{Leg, Covered, ledger_stays, join}
 use Rattle.raft_model.proofs.Walk.Mark.{Silent, Puts}
-use Rattle.raft_model.proofs.Whole.{Whole, at_most, lt_tells}
-use Rattle.raft_model.proofs.Terms.{same_commit, term_focus, leg_term, term_log, term_up}
+use Rattle.raft_model.proofs.Whole.{Result, Whole, at_most, lt_tells}
+use Rattle.raft_model.proofs.Terms.{same_commit, term_focus, leg_term, term_log, term_up, term_forgets, clear_forgets}
 use Rattle.raft_model.proofs.Quorum.{tell}
 use Rattle.raft_model.proofs.Complete.{and_left, and_right}
 
@@ -32,18 +32,31 @@ leg_stand members m f up c = record {
   marks = Puts (PutTerm (f.raft_server.store.term + 1)) (Raise m (f.raft_server.store.term + 1)) ∷ Puts (PutVote None) (Clear m) ∷ Puts
       (PutVote (Some m)) (Stand m) ∷ [];
   walk = (
-    (up, omega arith),
-    refl,
-    refl,
-    refl,
-    stays (put f.raft_server.store (PutTerm (f.raft_server.store.term + 1))) refl,
+    record {
+      may = (up, omega arith);
+      bag = refl;
+      store = refl;
+      history = refl;
+      ledger = stays (put f.raft_server.store (PutTerm (f.raft_server.store.term + 1))) refl;
+    },
     (
-      refl,
-      refl,
-      refl,
-      refl,
-      stays (put (put f.raft_server.store (PutTerm (f.raft_server.store.term + 1))) (PutVote None)) refl,
-      ((refl, up), refl, refl, refl, stays (put_all f.raft_server.store (stand_puts m f.raft_server.store)) refl, tt),
+      record {
+        may = refl;
+        bag = refl;
+        store = refl;
+        history = refl;
+        ledger = stays (put (put f.raft_server.store (PutTerm (f.raft_server.store.term + 1))) (PutVote None)) refl;
+      },
+      (
+        record {
+          may = (refl, up);
+          bag = refl;
+          store = refl;
+          history = refl;
+          ledger = stays (put_all f.raft_server.store (stand_puts m f.raft_server.store)) refl;
+        },
+        tt,
+      ),
     ),
   );
   puts = refl;
@@ -136,13 +149,15 @@ vote_request_lawful members m n f r true up c h = by_vote (term_focus f r.term).
           (sym e) (record {
             marks = Puts (PutVote (Some r.from)) (Grant m n r) ∷ [];
             walk = (
-              may,
-              refl,
-              refl,
-              refl,
-              sym (ledger_stays f.ledger (put (term_focus f r.term).raft_server.store (PutVote (Some r.from)))
-                  (same_commit f.ledger (term_focus f r.term).raft_server.store (put (term_focus f r.term).raft_server.store (PutVote (Some r.from)))
-                  (covered_term f r.term c) refl)),
+              record {
+                may = may;
+                bag = refl;
+                store = refl;
+                history = refl;
+                ledger = sym (ledger_stays f.ledger (put (term_focus f r.term).raft_server.store (PutVote (Some r.from)))
+                    (same_commit f.ledger (term_focus f r.term).raft_server.store (put (term_focus f r.term).raft_server.store (PutVote (Some r.from)))
+                    (covered_term f r.term c) refl));
+              },
               tt,
             );
             puts = refl;
@@ -197,40 +212,60 @@ was_said bag store a (inr late) same granted = elim (late.for_nothing) [
   | inr below ↦ absurd (omega (arith, below, same))
 ]
 
+-- an answer with a higher term, taken by either move: the call to its sender ends, and the server is a Follower of that
+-- term; nothing is remembered
+pub stepping_down : (members : List ℕ) (m : ℕ) (mv : Move) (f : Focus) (a : Answer) (remembered : History → History)
+    → f.raft_server.memory.up ≡ true → Covered f.ledger f.raft_server.store → f.raft_server.store.term < a.term
+    → ((h : History) → h ≡ remembered h)
+    → Result members m mv f (PutTerm a.term ∷ PutVote None ∷ []) (stepped_down f.raft_server.memory a.from) remembered []
+stepping_down members m mv f a remembered up c above nothing = record {
+  between = focused m (focused m (focused m f (Drop m a.from)) (Raise m a.term)) (Clear m);
+  leg = record {
+    marks = Silent (Drop m a.from) ∷ Puts (PutTerm a.term) (Raise m a.term) ∷ Puts (PutVote None) (Clear m) ∷ [];
+    walk = (
+      record { may = up; bag = refl; store = refl; history = refl; ledger = refl },
+      (
+        record {
+          may = (up, above);
+          bag = refl;
+          store = refl;
+          history = sym (term_forgets m mv f.raft_server.store a.term f.history);
+          ledger = stays (put f.raft_server.store (PutTerm a.term)) refl;
+        },
+        (
+          record {
+            may = refl;
+            bag = refl;
+            store = refl;
+            history = sym (clear_forgets m mv (put f.raft_server.store (PutTerm a.term)) f.history);
+            ledger = stays (put (put f.raft_server.store (PutTerm a.term)) (PutVote None)) refl;
+          },
+          tt,
+        ),
+      ),
+    );
+    puts = refl;
+    ends = refl;
+  };
+  rest = [];
+  lawful = tt;
+  store = refl;
+  ledger = refl;
+  history = nothing f.history;
+  memory = refl;
+  bag = refl;
+  said = λ x i. absurd i;
+}
+  where
+    stays : (u : Store) → u.commit ≡ f.raft_server.store.commit → f.ledger ≡ ledger_with f.ledger u
+    stays u e = sym (ledger_stays f.ledger u (same_commit f.ledger f.raft_server.store u c e))
+
 pub vote_answer_lawful : (members : List ℕ) (m n : ℕ) (f : Focus) (a : Answer) → f.raft_server.memory.up ≡ true → Covered f.ledger f.raft_server.store
     → IsEnabled members m f.bag [] f.raft_server (TakeVoteAnswer a) → Whole members m n f (TakeVoteAnswer a)
 vote_answer_lawful members m n f a up c h = elim (lt_tells f.raft_server.store.term a.term) [
-  | inl z ↦ rw (z.0) (record {
-    between = focused m (focused m (focused m f (Drop m a.from)) (Raise m a.term)) (Clear m);
-    leg = record {
-      marks = Silent (Drop m a.from) ∷ Puts (PutTerm a.term) (Raise m a.term) ∷ Puts (PutVote None) (Clear m) ∷ [];
-      walk = (
-        up,
-        refl,
-        refl,
-        refl,
-        refl,
-        (
-          (up, z.1),
-          refl,
-          refl,
-          refl,
-          stays (put f.raft_server.store (PutTerm a.term)) refl,
-          (refl, refl, refl, refl, stays (put (put f.raft_server.store (PutTerm a.term)) (PutVote None)) refl, tt),
-        ),
-      );
-      puts = refl;
-      ends = refl;
-    };
-    rest = [];
-    lawful = tt;
-    store = refl;
-    ledger = refl;
-    history = rw (z.0) refl;
-    memory = refl;
-    bag = refl;
-    said = λ x i. absurd i;
-  })
+  | inl z ↦ rw (z.0)
+      (stepping_down members m (TakeVoteAnswer a) f a (move_history members m f.raft_server (TakeVoteAnswer a)) up c z.1
+      (λ x. rw (z.0) refl))
   | inr z ↦ rw (z.0) (elim (tell (counts f.raft_server a)) [
     | inr k ↦ rw (k) (record {
       between = f;
@@ -273,9 +308,6 @@ vote_answer_lawful members m n f a up c h = elim (lt_tells f.raft_server.store.t
   ])
 ]
   where
-    stays : (u : Store) → u.commit ≡ f.raft_server.store.commit → f.ledger ≡ ledger_with f.ledger u
-    stays u e = sym (ledger_stays f.ledger u (same_commit f.ledger f.raft_server.store u c e))
-
     stands : counts f.raft_server a ≡ true → f.raft_server.memory.role ≡ Candidate
     stands k = candidate_is f.raft_server.memory.role (and_left (is_candidate f.raft_server.memory.role) _ k)
 
@@ -289,19 +321,21 @@ vote_answer_lawful members m n f a up c h = elim (lt_tells f.raft_server.store.t
           marks = Silent (Count m a) ∷ [];
           walk = (
             record {
-              up = up;
-              role = stands k;
-              in_bag = was_said f.bag f.raft_server.store a h.0 same granted;
-              kind = h.2;
-              mine = h.1;
-              own_term = same;
-              success = granted;
-              pending = h.3;
+              may = record {
+                up = up;
+                role = stands k;
+                in_bag = was_said f.bag f.raft_server.store a h.0 same granted;
+                kind = h.2;
+                mine = h.1;
+                own_term = same;
+                success = granted;
+                pending = h.3;
+              };
+              bag = refl;
+              store = refl;
+              history = refl;
+              ledger = refl;
             },
-            refl,
-            refl,
-            refl,
-            refl,
             tt,
           );
           puts = refl;

@@ -1,22 +1,21 @@
 -- Append answers, proposals, commits, pairs and calls are lawful lists of micro moves.
-use Rattle.std.proofs.Common.{◌≡◌, ℕ, true, List, [], ◌∷◌, refl, sym, inl, inr, None}
+use Rattle.std.proofs.Common.{◌≡◌, ℕ, true, List, [], ◌∷◌, refl, sym, inl, inr}
 use Rattle.std.specs.Prelude.{◌&&◌, ◌==◌}
 use Rattle.std.proofs.lemmas.Bool.{eqb-true}
 use Rattle.raft_model.specs.Messages.{Answer}
 use Rattle.raft_model.specs.Messages.Message.{Requests, Pairs}
-use Rattle.raft_model.specs.Server.{Role, Store, put}
+use Rattle.raft_model.specs.Server.{Role, put}
 use Rattle.raft_model.specs.Server.Role.{Follower, Candidate, Leader}
-use Rattle.raft_model.specs.Server.Put.{PutTerm, PutVote, PutEntry, PutLonger, PutCommit}
-use Rattle.raft_model.specs.Ledger.{ledger_with}
+use Rattle.raft_model.specs.Server.Put.{PutEntry, PutLonger, PutCommit}
 use Rattle.raft_model.specs.Moves.{Move, IsEnabled, is_leader, vote_request, append_request, pair_at}
 use Rattle.raft_model.specs.Moves.Move.{TimeOut, TakeVoteRequest, TakeVoteAnswer, TakeAppendRequest, TakeAppendAnswer, ProposeEntry, CommitTo, TellPair, TellNothing, CallForVote, CallToAppend, AnswerAgain, GiveUp}
-use Rattle.raft_model.proofs.Micro.Micro.{Raise, Clear, Drop, Taken, Write, Propose, Commit, Tell, Pass, Again, CallVote, CallAppend}
+use Rattle.raft_model.proofs.Micro.Micro.{Drop, Taken, Write, Propose, Commit, Tell, Pass, Again, CallVote, CallAppend}
 use Rattle.raft_model.proofs.Focus.{Focus, focused}
 use Rattle.raft_model.proofs.Walk.{Covered, ledger_stays}
-use Rattle.raft_model.proofs.Walk.Mark.{Silent, Puts}
+use Rattle.raft_model.proofs.Walk.Mark.{Puts}
 use Rattle.raft_model.proofs.Whole.{Whole, lt_tells}
 use Rattle.raft_model.proofs.Terms.{same_commit}
-use Rattle.raft_model.proofs.Elections.{only_said, time_out, vote_request_lawful, was_said, vote_answer_lawful}
+use Rattle.raft_model.proofs.Elections.{only_said, time_out, vote_request_lawful, was_said, stepping_down, vote_answer_lawful}
 use Rattle.raft_model.proofs.Appends.{append_request_lawful}
 use Rattle.raft_model.proofs.Quorum.{tell}
 use Rattle.raft_model.proofs.Complete.{and_left, and_right}
@@ -29,37 +28,7 @@ leader_is Leader h = refl
 pub append_answer_lawful : (members : List ℕ) (m n : ℕ) (f : Focus) (a : Answer) → f.raft_server.memory.up ≡ true → Covered f.ledger f.raft_server.store
     → IsEnabled members m f.bag [] f.raft_server (TakeAppendAnswer a) → Whole members m n f (TakeAppendAnswer a)
 append_answer_lawful members m n f a up c h = elim (lt_tells f.raft_server.store.term a.term) [
-  | inl z ↦ rw (z.0) (record {
-    between = focused m (focused m (focused m f (Drop m a.from)) (Raise m a.term)) (Clear m);
-    leg = record {
-      marks = Silent (Drop m a.from) ∷ Puts (PutTerm a.term) (Raise m a.term) ∷ Puts (PutVote None) (Clear m) ∷ [];
-      walk = (
-        up,
-        refl,
-        refl,
-        refl,
-        refl,
-        (
-          (up, z.1),
-          refl,
-          refl,
-          refl,
-          stays (put f.raft_server.store (PutTerm a.term)) refl,
-          (refl, refl, refl, refl, stays (put (put f.raft_server.store (PutTerm a.term)) (PutVote None)) refl, tt),
-        ),
-      );
-      puts = refl;
-      ends = refl;
-    };
-    rest = [];
-    lawful = tt;
-    store = refl;
-    ledger = refl;
-    history = refl;
-    memory = refl;
-    bag = refl;
-    said = λ x i. absurd i;
-  })
+  | inl z ↦ rw (z.0) (stepping_down members m (TakeAppendAnswer a) f a (λ x. x) up c z.1 (λ x. refl))
   | inr z ↦ rw (z.0) (elim (tell (is_leader f.raft_server.memory.role && (a.term == f.raft_server.store.term))) [
     | inl k ↦ rw (k) (record {
       between = f;
@@ -99,9 +68,6 @@ append_answer_lawful members m n f a up c h = elim (lt_tells f.raft_server.store
     })
   ])
 ]
-  where
-    stays : (u : Store) → u.commit ≡ f.raft_server.store.commit → f.ledger ≡ ledger_with f.ledger u
-    stays u e = sym (ledger_stays f.ledger u (same_commit f.ledger f.raft_server.store u c e))
 
 -- every move is a lawful list of micro moves with the result that the table says
 pub move_lawful : (members : List ℕ) (m n : ℕ) (f : Focus) (called : List ℕ) (mv : Move) → f.raft_server.memory.up ≡ true
@@ -116,25 +82,23 @@ move_lawful members m n f called (ProposeEntry e) up c h = record {
   leg = record {
     marks = Puts (PutEntry e) (Write m e) ∷ Puts (PutLonger e) (Propose m e) ∷ [];
     walk = (
-      up,
-      refl,
-      refl,
-      refl,
-      sym (ledger_stays f.ledger f.raft_server.store c),
+      record { may = up; bag = refl; store = refl; history = refl; ledger = sym (ledger_stays f.ledger f.raft_server.store c) },
       (
         record {
-          up = up;
-          role = h.leads;
-          room = h.room;
-          own_term = h.own_term;
-          well_formed = h.kind;
-          injective = h.injective;
+          may = record {
+            up = up;
+            role = h.leads;
+            room = h.room;
+            own_term = h.own_term;
+            well_formed = h.kind;
+            injective = h.injective;
+          };
+          bag = refl;
+          store = refl;
+          history = refl;
+          ledger = sym (ledger_stays f.ledger (put f.raft_server.store (PutLonger e))
+              (same_commit f.ledger f.raft_server.store (put f.raft_server.store (PutLonger e)) c refl));
         },
-        refl,
-        refl,
-        refl,
-        sym (ledger_stays f.ledger (put f.raft_server.store (PutLonger e))
-            (same_commit f.ledger f.raft_server.store (put f.raft_server.store (PutLonger e)) c refl)),
         tt,
       ),
     );
@@ -155,11 +119,20 @@ move_lawful members m n f called (CommitTo k) up c h = record {
   leg = record {
     marks = Puts (PutCommit k) (Commit m k) ∷ [];
     walk = (
-      record { up = up; role = h.0; above = h.1.can.above; inside = h.1.can.inside; own_term = h.1.can.own_term; held = h.1.can.held },
-      refl,
-      refl,
-      refl,
-      refl,
+      record {
+        may = record {
+          up = up;
+          role = h.0;
+          above = h.1.can.above;
+          inside = h.1.can.inside;
+          own_term = h.1.can.own_term;
+          held = h.1.can.held;
+        };
+        bag = refl;
+        store = refl;
+        history = refl;
+        ledger = refl;
+      },
       tt,
     );
     puts = refl;

@@ -57,19 +57,23 @@ leg_term members m mv f t up c = elim (lt_tells f.raft_server.store.term t) [
   | inl h ↦ rw (h.0) (record {
     marks = Puts (PutTerm t) (Raise m t) ∷ Puts (PutVote None) (Clear m) ∷ [];
     walk = (
-      (up, h.1),
-      refl,
-      refl,
-      sym (term_forgets m mv f.raft_server.store t f.history),
-      sym (ledger_stays f.ledger (put f.raft_server.store (PutTerm t))
-          (same_commit f.ledger f.raft_server.store (put f.raft_server.store (PutTerm t)) c refl)),
+      record {
+        may = (up, h.1);
+        bag = refl;
+        store = refl;
+        history = sym (term_forgets m mv f.raft_server.store t f.history);
+        ledger = sym (ledger_stays f.ledger (put f.raft_server.store (PutTerm t))
+            (same_commit f.ledger f.raft_server.store (put f.raft_server.store (PutTerm t)) c refl));
+      },
       (
-        refl,
-        refl,
-        refl,
-        sym (clear_forgets m mv (put f.raft_server.store (PutTerm t)) f.history),
-        sym (ledger_stays f.ledger (put (put f.raft_server.store (PutTerm t)) (PutVote None))
-            (same_commit f.ledger f.raft_server.store (put (put f.raft_server.store (PutTerm t)) (PutVote None)) c refl)),
+        record {
+          may = refl;
+          bag = refl;
+          store = refl;
+          history = sym (clear_forgets m mv (put f.raft_server.store (PutTerm t)) f.history);
+          ledger = sym (ledger_stays f.ledger (put (put f.raft_server.store (PutTerm t)) (PutVote None))
+              (same_commit f.ledger f.raft_server.store (put (put f.raft_server.store (PutTerm t)) (PutVote None)) c refl));
+        },
         tt,
       ),
     );

@@ -14,8 +14,8 @@ use Rattle.raft_model.specs.Runs.{World}
 
 -- Stored.
 
--- commit is at most last, last at most 127; entries are well formed; terms do not fall, are at least 1 and at most
--- the server's; the log is injective
+-- commit is at most last, last at most `log_limit`; entries are well formed; terms do not fall, are at least 1 and at
+-- most the server's; the log is injective
 pub record SoundStore (store : Store) : Type 0 where
   pub commit : store.commit ≤ length store.log
   pub last : length store.log ≤ log_limit

@@ -1,4 +1,4 @@
--- What the message machine says of logs, beside the definitions of `can_frame`.
+-- What the Raft model says of logs, beside the definitions of `can_frame`.
 use Rattle.std.specs.Prelude.{◌≡◌, ℕ, ◌<◌, ◌≤◌, List, length, ◌⊎◌, take, slice_index_or}
 use Rattle.can_frame.specs.declared.entry.Entry.{Entry}
 use Rattle.can_frame.specs.Log.{blank, entry_at}

@@ -1,4 +1,4 @@
--- A server counts over the members that it knows; the machine counts over all of them.
+-- A server counts over the members that it knows; the Raft model counts over all of them.
 use Rattle.std.specs.Prelude.{◌≡◌, ◌≢◌, ⊤, ℕ, Bool, true, false, List, [], ◌∷◌, length}
 use Rattle.raft_model.specs.Lists.{In}
 use Rattle.raft_model.specs.Server.{RaftServer}

@@ -39,8 +39,9 @@ pub data Move : Type 0 where
 abbrev pub next_entry : RaftServer → Entry
 next_entry server = slice_index_or server.store.log server.memory.told (blank 0)
 
--- An answer that was said to an earlier call, and is taken for the answer to the one that is pending: it has the verdict
--- and the term of what was said. It counts for nothing, since it refuses, or its term is below the server's own.
+-- An answer that counts for nothing, since it refuses, or its term is below the server's own; and some answer of its
+-- term and its verdict was said, by whichever server and to whichever request. So the model has an answer to an earlier
+-- call that is taken for the answer to the pending one.
 pub record IsLate (bag : List Message) (store : Store) (answer : Answer) : Type 0 where
   pub said : Answer
   pub was_said : In (Answers said) bag

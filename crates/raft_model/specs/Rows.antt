@@ -1,4 +1,4 @@
--- That the machine is not empty: a step of one move, which `law_rows` says of each row of the table, and what
+-- That the Raft model is not empty: a step of one move, which `law_rows` says of each row of the table, and what
 -- `law_example` comes to.
 use Rattle.std.specs.Prelude.{◌≡◌, ℕ, ◌<◌, true, List, [], ◌∷◌, length}
 use Rattle.can_frame.specs.Log.{IsPair, IsReservation}

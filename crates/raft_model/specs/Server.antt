@@ -90,12 +90,4 @@ memory_when_down = record {
 
 -- memory after opening: Follower, nothing announced, no votes counted, no calls
 abbrev pub memory_when_opened : Memory
-memory_when_opened = record {
-  up = true;
-  role = Role.Follower;
-  told = 0;
-  votes = λ peer. false;
-  next = λ peer. 0;
-  matched = λ peer. 0;
-  pending = λ peer. None;
-}
+memory_when_opened = record memory_when_down { up = true }

@@ -1,4 +1,4 @@
-//! Laws of the message machine, each the contract of a function that does nothing.
+//! Laws of the Raft model, each the contract of a function that does nothing.
 //!
 //! A run is any list of events that may come, from empty stores on: openings, whole steps, and stops between
 //! any two puts of a step. A law of every run holds after each event of it, stops included.
@@ -244,7 +244,7 @@ pub fn law_decisions()
         → CanCommit members member server index → ⊥ }
 {}
 
-/// A server that knows all members counts over its own list what the machine counts over all of them, and a
+/// A server that knows all members counts over its own list what the Raft model counts over all of them, and a
 /// move that may come by this list may come. A move that counts no votes needs no list, nor does a Follower.
 /// The puts of a move are the same over any list.
 /// So the moves of a step told over its own list are those over all members: the same server after them, the
@@ -353,9 +353,9 @@ pub fn law_duty()
         → WinDuty members ((run (initial_world members) events).server member) }
 {}
 
-/// Each row of the table whose condition holds is a lawful step by itself, so the machine is not empty. An answer
-/// that a pending call takes is in the bag, or it is late: it answers an earlier call, with the verdict and the term
-/// of an answer in the bag, and refuses or has a term below the server's own.
+/// Each row of the table whose condition holds is a lawful step by itself, so the Raft model is not empty. An answer
+/// that a pending call takes is in the bag, or it is late: it has the verdict and the term of some answer in the bag,
+/// and refuses or has a term below the server's own.
 pub fn law_rows()
     ensures time_out { (world : World) (member step : ℕ) → IsReady world member step
         → (world.server member).memory.role ≢ Leader
@@ -416,7 +416,7 @@ pub fn law_rows()
         → MayTake world member step (GiveUp peer) }
 {}
 
-/// The machine does something: three members come to a leader that has committed an entry and told its pair,
+/// The Raft model does something: three members come to a leader that has committed an entry and told its pair,
 /// and go on to one that has committed a reservation too, and has passed it over.
 pub fn law_example()
     ensures pair { (events : List Event) × Lawful (initial_world (1 ∷ 2 ∷ 3 ∷ [])) events

@@ -1,4 +1,4 @@
-//! The message machine of a cluster, and its laws. There is no code in it that runs.
+//! The Raft model of a cluster, and its laws. There is no code in it that runs.
 //!
 //! The members take moves and exchange messages that may be lost, repeated or late; a member may stop
 //! anywhere, also between two of its puts. A member may take an answer to an earlier call for the answer to the

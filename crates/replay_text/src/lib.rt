@@ -2,7 +2,7 @@
 //!
 //! A schedule is rows ([`Row`]), one a line; a report is a line for each row that was carried out, of
 //! what it did ([`Told`]). Both grammars are definitions over bytes: `specs/Schedule.antt` says which
-//! lines read as a row, and `specs/Report.antt` the bytes of each line. [`read_row`] answers exactly the
+//! lines read as a row, and `specs/ReportLine.antt` the bytes of each line. [`read_row`] answers exactly the
 //! row as which a line reads, and `None` exactly where it reads as none; [`write_told`] gives exactly the
 //! line. `specs/Lines.antt` takes rows from the front of some bytes.
 //!

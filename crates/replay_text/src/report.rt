@@ -1,7 +1,8 @@
 ghost use Rattle.std.specs.Prelude.{◌≡◌, ◌≤◌, ◌<◌, ◌+◌, ◌*◌, ◌++◌, ◌∷◌, [], codes, length, decimal, flat_map};
 ghost use Rattle.hex.specs.Hex.{encode_lower};
 ghost use Rattle.replay_text.specs.Words.{identifier_bytes};
-ghost use Rattle.replay_text.specs.Report.{role_letter, seen_word, sent_mark, state_word, told_line};
+ghost use Rattle.replay_text.specs.Report.{role_letter, seen_word, sent_mark, state_word};
+ghost use Rattle.replay_text.specs.ReportLine.{report_line_of, text_of_line};
 
 use crate::{Line, Told};
 use arrayvec::ArrayVec;
@@ -11,7 +12,7 @@ use can_frame::{Frame, NodeId, Role, Seen, Sent};
 /// that offered twelve transfers, with 189 bytes: 56 to `drop:9`, 11 for each transfer as ` +alloc:255`,
 /// and the line feed.
 pub fn write_told(row: u64, told: &Told) -> ArrayVec<u8, 400>
-    ensures line { result.items ≡ told_line row told.now }
+    ensures line { result.items ≡ text_of_line row (report_line_of told.now) }
     ensures fits { length result.items ≤ 400 }
 {
     let mut line = Line::new();
@@ -21,7 +22,7 @@ pub fn write_told(row: u64, told: &Told) -> ArrayVec<u8, 400>
 
 /// Makes a line that of what row number `row` did, as `write_told` gives it; what it was before is gone.
 pub fn tell(line: &mut Line, row: u64, told: &Told)
-    ensures line { line.new ≡ told_line row told.now }
+    ensures line { line.new ≡ text_of_line row (report_line_of told.now) }
     ensures fits { length line.new ≤ 400 }
 {
     line.clear();

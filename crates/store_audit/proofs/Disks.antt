@@ -78,10 +78,7 @@ module _ {D : Type 0} (ghosts : Ghosts D) where
     ];
   }
 
-  -- the counts where none failed, and where that at a place did
-  pub counts_none : (ids : List ℕ) (old new : List (Option D)) (status : Status) → ((id : ℕ) → status ≡ DiskFault id → ⊥) → StayQuiet old new → CountsOne ghosts ids old new status
-  counts_none ids old new status none quiet = record { named = λ id is. absurd (none id is); others = λ k before after within other was now. quiet.each k before after was now }
-
+  -- the counts where the disk at a place failed
   pub counts_one : (ids : List ℕ) (old mid : List (Option D)) (p : ℕ) (place : Option D) (before : D) → StayQuiet old mid → p < length ids → p < length mid
       → slice_index_or old p None ≡ Some before → StaysAs ghosts before place
       → ((after : D) → place ≡ Some after → Rose (ghosts.faults before) (ghosts.faults after))

@@ -36,15 +36,6 @@ module _ (ids : List ℕ) (stores : List Stored) where
   pub ends_unwritten : (report : List ℕ) (a b : Option (List ℕ)) → HasAgreement stores report → WritesFront a b report → Ends ids stores a b WriteFault
   ends_unwritten report a b agrees front = record { outcome = Done; report = report; compares = agrees; written = inr (refl, front) }
 
-  pub ends_differing : (place a b first second : ℕ) (old new : Option (List ℕ)) (status : Status) → IsDifference stores place a b
-      → first ≡ slice_index ids a → second ≡ slice_index ids b → IsWritten (Differ place first second) (line_of (Differ place first second)) old new status → Ends ids stores old new status
-  ends_differing place a b first second old new status is is_first is_second written = record {
-    outcome = Differ place first second;
-    report = line_of (Differ place first second);
-    compares = (record { a = a; b = b; difference = is; first_is = is_first; second_is = is_second }, refl);
-    written = written;
-  }
-
 -- what stores come to is what the disks do that they were read of
 module _ {D : Type 0} (ghosts : Ghosts D) (ids : List ℕ) (disks : List (Option D)) (stores : List Stored) (read : AreStoresOf ghosts disks stores) (all : length stores ≡ length ids) where
   pub come : (status : Status) (report : List ℕ) → Compares ids stores status report → Comes ghosts ids disks status report

@@ -1,5 +1,6 @@
-ghost use Rattle.std.specs.Prelude.{◌≡◌, ◌≤◌, [], length, OnOk};
-ghost use Rattle.outside.specs.Faults.{HasCause};
+ghost use Rattle.std.specs.Prelude.{◌≡◌, ◌≤◌, [], length};
+ghost use Rattle.can_frame.specs.Sizes.{most_members};
+ghost use Rattle.cmd_base.specs.Counting.{CountsFaults};
 ghost use Rattle.cmd_base.specs.Output.{Grows, Writes, WritesLast};
 ghost use Rattle.store_audit.specs.Report.{agreed_report, line_of, lines_to};
 ghost use Rattle.store_audit.specs.Stores.{HaveMarks, committed};
@@ -34,13 +35,12 @@ pub fn end_line(status: Status) -> Line
 
 /// Writes the list on which stores agree, which this one of them has committed.
 pub fn write_report<K: Sink>(store: &Stored, stores: &[Stored], sink: &mut K) -> Result<(), Failed>
-    requires few { length stores.now ≤ 5 }
+    requires few { length stores.now ≤ most_members }
     requires marks { HaveMarks stores.now }
     requires commit { store.now.commit ≤ length store.now.entries.items }
     ensures told { WritesLast (K.written sink.old) [] (K.written sink.new)
         (agreed_report stores.now (committed store.now)) result }
-    ensures cause { HasCause (K.faults sink.old) (K.faults sink.new) result }
-    ensures kept { OnOk result (K.faults sink.new ≡ K.faults sink.old) }
+    ensures faults { CountsFaults (K.faults sink.old) (K.faults sink.new) result }
 {
     let mut output = Output::new();
     write_list(store, stores, &mut output, sink)?;
@@ -57,14 +57,13 @@ fn write_list<K: Sink>(
     output: &mut Output,
     sink: &mut K,
 ) -> Result<(), Failed>
-    requires few { length stores.now ≤ 5 }
+    requires few { length stores.now ≤ most_members }
     requires marks { HaveMarks stores.now }
     requires commit { store.now.commit ≤ length store.now.entries.items }
     ensures told { Writes (K.written sink.old) output.old (K.written sink.new) output.new
         (lines_to stores.now (committed store.now) store.now.commit) result }
     ensures grew { Grows (K.written sink.old) (K.written sink.new) }
-    ensures cause { HasCause (K.faults sink.old) (K.faults sink.new) result }
-    ensures kept { OnOk result (K.faults sink.new ≡ K.faults sink.old) }
+    ensures faults { CountsFaults (K.faults sink.old) (K.faults sink.new) result }
 {
     for earlier in 0..store.commit {
         let place = earlier + 1;

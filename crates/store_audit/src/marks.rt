@@ -1,5 +1,6 @@
 ghost use Rattle.std.specs.Prelude.{◌≡◌, ◌≤◌, ◌<◌, ◌+◌, ◌*◌, ◌++◌, ℕ, length, flat_map};
 ghost use Rattle.can_frame.specs.Log.{entry_at};
+ghost use Rattle.can_frame.specs.Sizes.{most_members};
 ghost use Rattle.store_audit.specs.Report.{mark_at, place_line};
 ghost use Rattle.store_audit.specs.Stores.{HaveMarks, store_at};
 
@@ -10,7 +11,7 @@ use replay_text::Line;
 /// The line of a place and its entry, with a mark of each store.
 pub fn place_line(place: u8, entry: &Entry, stores: &[Stored]) -> Line
     requires least { 1 ≤ place }
-    requires few { length stores.now ≤ 5 }
+    requires few { length stores.now ≤ most_members }
     requires marks { HaveMarks stores.now }
     ensures text { result ≡ place_line stores.now place entry.now }
     ensures short { length result ≤ 400 }
@@ -29,7 +30,7 @@ pub fn place_line(place: u8, entry: &Entry, stores: &[Stored]) -> Line
 /// Appends a mark of each store.
 fn write_marks(line: &mut Line, place: u8, stores: &[Stored])
     requires least { 1 ≤ place }
-    requires few { length stores.now ≤ 5 }
+    requires few { length stores.now ≤ most_members }
     requires room { length line.old ≤ 200 }
     requires marks { HaveMarks stores.now }
     ensures text { line.new ≡ line.old ++ flat_map (mark_at place) stores.now }

@@ -1,7 +1,8 @@
 ghost use Rattle.std.specs.Prelude.{◌≡◌, ◌≤◌, ◌<◌, ℕ, length, IfOk, IfErr, OnOk, Err, Some, IsSome};
-ghost use Rattle.outside.specs.Faults.{HasCause, Rose};
+ghost use Rattle.outside.specs.Faults.{Rose};
 ghost use Rattle.raft_log.specs.Reading.{IsReadable};
 ghost use Rattle.store_audit.specs.Reads.{IsDamagedDisk, IsImageOf, IsReadOnce, IsStoreOf, StaysAs};
+ghost use Rattle.cmd_base.specs.Counting.{CountsFaults};
 
 use disk_model::{Disk, IMAGE};
 use outside::Failed;
@@ -42,8 +43,7 @@ fn read_store<D: Disk>(disk: &mut D) -> Result<Stored, Refused>
 /// Reads all of a disk by one call.
 fn read_image<D: Disk>(disk: &mut D, image: &mut [u8; IMAGE]) -> Result<(), Failed>
     ensures image { OnOk result (IsImageOf D.Disk disk.old image.new) }
-    ensures cause { HasCause (D.faults disk.old) (D.faults disk.new) result }
-    ensures kept { OnOk result (D.faults disk.new ≡ D.faults disk.old) }
+    ensures faults { CountsFaults (D.faults disk.old) (D.faults disk.new) result }
     ensures stays { StaysAs D.Disk disk.old (Some disk.new) }
     ensures once { IsReadOnce D.Disk disk.old disk.new }
 {

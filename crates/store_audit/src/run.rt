@@ -1,4 +1,5 @@
 ghost use Rattle.std.specs.Prelude.{◌≡◌, ◌≤◌, ◌<◌, ◌⊎◌, ℕ, [], length, IsSome, None, OnOk, IfErr, slice_index_or};
+ghost use Rattle.can_frame.specs.Sizes.{most_members};
 ghost use Rattle.outside.specs.Faults.{Rose};
 ghost use Rattle.store_audit.specs.Audits.{Audits, Comes, CountsOne, Ends, IsWritten, ReadsInOrder};
 ghost use Rattle.store_audit.specs.Reads.{AllStay, AreReadUpTo, AreStoresOf};
@@ -10,6 +11,7 @@ use crate::lines::{end_line, write_report};
 use crate::read::{Refused, read_place};
 use crate::verdict::{Verdict, audit};
 use arrayvec::ArrayVec;
+use can_frame::sizes::MOST_MEMBERS;
 use cmd_base::{Output, Status};
 use disk_model::Disk;
 use outside::{Failed, Sink};
@@ -24,7 +26,7 @@ use raft_log::Stored;
 /// where the sink did, and it then has a front of what was to be written.
 pub fn audit_stores<K: Sink, D: Disk>(ids: &[u8], disks: &mut [Option<D>], sink: &mut K) -> Status
     requires some { 1 ≤ length ids.now }
-    requires five { length ids.now ≤ 5 }
+    requires five { length ids.now ≤ most_members }
     requires disks { length disks.old ≡ length ids.now }
     requires present { (i : ℕ) → i < length ids.now → IsSome (slice_index_or disks.old i None) }
     // What it comes to and writes, and how it leaves the disks.
@@ -48,9 +50,9 @@ pub fn audit_stores<K: Sink, D: Disk>(ids: &[u8], disks: &mut [Option<D>], sink:
 fn read_all<D: Disk>(
     ids: &[u8],
     disks: &mut [Option<D>],
-    stores: &mut ArrayVec<Stored, 5>,
+    stores: &mut ArrayVec<Stored, MOST_MEMBERS>,
 ) -> Result<(), Status>
-    requires five { length ids.now ≤ 5 }
+    requires five { length ids.now ≤ most_members }
     requires disks { length disks.old ≡ length ids.now }
     requires present { (i : ℕ) → i < length ids.now → IsSome (slice_index_or disks.old i None) }
     requires none { stores.old.items ≡ [] }
@@ -81,7 +83,7 @@ fn read_all<D: Disk>(
 /// Compares all stores, and writes what that comes to.
 fn compare<K: Sink>(ids: &[u8], stores: &[Stored], sink: &mut K) -> Status
     requires some { 1 ≤ length stores.now }
-    requires five { length stores.now ≤ 5 }
+    requires five { length stores.now ≤ most_members }
     requires all { length stores.now ≡ length ids.now }
     requires readable { AreReadable stores.now }
     ensures ends { Ends ids.now stores.now (K.written sink.old) (K.written sink.new) result }

@@ -1,4 +1,5 @@
 ghost use Rattle.std.specs.Prelude.{◌≤◌, length};
+ghost use Rattle.can_frame.specs.Sizes.{most_members};
 ghost use Rattle.store_audit.specs.Stores.{AreCommitted};
 ghost use Rattle.store_audit.specs.Verdict.{IsVerdict};
 
@@ -20,7 +21,7 @@ pub enum Verdict {
 /// Compares what 1 to 5 stores have committed.
 pub fn audit(stores: &[Stored]) -> Verdict
     requires some { 1 ≤ length stores.now }
-    requires five { length stores.now ≤ 5 }
+    requires five { length stores.now ≤ most_members }
     requires commits { AreCommitted stores.now }
     ensures { IsVerdict stores.now result }
 {

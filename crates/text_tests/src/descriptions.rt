@@ -1,6 +1,8 @@
 ghost use Rattle.std.specs.Prelude.{◌≤◌, length};
+ghost use Rattle.can_frame.specs.Sizes.{longest_payload};
 
-use dsdl_text::{LineFault, Numbers, PROFILE, TextReader, Texts};
+use dsdl_text::{LineFault, Numbers, TextReader, Texts};
+use dsdl_text_codec_laws::PROFILE;
 use std::test::Fail;
 
 /// The types of a text, or the fault of the first line that has one.
@@ -17,7 +19,7 @@ fn fault_of(text: &[u8]) -> Option<LineFault> {
 }
 
 fn numbers_of(text: &Texts, name: &[u8], part: u8, payload: &[u8]) -> Option<Numbers>
-    requires { length payload.now ≤ 376 }
+    requires { length payload.now ≤ longest_payload }
 {
     let at = text.find(name, part)?;
     text.decode(at, payload)

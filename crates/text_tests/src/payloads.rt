@@ -1,4 +1,5 @@
 ghost use Rattle.std.specs.Prelude.{◌≤◌, length};
+ghost use Rattle.can_frame.specs.Sizes.{longest_payload};
 
 use cmd_base::Status;
 use cmd_decode::decode;
@@ -28,7 +29,7 @@ fn answers(
     status: Status,
     report: &[u8],
 ) -> Result<bool, Fail>
-    requires { length payload.now ≤ 376 }
+    requires { length payload.now ≤ longest_payload }
 {
     let mut source = MemorySource::new(text, fail_at);
     let mut sink = MemorySink::new(rt.alloc(), 1000, None, None)?;

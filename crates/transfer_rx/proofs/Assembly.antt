@@ -33,10 +33,6 @@ in_order id place (first ∷ taken) piece p t =
     let whole : (first.bytes ++ joined taken) ++ piece.bytes ≡ first.bytes ++ rest = append_assoc first.bytes (joined taken) piece.bytes in
     rw (whole, f, d) (λ i. (record { bytes = first.bytes; tail = p.1 i }) ∷ r i)
 
-joined_none : (taken : List Piece) → length taken ≡ 0 → joined taken ≡ []
-joined_none [] h = refl
-joined_none (piece ∷ pieces) h = cc
-
 matches : (signature id : ℕ) (pieces : List Piece) → pieces ≡ cut_again signature id pieces →
     Delivers (payload_of pieces) ≡ assembled signature id pieces
 matches signature id pieces same =
@@ -58,6 +54,7 @@ module _ (law : CarryWhatIsCut) (signature id : ℕ) (taken : List Piece) (piece
   recut b n =
       ordered ∙ ap (cut id 0 (length taken)) (sym b) ∙ sym (frames_as signature id (length taken) (payload_of (taken ++ piece ∷ [])) n)
 
+  -- a frame that stands alone is a whole transfer
   pub single : length taken ≡ 0 → Delivers (payload_of (taken ++ piece ∷ [])) ≡ assembled signature id (taken ++ piece ∷ [])
   single z =
       let n : length (taken ++ piece ∷ []) ≡ length taken + 1 = length-push taken piece in
@@ -78,6 +75,7 @@ module _ (law : CarryWhatIsCut) (signature id : ℕ) (taken : List Piece) (piece
     cut_long : bytes_cut signature (payload_of (taken ++ piece ∷ [])) ≡ crc_bytes signature payload ++ payload
     cut_long = ap (bytes_cut signature) is_payload ∙ law.long signature payload long
 
+    -- with the right CRC several frames are a whole transfer
     pub whole : a ≡ transfer_crc signature payload % 256 → b ≡ transfer_crc signature payload / 256 →
         Delivers (payload_of (taken ++ piece ∷ [])) ≡ assembled signature id (taken ++ piece ∷ [])
     whole x y =
@@ -87,6 +85,7 @@ module _ (law : CarryWhatIsCut) (signature id : ℕ) (taken : List Piece) (piece
         let lb : length (bytes_cut signature (payload_of (taken ++ piece ∷ []))) ≡ 7 * length taken + length piece.bytes = ap length bc ∙ j in
         matches signature id (taken ++ piece ∷ []) (recut bc (omega arith))
 
+    -- with another CRC they are none
     pub damaged : (a ≢ transfer_crc signature payload % 256) ⊎ (b ≢ transfer_crc signature payload / 256) →
         Spoils Crc ≡ assembled signature id (taken ++ piece ∷ [])
     damaged differs =
@@ -108,6 +107,7 @@ carried : (pieces : List Piece) (piece : Piece) → 2 ≤ length (joined pieces)
     joined (pieces ++ piece ∷ []) ≡ get_or (joined pieces) 0 0 ∷ get_or (joined pieces) 1 0 ∷ drop 2 (joined pieces) ++ piece.bytes
 carried pieces piece two = joined-push pieces piece ∙ ap (λ l. l ++ piece.bytes) (front (joined pieces) two)
 
+-- ten bytes or more in several frames carry a payload of more than seven
 pub long_payload : (id : ℕ) (pieces : List Piece) (piece : Piece) (a b : ℕ) (payload : List ℕ) → IsPart id 0 pieces →
     10 ≤ 7 * length pieces + length piece.bytes → joined (pieces ++ piece ∷ []) ≡ a ∷ b ∷ payload → 7 < length payload
 long_payload id pieces piece a b payload part low e =
@@ -146,6 +146,7 @@ module _ (law : CarryWhatIsCut) (signature id : ℕ) (pieces : List Piece) (piec
   ends_with : result ≡ transfer_crc signature payload
   ends_with = more_crc signature crc result (drop 2 (joined pieces)) last payload more known.behind (ap (λ l. drop 2 (joined pieces) ++ l) same)
 
+  -- the CRC that was sent is that of the payload: the transfer is whole
   pub several_whole : result ≡ sent → Delivers (payload_of (pieces ++ piece ∷ [])) ≡ assembled signature id (pieces ++ piece ∷ [])
   several_whole e =
       let s : length piece.bytes ≡ length last = size in
@@ -153,6 +154,7 @@ module _ (law : CarryWhatIsCut) (signature id : ℕ) (pieces : List Piece) (piec
       whole law signature id pieces piece part (omega arith) tail payload (get_or (joined pieces) 0 0) (get_or (joined pieces) 1 0) (omega arith) (omega arith) long bears
       (known.sent.low ∙ ap (λ x. x % 256) is) (known.sent.high ∙ ap (λ x. x / 256) is)
 
+  -- it is another one: the CRC is the cause
   pub several_damaged : result ≢ sent → Spoils Crc ≡ assembled signature id (pieces ++ piece ∷ [])
   several_damaged ne =
       let s : length piece.bytes ≡ length last = size in

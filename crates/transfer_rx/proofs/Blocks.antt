@@ -1,5 +1,5 @@
 -- The blocks that sessions use.
-use Rattle.std.proofs.Common.{◌≡◌, ℕ, ◌+◌, ◌*◌, ◌<◌, true, false, ◌&&◌, List, [], ◌∷◌, ◌++◌, length, get_or, take, inl, inr, suc, None, refl, sym, ◌∙◌, ap, arith, nat_lt}
+use Rattle.std.proofs.Common.{◌≡◌, ℕ, ◌+◌, ◌*◌, ◌<◌, false, ◌&&◌, List, [], ◌∷◌, ◌++◌, length, get_or, take, inl, inr, suc, None, refl, sym, ◌∙◌, ap, arith, nat_lt}
 use Rattle.std.specs.List.{sum_by}
 use Rattle.std.proofs.lemmas.Bool.{le-ltb, lt-ltb}
 use Rattle.std.proofs.lemmas.Bool.Decides.{leb_tells}
@@ -16,9 +16,11 @@ use Rattle.transfer_rx.specs.Progress.{IsProgressOf}
 use Rattle.transfer_rx.proofs.Arrangement.{sum_besides}
 use Rattle.transfer_rx.proofs.Lengths.{length-joined}
 
+-- the bytes that were taken are those of the session
 pub bytes_kept : (p : Progress) (bytes : List ℕ) (session : Session) → IsProgressOf p bytes session → 7 * p.taken ≡ length (joined session.taken)
 bytes_kept p bytes session k = ap (λ n. 7 * n) k.taken ∙ sym (length-joined session.expected 0 session.taken k.part)
 
+-- the blocks of one place more
 pub more : (xs : Places) (i : ℕ) → i < length xs →
     sum_by blocks_at (take (i + 1) xs) ≡ sum_by blocks_at (take i xs) + blocks_at (get_or xs i None)
 more xs i h = grind (arith, common_steps)
@@ -39,12 +41,9 @@ more_than a b u = elim (leb_tells (suc a) b) [
   | inr not_less ↦ not_less.0 ∙ sym (le-ltb (a + u) (u + b) (omega (arith, not_less.1)))
 ]
 
+-- fewer blocks are free than a frame needs exactly where the definition says so
 pub lacks : (blocks free own needed : ℕ) (piece : Piece) (taken : List Piece) (rest : List Session) →
     (piece.tail.start && piece.tail.end) ≡ false → free + own + blocks_used rest ≡ blocks →
     needed ≡ blocks_for (length (joined (taken ++ piece ∷ []))) → nat_lt (free + own) needed ≡ lacks_blocks blocks piece taken rest
 lacks blocks free own needed piece taken rest several f n =
     more_than (free + own) needed (blocks_used rest) ∙ rw (several, f, n) refl
-
-pub lacks_none : (blocks : ℕ) (piece : Piece) (taken : List Piece) (rest : List Session) →
-    (piece.tail.start && piece.tail.end) ≡ true → false ≡ lacks_blocks blocks piece taken rest
-lacks_none blocks piece taken rest alone = rw alone refl

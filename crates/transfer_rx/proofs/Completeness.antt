@@ -8,10 +8,11 @@ use Rattle.can_frame.specs.declared.mark.Mark.{Mark}
 use Rattle.can_frame.specs.declared.step.Why.{Why}
 use Rattle.can_frame.specs.declared.tail.Tail.{Tail}
 use Rattle.can_frame.specs.Cutting.{IsCutting, Piece, bytes_cut, frames_of, joined, tail_at}
+use Rattle.can_frame.specs.Kinds.{is_anonymous}
 use Rattle.transfer_rx.specs.declared.accept.Wanted.{Wanted}
 use Rattle.transfer_rx.specs.declared.key.Key.{Key}
 use Rattle.transfer_rx.specs.Acceptance.{wanted}
-use Rattle.transfer_rx.specs.Keys.{is_anonymous, key_of, same_key}
+use Rattle.transfer_rx.specs.Keys.{key_of, same_key}
 use Rattle.transfer_rx.specs.Marks.{is_whole}
 use Rattle.transfer_rx.specs.Outcome.{Delivers, Grows, lacks_blocks, out_of_turn, outcome}
 use Rattle.transfer_rx.specs.Parts.{IsPart}

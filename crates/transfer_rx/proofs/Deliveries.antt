@@ -8,9 +8,10 @@ use Rattle.can_frame.specs.declared.mark.Mark.{Mark}
 use Rattle.can_frame.specs.declared.step.Why.{Why}
 use Rattle.can_frame.specs.declared.step.Why.TheVariants.{Crc, Length, NoBlock, Start, Toggle}
 use Rattle.can_frame.specs.Cutting.{IsCutting, Piece, payload_of}
+use Rattle.can_frame.specs.Kinds.{is_anonymous}
 use Rattle.transfer_rx.specs.declared.accept.Wanted.{Wanted}
 use Rattle.transfer_rx.specs.Acceptance.{wanted}
-use Rattle.transfer_rx.specs.Keys.{is_anonymous, key_of}
+use Rattle.transfer_rx.specs.Keys.{key_of}
 use Rattle.transfer_rx.specs.Marks.{is_whole}
 use Rattle.transfer_rx.specs.Outcome.{Delivers, Grows, Outcome, Spoils, cut_again, fits_no_part, fits_no_payload, is_wrong_length, lacks_blocks, out_of_turn, outcome, same_piece}
 use Rattle.transfer_rx.specs.Reassembly.{Arrival, Delivery, Drops, Gives, Setting, Step, answer, answer_of, at_session, in_turn, piece_in, session_step}

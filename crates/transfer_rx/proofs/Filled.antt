@@ -1,5 +1,5 @@
 -- The chains of a pool, beside what is kept of the sessions.
-use Rattle.std.proofs.Common.{◌≡◌, ◌≢◌, ℕ, suc, ◌+◌, ◌*◌, ◌/◌, ◌<◌, ◌≤◌, true, false, List, [], ◌∷◌, ◌++◌, length, get_or, set, take, refl, sym, ap, ◌∙◌, arith, subst, inl, inr, nat_eq, length-append, replicate}
+use Rattle.std.proofs.Common.{◌≡◌, ◌≢◌, ℕ, suc, ◌+◌, ◌*◌, ◌/◌, ◌<◌, true, false, List, [], ◌∷◌, ◌++◌, length, get_or, set, take, refl, sym, ap, ◌∙◌, arith, subst, inl, inr, nat_eq, length-append, replicate}
 use Rattle.std.specs.Prelude.{IfSome, IsErr, IsNone, IsOk, OnErr, OnOk, Option, None, Some, Result, Ok, Err}
 use Rattle.std.specs.List.{sum_by}
 use Rattle.std.proofs.lemmas.Bool.Decides.{eqb_tells}
@@ -14,13 +14,7 @@ use Rattle.transfer_rx.specs.Sessions.{Session}
 use Rattle.transfer_rx.specs.Progress.{IsProgressAt, IsProgressOf}
 use Rattle.transfer_rx.proofs.Blocks.{bytes_kept}
 
-pub few_taken : (o : Option Progress) → taken_at o ≤ 54
-few_taken None = omega arith
-few_taken (Some p) = p.few
-
-pub fills : (o : Option Progress) (p : Progress) (chain : List ℕ) → length chain ≡ 7 * taken_at o → o ≡ Some p → Fills p chain
-fills o p chain e is = λ some. sym (e ∙ ap (λ x. 7 * taken_at x) is)
-
+-- one place is set with its chain, and the others stay
 pub set_filled : (progress : List (Option Progress)) (chains after : List (List ℕ)) (place : ℕ) (o : Option Progress) → AreFilled progress chains →
     place < length progress → ((i : ℕ) → i ≢ place → get_or after i [] ≡ get_or chains i []) → length (get_or after place []) ≡ 7 * taken_at o →
     AreFilled (set progress place o) after
@@ -36,6 +30,7 @@ set_filled progress chains after place o f h others here = λ i l. elim (eqb_tel
 abbrev no_chain : List ℕ
 no_chain = []
 
+-- places without sessions have empty chains
 pub none_filled : (S : ℕ) → AreFilled (replicate S None) (replicate S no_chain)
 none_filled S = λ place l.
     let lt : place < S = omega (arith, length-replicate {A = Option Progress} S None) in
@@ -46,12 +41,14 @@ none_filled S = λ place l.
 
 -- ---- a chain that is emptied where nothing is taken
 
+-- no other chain is emptied
 pub emptied_other : (taken place : ℕ) (chains : List (List ℕ)) (i : ℕ) → i ≢ place → get_or (emptied taken place chains) i [] ≡ get_or chains i []
 emptied_other taken place chains i ne = elim (eqb_tells taken 0) [
   | inl none ↦ let t : nat_eq taken 0 ≡ true = none.0 in rw t (get_or-set_other chains place i [] [] ne)
   | inr some ↦ let f : nat_eq taken 0 ≡ false = some.0 in rw f refl
 ]
 
+-- there are as many chains as before
 pub length-emptied : (taken place : ℕ) (chains : List (List ℕ)) → length (emptied taken place chains) ≡ length chains
 length-emptied taken place chains = elim (eqb_tells taken 0) [
   | inl none ↦ let t : nat_eq taken 0 ≡ true = none.0 in rw t (length-set chains place [])
@@ -59,6 +56,7 @@ length-emptied taken place chains = elim (eqb_tells taken 0) [
 ]
 
 module _ (p : Progress) (place : ℕ) (chains : List (List ℕ)) (there : place < length chains) where
+  -- the chain has the bytes that were taken, and no more
   pub exact : Fills p (get_or chains place []) → length (get_or (emptied p.taken place chains) place []) ≡ 7 * p.taken
   exact filled = elim (eqb_tells p.taken 0) [
     | inl none ↦
@@ -72,6 +70,7 @@ module _ (p : Progress) (place : ℕ) (chains : List (List ℕ)) (there : place 
         rw f (sym (filled (omega arith)))
   ]
 
+  -- the chain still has the bytes of the session
   pub emptied_keeps : (session : Session) → IsProgressOf p (get_or chains place []) session → IsProgressOf p (get_or (emptied p.taken place chains) place []) session
   emptied_keeps session k = elim (eqb_tells p.taken 0) [
     | inl none ↦
@@ -124,6 +123,7 @@ one_place None chain (Some session) h e = absurd h
 one_place (Some p) chain None h e = absurd h
 one_place (Some p) chain (Some session) h e = ap (λ n. (n + 27) / 28) (e ∙ bytes_kept p chain session h)
 
+-- the chains use as many blocks as the sessions
 pub same_blocks : (progress : List (Option Progress)) (chains : List (List ℕ)) (places : Places) → KeepPlaces progress chains places →
     AreFilled progress chains → length chains ≡ length progress → sum_by blocks_used chains ≡ sum_by blocks_at places
 same_blocks progress chains places s f size =
@@ -144,6 +144,7 @@ module _ (blocks place : ℕ) (progress : List (Option Progress)) (chains : List
 
 -- ---- what was kept, or cleared
 
+-- a chain stays with what is kept, or is emptied
 pub kept_length : (o : Option Progress) (old new : List ℕ) (before : Option Progress) → length old ≡ 7 * taken_at before → IfSome o (λ p. before ≡ Some p) →
     IfSome o (λ p. new ≡ old) → (IsNone o → new ≡ []) → length new ≡ 7 * taken_at o
 kept_length None old new before e same kept empty = ap length (empty refl)
@@ -172,6 +173,7 @@ all_taken p chain session filled some k =
     let n : 7 * p.taken ≡ length chain = filled some in
     sym (take_all (7 * p.taken) chain (omega arith)) ∙ k.collected
 
+-- where all chains stay, that of a place does
 pub same_place : (o : Option Progress) (new old : List (List ℕ)) (place : ℕ) → IfSome o (λ p. new ≡ old) → IfSome o (λ p. get_or new place [] ≡ get_or old place [])
 same_place None new old place h = h
 same_place (Some p) new old place h = ap (λ (chains : List (List ℕ)). get_or chains place []) h
@@ -185,14 +187,17 @@ taken_more taken own more bytes own_is seven same =
 
 -- ---- both ends of a call
 
+-- what is no error is a success
 pub ok_unless : {T E : Type 0} (r : Result T E) → (IsErr r → ⊥) → IsOk r
 ok_unless (Ok x) h = refl
 ok_unless (Err e) h = absurd (h refl)
 
+-- two facts on a success give a third
 pub on_ok : {T E : Type 0} (r : Result T E) (A B C : Type 0) → OnOk r A → OnOk r B → (A → B → C) → OnOk r C
 on_ok (Ok x) A B C a b f = f a b
 on_ok (Err e) A B C a b f = a
 
+-- facts on both ends of a call give one fact
 pub either : {T E : Type 0} (r : Result T E) (A B A' B' C : Type 0) → OnOk r A → OnOk r B → OnErr r A' → OnErr r B' → (A → B → C) → (A' → B' → C) → C
 either (Ok x) A B A' B' C a b a' b' f f' = f a b
 either (Err e) A B A' B' C a b a' b' f f' = f' a' b'

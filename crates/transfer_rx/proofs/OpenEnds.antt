@@ -5,9 +5,10 @@ use Rattle.can_frame.specs.declared.mark.Mark.{Mark}
 use Rattle.can_frame.specs.declared.step.Why.{Why}
 use Rattle.can_frame.specs.declared.step.Why.TheVariants.{Length, NoBlock}
 use Rattle.can_frame.specs.Cutting.{Piece}
+use Rattle.can_frame.specs.Kinds.{is_anonymous}
 use Rattle.transfer_rx.specs.declared.accept.Wanted.{Wanted}
 use Rattle.transfer_rx.specs.Acceptance.{wanted}
-use Rattle.transfer_rx.specs.Keys.{is_anonymous, key_of}
+use Rattle.transfer_rx.specs.Keys.{key_of}
 use Rattle.transfer_rx.specs.Sessions.{Session, others, recent_sessions, session_for}
 use Rattle.transfer_rx.specs.Outcome.{Outcome, Grows, Spoils, assembled, is_wrong_length, lacks_blocks, out_of_turn, outcome}
 use Rattle.transfer_rx.specs.Reassembly.{Arrival, Setting, alone, answer_of, at_session, by_kind, delivered, in_turn, of_wanted, piece_in, session_step, step}

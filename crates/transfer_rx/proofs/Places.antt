@@ -1,7 +1,7 @@
 -- What places stand for, when old sessions are left out and when a session is set.
 use Rattle.std.proofs.Common.{◌≡◌, ℕ, ◌-◌, ◌≢◌, ◌≤◌, ◌<◌, ◌+◌, true, false, List, [], ◌∷◌, length, get_or, Option, Some, None, refl, sym, ◌∙◌, subst, arith, nat_le, set, inl, inr, replicate}
 use Rattle.std.specs.Prelude.{IfSome}
-use Rattle.std.proofs.lemmas.Bool.{cases_Bool, le-leb, lt-leb}
+use Rattle.std.proofs.lemmas.Bool.{cases_Bool, le-leb}
 use Rattle.std.proofs.Math.ListN.{get_or-map}
 use Rattle.std.proofs.lemmas.List.{ext_get_or, length-map, length-set, get_or-set_same, get_or-set_other, get_or-replicate, get_or_past, length-replicate}
 use Rattle.std.proofs.lemmas.Bool.Decides.{eqb_tells, leb_tells}
@@ -10,33 +10,17 @@ use Rattle.transfer_rx.specs.Sessions.{Session, is_recent}
 use Rattle.transfer_rx.specs.Progress.{IsProgressOf, IsProgressAt}
 use Rattle.transfer_rx.specs.Places.{Places, KeepPlaces, kept, left}
 
+-- what is left at a place
 pub left-by_place : (now : ℕ) (places : Places) (i : ℕ) → get_or (left now places) i None ≡ kept now (get_or places i None)
 left-by_place now places i = get_or-map (kept now) places i None
 
+-- a recent session is kept
 pub kept_recent : (now : ℕ) (session : Session) (moment : ℕ) → moment ≡ session.moment → now - moment ≤ 2000 →
     kept now (Some session) ≡ Some session
 kept_recent now session moment e h =
     let t : nat_le (now - session.moment) 2000 ≡ true = le-leb _ _ (subst (λ m. now - m ≤ 2000) e h) in rw t refl
 
-kept_old : (now : ℕ) (session : Session) (moment : ℕ) → moment ≡ session.moment → 2000 < now - moment →
-    kept now (Some session) ≡ None
-kept_old now session moment e h =
-    let t : nat_le (now - session.moment) 2000 ≡ false = lt-leb _ _ (subst (λ m. 2000 < now - m) e h) in rw t refl
-
-pub holds_recent : (now : ℕ) (p : Progress) (bytes : List ℕ) (o : Option Session) → IsProgressAt (Some p) bytes o →
-    now - p.moment ≤ 2000 → IsProgressAt (Some p) bytes (kept now o)
-holds_recent now p bytes None h r = h
-holds_recent now p bytes (Some session) h r = rw (kept_recent now session p.moment h.moment r) h
-
-pub holds_old : (now : ℕ) (p : Progress) (bytes : List ℕ) (o : Option Session) → IsProgressAt (Some p) bytes o →
-    2000 < now - p.moment → IsProgressAt None bytes (kept now o)
-holds_old now p bytes None h r = absurd h
-holds_old now p bytes (Some session) h r = rw (kept_old now session p.moment h.moment r) tt
-
-pub holds_none : (now : ℕ) (bytes : List ℕ) (o : Option Session) → IsProgressAt None bytes o → IsProgressAt None bytes (kept now o)
-holds_none now bytes None h = tt
-holds_none now bytes (Some session) h = absurd h
-
+-- what is kept at each place stands for the places without old sessions
 pub all_left : (now : ℕ) (places : Places) (progress : List (Option Progress)) (bytes : List (List ℕ)) →
     length places ≡ length progress →
     ((i : ℕ) → i < length progress → IsProgressAt (get_or progress i None) (get_or bytes i []) (kept now (get_or places i None))) →
@@ -77,6 +61,7 @@ same_chain None chain after None h e = tt
 same_chain None chain after (Some session) h e = absurd h
 same_chain (Some p) chain after there h e = subst (λ b. IsProgressAt (Some p) b there) (sym e) h
 
+-- old sessions are left out up to a place, and now there too
 pub one_more_kept : (now place : ℕ) (progress : List (Option Progress)) (chains after : List (List ℕ)) (kept_there : Option Progress) (places : Places) →
     place < length progress → ((i : ℕ) → i ≢ place → get_or after i [] ≡ get_or chains i []) →
     IfSome kept_there (λ p. get_or after place [] ≡ get_or chains place []) →
@@ -101,6 +86,7 @@ kept_twice now (Some session) = elim (cases_Bool (is_recent now session)) [
   | inr f ↦ let f' : is_recent now session ≡ false = f in rw f' refl
 ]
 
+-- what is left is left again
 pub left_twice : (now : ℕ) (places : Places) → left now (left now places) ≡ left now places
 left_twice now [] = refl
 left_twice now (o ∷ places) = λ i. kept_twice now o i ∷ left_twice now places i
@@ -111,6 +97,7 @@ no_progress = None
 abbrev no_session : Option Session
 no_session = None
 
+-- no place of an empty list has progress
 pub nothing_there : (places i : ℕ) → get_or (replicate places no_progress) i None ≡ None
 nothing_there places i = elim (leb_tells (1 + i) places) [
   | inl within ↦ let l = within.1 in get_or-replicate places i no_progress None (omega arith)
@@ -126,6 +113,7 @@ all_none places progress size none =
     ext_get_or None progress (replicate places None) (size ∙ sym (length-replicate {A = Option Progress} places None))
     (λ i l. none i ∙ sym (nothing_there places i))
 
+-- a new receiver keeps no session
 pub all_free : (places : ℕ) (bytes : List (List ℕ)) → KeepPlaces (replicate places None) bytes (replicate places None)
 all_free places bytes = record {
   size = length-replicate {A = Option Session} places None ∙ sym (length-replicate {A = Option Progress} places None);

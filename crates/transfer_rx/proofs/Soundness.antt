@@ -9,10 +9,11 @@ use Rattle.can_frame.specs.declared.step.Why.{Why}
 use Rattle.can_frame.specs.declared.step.Why.TheVariants.{Crc, Length, NoBlock, NoSession, Start}
 use Rattle.can_frame.specs.declared.tail.Tail.{Tail}
 use Rattle.can_frame.specs.Cutting.{Piece, payload_of, tail_at}
+use Rattle.can_frame.specs.Kinds.{is_anonymous}
 use Rattle.transfer_rx.specs.declared.accept.Wanted.{Wanted}
 use Rattle.transfer_rx.specs.declared.key.Key.{Key}
 use Rattle.transfer_rx.specs.Acceptance.{wanted}
-use Rattle.transfer_rx.specs.Keys.{is_anonymous, key_of, same_key}
+use Rattle.transfer_rx.specs.Keys.{key_of, same_key}
 use Rattle.transfer_rx.specs.Outcome.{Delivers, Grows, Outcome, Spoils, cut_again, fits_no_part, fits_no_payload, is_wrong_length, lacks_blocks, out_of_turn, outcome, same_piece}
 use Rattle.transfer_rx.specs.Parts.{IsPart}
 use Rattle.transfer_rx.specs.Places.{counted}

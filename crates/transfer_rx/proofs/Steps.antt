@@ -3,9 +3,10 @@ use Rattle.std.proofs.Common.{◌≡◌, ℕ, true, false, List, ◌∷◌, Some
 use Rattle.can_frame.specs.declared.mark.Mark.{Mark}
 use Rattle.can_frame.specs.declared.step.Why.{Why}
 use Rattle.can_frame.specs.Cutting.{Piece}
+use Rattle.can_frame.specs.Kinds.{is_anonymous}
 use Rattle.transfer_rx.specs.declared.accept.Wanted.{Wanted}
 use Rattle.transfer_rx.specs.Acceptance.{wanted}
-use Rattle.transfer_rx.specs.Keys.{is_anonymous, key_of}
+use Rattle.transfer_rx.specs.Keys.{key_of}
 use Rattle.transfer_rx.specs.Sessions.{Session, others, recent_sessions, session_for}
 use Rattle.transfer_rx.specs.Outcome.{Outcome, Delivers, Grows, Spoils, out_of_turn, outcome}
 use Rattle.transfer_rx.specs.Reassembly.{Arrival, Drops, Setting, alone, answer_of, piece_in, session_after, session_step, step}

@@ -10,10 +10,11 @@ use Rattle.can_frame.specs.declared.step.Why.{Why}
 use Rattle.can_frame.specs.declared.step.Why.TheVariants.{NoSession, Start, Toggle}
 use Rattle.can_frame.specs.declared.tail.Tail.{Tail}
 use Rattle.can_frame.specs.Cutting.{Piece}
+use Rattle.can_frame.specs.Kinds.{is_anonymous}
 use Rattle.transfer_rx.specs.declared.accept.Wanted.{Wanted}
 use Rattle.transfer_rx.specs.declared.key.Key.{Key}
 use Rattle.transfer_rx.specs.Acceptance.{wanted}
-use Rattle.transfer_rx.specs.Keys.{is_anonymous, key_of, same_key}
+use Rattle.transfer_rx.specs.Keys.{key_of, same_key}
 use Rattle.transfer_rx.specs.Marks.{is_whole}
 use Rattle.transfer_rx.specs.Outcome.{Delivers, Grows, Outcome, Spoils, blocks_used, out_of_turn, outcome, session_blocks}
 use Rattle.transfer_rx.specs.Reassembly.{Answer, Arrival, Drops, Gives, Setting, Step, alone, answer, answer_of, at_session, by_kind, in_turn, of_wanted, piece_in, session_after, session_step, step}

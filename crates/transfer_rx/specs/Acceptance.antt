@@ -1,9 +1,9 @@
 -- Which frames a receiver wants.
-use Rattle.std.specs.Prelude.{◌≡◌, ℕ, ◌<◌, ◌^◌, nat_eq, Bool, true, false, not, ◌&&◌, ◌||◌, List, Option, Some, None, Result, Ok, Err, find, option_map, if◌then◌else◌}
+use Rattle.std.specs.Prelude.{◌≡◌, ℕ, ◌<◌, ◌^◌, nat_eq, Bool, not, ◌&&◌, ◌||◌, List, Option, Some, None, Result, Ok, Err, find, option_map, if◌then◌else◌}
 use Rattle.can_frame.specs.Identifier.{identifier_of}
+use Rattle.can_frame.specs.Kinds.{is_service}
 use Rattle.can_frame.specs.declared.identifier.Ident.{Ident}
 use Rattle.can_frame.specs.declared.identifier.Kind.{Kind}
-use Rattle.can_frame.specs.declared.identifier.Kind.TheVariants.{Message, Anonymous, Request, Response}
 use Rattle.can_frame.specs.declared.step.Why.{Why}
 use Rattle.can_frame.specs.declared.step.Why.TheVariants.{BadIdent, NotWanted}
 use Rattle.transfer_rx.specs.declared.accept.AcceptRow.{AcceptRow}
@@ -20,12 +20,6 @@ abbrev pub AnswersByRows : (Kind → ℕ → Option ℕ → Type 0) → List Acc
 AnswersByRows answers rows =
     (kind : Kind) (number : ℕ) → number < 2 ^ 16 → (signature : Option ℕ) → answers kind number signature →
     signature ≡ first_signature rows kind number
-
-abbrev pub is_service : Kind → Bool
-is_service Message = false
-is_service Anonymous = false
-is_service Request = true
-is_service Response = true
 
 -- a receiver hears services for itself, and nothing of its own; number 0 hears everything
 abbrev pub is_for : ℕ → Ident → Bool

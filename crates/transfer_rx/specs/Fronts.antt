@@ -1,5 +1,6 @@
 -- Where the front of a payload is kept.
 use Rattle.std.specs.Prelude.{ℕ, ◌+◌, ◌<◌, ◌≤◌, nat_eq, if◌then◌else◌, IfSome, List, [], drop, length, slice_index_or, Option, Some, None}
+use Rattle.can_frame.specs.Sizes.{longest_payload}
 use Rattle.transfer_rx.specs.declared.progress.Found.{Found}
 
 -- the place whose chain has the front of the payload, behind the CRC: none where nothing was taken
@@ -15,4 +16,4 @@ front_bytes chains (Some place) = drop 2 (slice_index_or chains place [])
 pub record HasFront (places : ℕ) (chains : List (List ℕ)) (front : Option ℕ) (last : ℕ) : Type 0 where
   pub there : IfSome front (λ place. place < places)
   pub behind_crc : IfSome front (λ place. 2 ≤ length (slice_index_or chains place []))
-  pub fits : length (front_bytes chains front) + last ≤ 376
+  pub fits : length (front_bytes chains front) + last ≤ longest_payload

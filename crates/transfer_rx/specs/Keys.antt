@@ -1,5 +1,5 @@
 -- Which frames belong together.
-use Rattle.std.specs.Prelude.{ℕ, nat_eq, Bool, true, false, ◌&&◌}
+use Rattle.std.specs.Prelude.{ℕ, nat_eq, Bool, ◌&&◌}
 use Rattle.can_frame.specs.declared.identifier.Ident.{Ident}
 use Rattle.can_frame.specs.declared.identifier.Kind.{Kind}
 use Rattle.can_frame.specs.declared.identifier.Kind.TheVariants.{Message, Anonymous, Request, Response}
@@ -16,12 +16,6 @@ same_kind a b = nat_eq (kind_number a) (kind_number b)
 
 abbrev pub same_key : Key → Key → Bool
 same_key a b = same_kind a.kind b.kind && (nat_eq a.number b.number && nat_eq a.source b.source)
-
-abbrev pub is_anonymous : Kind → Bool
-is_anonymous Message = false
-is_anonymous Anonymous = true
-is_anonymous Request = false
-is_anonymous Response = false
 
 -- frames of one kind and number from one source belong together
 abbrev pub key_of : Ident → Key

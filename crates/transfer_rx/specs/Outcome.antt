@@ -7,6 +7,7 @@ use Rattle.can_frame.specs.declared.tail.Tail.{Tail}
 use Rattle.can_frame.specs.declared.step.Why.{Why}
 use Rattle.can_frame.specs.declared.step.Why.TheVariants.{Start, Toggle, TransferId, Crc, Length, NoBlock}
 use Rattle.can_frame.specs.Cutting.{Piece, joined, frames_of, payload_of}
+use Rattle.can_frame.specs.Sizes.{longest_payload, longest_transfer}
 use Rattle.transfer_rx.specs.Sessions.{Session}
 
 -- the next piece has the expected ID, the start bit where it is the first, and the toggle where an odd number were
@@ -35,13 +36,13 @@ cut_again signature id pieces = frames_of signature id (payload_of pieces)
 -- no payload has frames of these lengths, or the payload is longer than the longest
 unfoldable pub fits_no_payload : ℕ → ℕ → List Piece → Bool
 fits_no_payload signature id pieces =
-    not (pointwise nat_eq (sizes pieces) (sizes (cut_again signature id pieces))) || nat_lt 376
-    (length (payload_of pieces))
+    not (pointwise nat_eq (sizes pieces) (sizes (cut_again signature id pieces))) ||
+    nat_lt longest_payload (length (payload_of pieces))
 
 -- a frame before the last has not seven bytes, or there are more than the longest transfer has with its CRC
 unfoldable pub fits_no_part : List Piece → Bool
 fits_no_part pieces =
-    not (pointwise nat_eq (sizes pieces) (map (λ piece. 7) pieces)) || nat_lt 378 (length (joined pieces))
+    not (pointwise nat_eq (sizes pieces) (map (λ piece. 7) pieces)) || nat_lt longest_transfer (length (joined pieces))
 
 abbrev pub is_wrong_length : ℕ → Piece → List Piece → Bool
 is_wrong_length signature piece pieces =

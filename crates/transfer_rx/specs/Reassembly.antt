@@ -6,10 +6,11 @@ use Rattle.can_frame.specs.declared.mark.Mark.{Mark}
 use Rattle.can_frame.specs.declared.step.Why.{Why}
 use Rattle.can_frame.specs.declared.step.Why.TheVariants.{Start, Toggle}
 use Rattle.can_frame.specs.Cutting.{Piece, piece_from}
+use Rattle.can_frame.specs.Kinds.{is_anonymous}
 use Rattle.transfer_rx.specs.declared.accept.AcceptRow.{AcceptRow}
 use Rattle.transfer_rx.specs.declared.accept.Wanted.{Wanted}
 use Rattle.transfer_rx.specs.Acceptance.{wanted}
-use Rattle.transfer_rx.specs.Keys.{is_anonymous, key_of}
+use Rattle.transfer_rx.specs.Keys.{key_of}
 use Rattle.transfer_rx.specs.Marks.{is_whole}
 use Rattle.transfer_rx.specs.Sessions.{Session, next_id, others, recent_sessions, session_for}
 use Rattle.transfer_rx.specs.Outcome.{Outcome, Delivers, Grows, Spoils, out_of_turn, outcome}

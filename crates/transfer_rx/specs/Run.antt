@@ -3,10 +3,12 @@ use Rattle.std.specs.Prelude.{◌≡◌, ℕ, ◌-◌, ◌<◌, ◌≤◌, ◌�
 use Rattle.can_frame.specs.declared.step.Why.{Why}
 use Rattle.can_frame.specs.declared.tail.Tail.{Tail}
 use Rattle.can_frame.specs.Cutting.{IsCutting}
+use Rattle.can_frame.specs.Kinds.{is_anonymous}
+use Rattle.can_frame.specs.Timing.{transfer_timeout}
 use Rattle.transfer_rx.specs.declared.accept.Wanted.{Wanted}
 use Rattle.transfer_rx.specs.declared.key.Key.{Key}
 use Rattle.transfer_rx.specs.Acceptance.{wanted}
-use Rattle.transfer_rx.specs.Keys.{is_anonymous, key_of, same_key}
+use Rattle.transfer_rx.specs.Keys.{key_of, same_key}
 use Rattle.transfer_rx.specs.Outcome.{lacks_blocks}
 use Rattle.transfer_rx.specs.Reassembly.{Arrival, Setting, next, piece_in}
 use Rattle.transfer_rx.specs.Sessions.{Session, others, recent_sessions, restarts, session_of}
@@ -51,8 +53,8 @@ pub record ComesWhole (setting : Setting) (sessions : List Session) (w : Wanted)
   pub ends : arrivals ≡ before ++ last ∷ []
   pub cutting : IsCutting w.signature (piece_in last).tail.id payload
       (map piece_in (of_key setting (key_of w.ident) arrivals))
-  -- no frame comes more than 2,000 ms after an earlier one
-  pub in_time : AllPairs (λ earlier later. later.moment - earlier.moment ≤ 2000) arrivals
+  -- no frame comes later than the transfer timeout after an earlier one
+  pub in_time : AllPairs (λ earlier later. later.moment - earlier.moment ≤ transfer_timeout) arrivals
   pub may_begin : MayBegin setting sessions (key_of w.ident) first
   -- the blocks suffice for each of its frames
   pub blocks : (front back : List Arrival) (arrival : Arrival) → arrivals ≡ front ++ arrival ∷ back →

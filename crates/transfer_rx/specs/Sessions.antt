@@ -6,6 +6,7 @@ use Rattle.can_frame.specs.declared.step.Why.{Why}
 use Rattle.can_frame.specs.declared.step.Why.TheVariants.{Start, NoSession}
 use Rattle.can_frame.specs.declared.tail.Tail.{Tail}
 use Rattle.can_frame.specs.Cutting.{Piece}
+use Rattle.can_frame.specs.Timing.{transfer_timeout}
 use Rattle.transfer_rx.specs.declared.key.Key.{Key}
 use Rattle.transfer_rx.specs.Keys.{same_key}
 
@@ -31,9 +32,9 @@ abbrev pub AreDifferent : List Session → Type 0
 AreDifferent [] = ⊤
 AreDifferent (session ∷ sessions) = (session_of session.key sessions ≡ None) × AreDifferent sessions
 
--- a session of more than 2,000 ms is forgotten; a falling clock makes none older
+-- a session that is older than the transfer timeout is forgotten; a falling clock makes none older
 abbrev pub is_recent : ℕ → Session → Bool
-is_recent now session = nat_le (now - session.moment) 2000
+is_recent now session = nat_le (now - session.moment) transfer_timeout
 
 abbrev pub recent_sessions : ℕ → List Session → List Session
 recent_sessions now sessions = filter (is_recent now) sessions

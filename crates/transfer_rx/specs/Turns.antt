@@ -1,6 +1,7 @@
 -- Where a frame comes, in the code and in the definition.
 use Rattle.std.specs.Prelude.{⊤, ◌≡◌, ℕ, ◌+◌, ◌*◌, ◌<◌, ◌≤◌, ◌∷◌, ◌++◌, false, length, slice_index_or, [], List, Some, None, Ok, Err}
 use Rattle.can_frame.specs.Cutting.{Piece, payload_of}
+use Rattle.can_frame.specs.Sizes.{longest_transfer}
 use Rattle.transfer_rx.specs.declared.key.Key.{Key}
 use Rattle.transfer_rx.specs.declared.progress.Found.{Found}
 use Rattle.transfer_rx.specs.declared.turn.Turn.{Turn}
@@ -20,7 +21,7 @@ pub record GoesOn (found : Found) (piece : Piece) : Type 0 where
 -- a frame that completes its transfer leaves it no longer than the longest
 pub record Completes (found : Found) (piece : Piece) : Type 0 where
   pub short : length piece.bytes ≤ 7
-  pub within : 7 * found.progress.taken + length piece.bytes ≤ 378
+  pub within : 7 * found.progress.taken + length piece.bytes ≤ longest_transfer
 
 -- what can be done without a look at the definition
 abbrev pub IsRoomy : ℕ → List (List ℕ) → Piece → Turn → Type 0

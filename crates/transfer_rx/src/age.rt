@@ -1,6 +1,7 @@
 //! Which sessions are too old, and are forgotten.
 
 ghost use Rattle.std.specs.Prelude.{◌≡◌, ◌↔◌, ◌-◌, ◌≤◌, ℕ, true, List, Some, None, IfSome, Option};
+ghost use Rattle.can_frame.specs.Timing.{transfer_timeout};
 ghost use Rattle.transfer_rx.specs.declared.key.Key.{Key};
 ghost use Rattle.transfer_rx.specs.Ages.{AreSince};
 ghost use Rattle.transfer_rx.specs.Crcs.{HaveCrcs};
@@ -11,7 +12,7 @@ ghost use Rattle.transfer_rx.specs.Used.{AreUnused};
 
 use crate::progress::Progress;
 use crate::sessions::Sessions;
-use crate::standard::TRANSFER_TIMEOUT;
+use can_frame::timing::TRANSFER_TIMEOUT;
 
 impl<const S: usize, const N: usize> Sessions<S, N> {
     /// Forgets the sessions that are too old. Their blocks are free again.
@@ -31,7 +32,7 @@ impl<const S: usize, const N: usize> Sessions<S, N> {
 
     /// Whether even the oldest session is not too old.
     pub fn has_none_old(&self, now: u64) -> bool
-        ensures exact { result ≡ true ↔ (now - self.now.oldest ≤ 2000) }
+        ensures exact { result ≡ true ↔ (now - self.now.oldest ≤ transfer_timeout) }
         ensures places { result ≡ true → (places : Places) →
             KeepPlaces self.now.progress self.now.pool places → left now places ≡ places }
     {

@@ -1,6 +1,7 @@
 ghost use Rattle.std.specs.Prelude.{◌≡◌, ◌<◌, ◌≤◌, ◌+◌, ◌*◌, ◌++◌, ◌∷◌, List, [], length, get_or, Some, None};
 ghost use Rattle.can_frame.specs.Cutting.{Piece, payload_of};
 ghost use Rattle.can_frame.specs.Piece.{piece_of};
+ghost use Rattle.can_frame.specs.Sizes.{longest_transfer};
 ghost use Rattle.transfer_rx.specs.declared.key.Key.{Key};
 ghost use Rattle.transfer_rx.specs.Crcs.{HasCrc};
 ghost use Rattle.transfer_rx.specs.Filled.{Fills, IsFree};
@@ -9,15 +10,12 @@ ghost use Rattle.transfer_rx.specs.Places.{Arranged, IsSessionFound, Places, Kee
 ghost use Rattle.transfer_rx.specs.Sessions.{Session, others};
 ghost use Rattle.transfer_rx.specs.Turns.{Completes, GoesOn};
 ghost use Rattle.transfer_rx.specs.Verdicts.{IfPart, IfWhole, says};
-ghost use Rattle.transfer_rx.specs.declared.verdict.TheConstants.{LONGEST};
 
 use crate::age::unless_old;
 use crate::progress::Found;
 use crate::sessions::Sessions;
 use crate::standard::FRAME_BYTES;
-use crate::verdict::{
-    LONGEST, Verdict, blocks_for, check_crc, is_alone, is_wrong_end, is_wrong_part,
-};
+use crate::verdict::{Verdict, blocks_for, check_crc, is_alone, is_wrong_end, is_wrong_part};
 use can_frame::{Frame, Tail, Why};
 
 impl<const S: usize, const N: usize> Sessions<S, N> {
@@ -72,7 +70,7 @@ impl<const S: usize, const N: usize> Sessions<S, N> {
     /// those of its session.
     fn lacks_blocks(&self, found: &Found, tail: &Tail, size: usize, now: u64, free: usize) -> bool
         requires place { found.now.place < S }
-        requires within { 7 * found.now.progress.taken + size ≤ LONGEST }
+        requires within { 7 * found.now.progress.taken + size ≤ longest_transfer }
         requires few { free ≤ 16384 }
         ensures { (places : Places) (sessions : List Session) (key : Key) (session : Session)
             (piece : Piece) →

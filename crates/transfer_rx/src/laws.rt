@@ -2,6 +2,7 @@
 
 ghost use Rattle.std.specs.Prelude.{◌≡◌, ◌≤◌, ◌++◌, ℕ, true, false, All, List, Ok, [], length, map};
 ghost use Rattle.can_frame.specs.Cutting.{Piece, frames_of};
+ghost use Rattle.can_frame.specs.Sizes.{longest_payload};
 ghost use Rattle.can_frame.specs.declared.tail.Tail.{Tail};
 ghost use Rattle.transfer_rx.specs.declared.accept.Wanted.{Wanted};
 ghost use Rattle.transfer_rx.specs.declared.key.Key.{Key};
@@ -33,11 +34,11 @@ pub fn delivers_cuttings()
 pub fn refuses_lengths()
     ensures none { (signature id : ℕ) (pieces : List Piece) →
         fits_no_payload signature id pieces ≡ true →
-        (payload : List ℕ) → length payload ≤ 376 →
+        (payload : List ℕ) → length payload ≤ longest_payload →
         sizes pieces ≡ sizes (frames_of signature id payload) → ⊥ }
     ensures some { (signature id : ℕ) (pieces : List Piece) →
         fits_no_payload signature id pieces ≡ false →
-        (payload : List ℕ) × (length payload ≤ 376) ×
+        (payload : List ℕ) × (length payload ≤ longest_payload) ×
         (sizes pieces ≡ sizes (frames_of signature id payload)) }
 {
     frames_give_the_payload();
@@ -45,8 +46,8 @@ pub fn refuses_lengths()
 }
 
 /// Completeness: a transfer that comes in order from its first frame to its last, among frames of
-/// other sessions, is delivered, where it may begin, no frame comes more than 2,000 ms after an
-/// earlier one, and the blocks suffice.
+/// other sessions, is delivered, where it may begin, no frame comes later than the transfer
+/// timeout after an earlier one, and the blocks suffice.
 pub fn delivers_what_comes_whole()
     ensures { (setting : Setting) (sessions : List Session) (w : Wanted) (payload : List ℕ)
         (arrivals before : List Arrival) (first last : Arrival) →

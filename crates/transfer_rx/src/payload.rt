@@ -4,6 +4,7 @@ ghost use Rattle.std.specs.Prelude.{◌≡◌, ◌≤◌, ◌<◌, ◌+◌, ◌+
 ghost use Rattle.can_frame.specs.Cutting.{payload_of};
 ghost use Rattle.can_frame.specs.Identifier.{IsIdentifier};
 ghost use Rattle.can_frame.specs.Piece.{piece_of};
+ghost use Rattle.can_frame.specs.Sizes.{longest_payload, longest_transfer};
 ghost use Rattle.transfer_rx.specs.Filled.{Fills};
 ghost use Rattle.transfer_rx.specs.Fronts.{HasFront, front_bytes};
 ghost use Rattle.transfer_rx.specs.Heard.{IfDelivers, UnlessDelivers, delivery_with, told_with};
@@ -22,8 +23,9 @@ use crate::sessions::Sessions;
 use crate::standard::CRC_BYTES;
 use crate::transfer::{Heard, Transfer};
 use crate::turn::{Coming, Turn, alone};
-use crate::verdict::{LONGEST, Verdict};
+use crate::verdict::Verdict;
 use arrayvec::ArrayVec;
+use can_frame::sizes::{LONGEST_PAYLOAD, LONGEST_TRANSFER};
 use can_frame::{Frame, Ident, Mark};
 
 impl<const S: usize, const N: usize> Sessions<S, N> {
@@ -88,13 +90,13 @@ impl<const S: usize, const N: usize> Sessions<S, N> {
     }
 
     /// Adds what is kept at a place, without the CRC at its front.
-    fn add_front(&self, place: usize, payload: &mut ArrayVec<u8, 376>)
+    fn add_front(&self, place: usize, payload: &mut ArrayVec<u8, LONGEST_PAYLOAD>)
         requires place { place < S }
         requires behind_crc { 2 ≤ length (get_or self.now.pool place []) }
         requires empty { payload.old.items ≡ [] }
         ensures { payload.new.items ≡ drop 2 (get_or self.now.pool place []) }
     {
-        let mut bytes = [0; LONGEST];
+        let mut bytes = [0; LONGEST_TRANSFER];
         let len = self.len_at(place);
         self.pool.copy_out(place, &mut bytes[..len]);
         add(payload, &bytes[CRC_BYTES..len]);
@@ -103,14 +105,14 @@ impl<const S: usize, const N: usize> Sessions<S, N> {
     fn len_at(&self, place: usize) -> usize
         requires { place < S }
         ensures len { result ≡ length (get_or self.now.pool place []) }
-        ensures most { result ≤ LONGEST }
+        ensures most { result ≤ longest_transfer }
     {
         self.pool.len(place)
     }
 }
 
-fn add(payload: &mut ArrayVec<u8, 376>, more: &[u8])
-    requires { length payload.old.items + length more.now ≤ 376 }
+fn add(payload: &mut ArrayVec<u8, LONGEST_PAYLOAD>, more: &[u8])
+    requires { length payload.old.items + length more.now ≤ longest_payload }
     ensures { payload.new.items ≡ payload.old.items ++ more.now }
 {
     match payload.try_extend_from_slice(more) {

@@ -1,11 +1,11 @@
 ghost use Rattle.std.specs.Prelude.{◌≡◌, ◌≤◌, ◌<◌, ◌++◌, [], IfOk, IfSome, List, None, Some, length, option_map};
 ghost use Rattle.can_frame.specs.Identifier.{IsIdentifier};
 ghost use Rattle.can_frame.specs.Piece.{piece_of};
-ghost use Rattle.transfer_rx.specs.Acceptance.{AnswersByRows, is_for, is_service, wanted};
+ghost use Rattle.transfer_rx.specs.Acceptance.{AnswersByRows, is_for, wanted};
 ghost use Rattle.transfer_rx.specs.Crcs.{HaveCrcs, signature_in};
 ghost use Rattle.transfer_rx.specs.Fronts.{HasFront, front_bytes};
 ghost use Rattle.transfer_rx.specs.Heard.{IfDelivers, UnlessDelivers, delivery_with, heading_in, told_with};
-ghost use Rattle.transfer_rx.specs.Keys.{is_anonymous, key_of};
+ghost use Rattle.transfer_rx.specs.Keys.{key_of};
 ghost use Rattle.transfer_rx.specs.Ranges.{IfDelivered, IsInRange};
 ghost use Rattle.transfer_rx.specs.Reassembly.{answer, arrival_of, delivered, next};
 ghost use Rattle.transfer_rx.specs.Sessions.{Session};
@@ -130,7 +130,7 @@ impl<F: Fn(Kind, u16) -> Option<u64> + Copy, const S: usize, const N: usize> Rec
             Ok(wanted) => wanted,
             Err(_) => return None,
         };
-        if is_anonymous(wanted.ident.kind) {
+        if wanted.ident.kind.is_anonymous() {
             return match alone(wanted.ident, frame, mark) {
                 Ok(coming) => Some(coming),
                 Err(_) => None,
@@ -229,7 +229,7 @@ impl<F: Copy, const S: usize, const N: usize> Receiver<F, S, N> {
             Ok(wanted) => wanted,
             Err(why) => return Heard::Dropped(why),
         };
-        if is_anonymous(wanted.ident.kind) {
+        if wanted.ident.kind.is_anonymous() {
             return self
                 .sessions
                 .hear_alone(wanted.ident, frame, mark, &mut self.delivered);
@@ -284,28 +284,6 @@ impl<F: Copy, const S: usize, const N: usize> Receiver<F, S, N> {
         ensures { result ≡ is_for self.now.me ident.now }
     {
         self.me == 0
-            || !(is_service(ident.kind) && ident.dest != self.me) && ident.source != self.me
-    }
-}
-
-fn is_service(kind: Kind) -> bool
-    ensures { result ≡ is_service kind }
-{
-    match kind {
-        Kind::Message => false,
-        Kind::Anonymous => false,
-        Kind::Request => true,
-        Kind::Response => true,
-    }
-}
-
-fn is_anonymous(kind: Kind) -> bool
-    ensures { result ≡ is_anonymous kind }
-{
-    match kind {
-        Kind::Message => false,
-        Kind::Anonymous => true,
-        Kind::Request => false,
-        Kind::Response => false,
+            || !(ident.kind.is_service() && ident.dest != self.me) && ident.source != self.me
     }
 }

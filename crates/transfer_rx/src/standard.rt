@@ -3,9 +3,6 @@
 /// Transfer IDs are counted modulo this.
 pub const TRANSFER_IDS: u8 = 32;
 
-/// A session that took no frame for more milliseconds is forgotten.
-pub const TRANSFER_TIMEOUT: u64 = 2000;
-
 /// The bytes of a full frame, without its tail.
 pub const FRAME_BYTES: usize = 7;
 

@@ -2,6 +2,7 @@ ghost use Rattle.std.specs.Prelude.{◌≡◌, []};
 ghost use Rattle.transfer_rx.specs.Heard.{heading_of};
 
 use arrayvec::ArrayVec;
+use can_frame::sizes::LONGEST_PAYLOAD;
 use can_frame::{Ident, Kind, Mark, Why};
 
 /// A transfer that came whole.
@@ -13,8 +14,7 @@ pub struct Transfer {
     /// The transfer ID, 0 to 31.
     pub id: u8,
 
-    /// 0 to 376 bytes.
-    pub payload: ArrayVec<u8, 376>,
+    pub payload: ArrayVec<u8, LONGEST_PAYLOAD>,
 
     /// The mark of the last frame.
     pub mark: Mark,

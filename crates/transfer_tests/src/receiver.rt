@@ -1,6 +1,7 @@
 //! Frames that come to a receiver, each with what it leads to.
 
 ghost use Rattle.std.specs.Prelude.{◌≡◌, ◌∷◌, []};
+ghost use Rattle.can_frame.specs.Sizes.{blocks, sessions};
 ghost use Rattle.transfer_rx.specs.Acceptance.{AnswersByRows, first_signature};
 ghost use Rattle.transfer_rx.specs.Memory.{ReceiverFitsInMemory};
 ghost use Rattle.transfer_tests.specs.declared.receiver.TheConstants.{ALLOCATION, ANOTHER};
@@ -8,6 +9,7 @@ ghost use Rattle.transfer_rx.specs.Views.{accept_of, setting_of};
 
 use arrayvec::ArrayVec;
 use block_pool::BlockPool;
+use can_frame::sizes::{BLOCKS, SESSIONS};
 use can_frame::{Frame, Ident, Kind, Mark, Why};
 use std::test::Fail;
 use transfer_rx::{AcceptRow, Heard, Receiver, Took, Transfer};
@@ -391,7 +393,7 @@ fn what_was_heard_is_lent_until_the_next(rt: HostRuntime) -> Result<(), Fail> {
 /// Whoever keeps a receiver and is generic in its closure.
 #[derive(Drop)]
 struct Listener<F> {
-    receiver: Receiver<F, 160, 128>,
+    receiver: Receiver<F, SESSIONS, BLOCKS>,
 }
 
 impl<F: Fn(Kind, u16) -> Option<u64> + Copy> Listener<F> {
@@ -399,7 +401,7 @@ impl<F: Fn(Kind, u16) -> Option<u64> + Copy> Listener<F> {
         requires callable { F.IsAlwaysCallable (accept_of self.old.receiver) }
         requires answers { AnswersByRows (F.post (accept_of self.old.receiver))
             (setting_of self.old.receiver).rows }
-        requires memory { ReceiverFitsInMemory F.row 160 128 }
+        requires memory { ReceiverFitsInMemory F.row sessions blocks }
     {
         matches!(self.receiver.take(frame, mark, now), Took::Part)
     }

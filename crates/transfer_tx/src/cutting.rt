@@ -1,12 +1,14 @@
 ghost use Rattle.std.specs.Prelude.{◌≡◌, ℕ, ◌+◌, ◌-◌, ◌/◌, ◌<◌, ◌≤◌, ◌^◌, List, ◌++◌, length, map};
 ghost use Rattle.arrayvec.specs.ArrayVec.{array_vec_len};
 ghost use Rattle.can_frame.specs.Cutting.{bytes_cut, cut, frame_bytes, frame_count, frames_of, tail_at};
+ghost use Rattle.can_frame.specs.Sizes.{longest_payload, longest_transfer};
 ghost use Rattle.transfer_tx.specs.Queue.{marked};
 ghost use Rattle.transfer_tx.specs.Views.{queued_of};
 
 use crate::{Marked, Sender};
 use arrayvec::ArrayVec;
 use can_frame::laws::lengths_of_cuttings;
+use can_frame::sizes::LONGEST_TRANSFER;
 use can_frame::{Frame, Mark, Tail, crc};
 
 /// How many frames a payload of `len` bytes is cut into: 1 for at most 7 bytes; a longer one goes
@@ -21,10 +23,10 @@ pub fn frames_needed(len: usize) -> usize
 }
 
 /// What is cut: a payload of at most 7 bytes alone, a longer one behind its CRC, low byte first.
-pub(crate) fn bytes_to_cut(signature: u64, payload: &[u8]) -> ArrayVec<u8, 378>
-    requires { length payload.now ≤ 376 }
+pub(crate) fn bytes_to_cut(signature: u64, payload: &[u8]) -> ArrayVec<u8, LONGEST_TRANSFER>
+    requires { length payload.now ≤ longest_payload }
     ensures bytes { result.items ≡ bytes_cut signature payload.now }
-    ensures count { array_vec_len result ≤ 378 }
+    ensures count { array_vec_len result ≤ longest_transfer }
 {
     let mut bytes = ArrayVec::new();
     if payload.len() > 7 {
@@ -51,7 +53,7 @@ pub(crate) struct Stamp {
 impl Stamp {
     /// Puts the frames of these bytes into a queue.
     pub fn cut<const Q: usize>(&self, bytes: &[u8], queue: &mut Sender<Q>)
-        requires size { length bytes.now ≤ 378 }
+        requires size { length bytes.now ≤ longest_transfer }
         requires room { length queue.old + (length bytes.now - 1) / 7 < Q }
         ensures { queue.new ≡ queue.old ++
             marked self.now.id self.now.step self.now.re 0

@@ -1,5 +1,6 @@
 use arrayvec::ArrayVec;
 use can_frame::Ident;
+use can_frame::sizes::LONGEST_PAYLOAD;
 
 /// A transfer to be sent.
 #[derive(Debug, Drop, PartialEq, Eq)]
@@ -13,6 +14,5 @@ pub struct Outgoing {
     /// The transfer ID, 0 to 31.
     pub id: u8,
 
-    /// 0 to 376 bytes.
-    pub payload: ArrayVec<u8, 376>,
+    pub payload: ArrayVec<u8, LONGEST_PAYLOAD>,
 }

@@ -1,4 +1,5 @@
 ghost use Rattle.std.specs.Prelude.{◌≡◌, ◌≤◌, ◌+◌, ℕ, List, None, length, IfOk, IfSome, IsErr, IsSome, OnOk};
+ghost use Rattle.can_frame.specs.Sizes.{most_members};
 ghost use Rattle.outside.specs.Contents.{WhereTold};
 ghost use Rattle.outside.specs.Faults.{HasCause, counted, one_more};
 ghost use Rattle.outside.specs.Traffic.{Receives, Sends};
@@ -6,6 +7,7 @@ ghost use Rattle.outside.specs.Traffic.{Receives, Sends};
 use crate::datagram::{MOST, datagram_of};
 use crate::senders::frame_from;
 use arrayvec::ArrayVec;
+use can_frame::sizes::MOST_MEMBERS;
 use outside::{Failed, Link, RawFrame, Received};
 use std::io::ErrorKind;
 use std::net::{Ipv4Addr, Net, UdpSocket};
@@ -31,7 +33,7 @@ pub struct UdpLink {
     faults: u64,
 
     /// The node IDs that run here, where the link is strict.
-    here: Option<ArrayVec<u8, 5>>,
+    here: Option<ArrayVec<u8, MOST_MEMBERS>>,
 }
 
 impl UdpLink {
@@ -64,7 +66,7 @@ impl UdpLink {
     /// The strict link of the node with this ID, which [`UdpLink::open`] gives else, in a process in which the nodes
     /// with these IDs run.
     pub fn open_strict<R: Net>(rt: &R, base: u16, id: u8, here: &[u8]) -> Result<UdpLink, Failed>
-        requires { length here.now ≤ 5 }
+        requires { length here.now ≤ most_members }
         ensures base { IfOk result (λ link. link.base ≡ base) }
         ensures id { IfOk result (λ link. link.id ≡ id) }
         ensures faults { IfOk result (λ link. link.faults ≡ 0) }

@@ -7,6 +7,7 @@ ghost use Rattle.udp_link.specs.Senders.{IsHere, MaySend, Takes};
 
 use crate::datagram::frame_of;
 use arrayvec::ArrayVec;
+use can_frame::sizes::MOST_MEMBERS;
 use outside::Received;
 use std::net::SocketAddr;
 
@@ -20,7 +21,7 @@ const NODES: u32 = 128;
 /// has the node IDs that run here, and a frame from an address that it may not come from is junk.
 pub fn frame_from(
     base: u16,
-    here: &Option<ArrayVec<u8, 5>>,
+    here: &Option<ArrayVec<u8, MOST_MEMBERS>>,
     from: &SocketAddr,
     datagram: &[u8],
 ) -> Received

@@ -73,12 +73,12 @@ returns-clause-audit g c = λ ids asks.
     inr (rw (only_audit c.in-Some.plan _ c.in-Some.ensures.some ids asks) at c.follow.ensures.followed)
 
 pub returns-clause-watch : goal.returns-clause-watch
-returns-clause-watch g c = λ candump lines ids asks.
-    inr (rw (only_watch c.in-Some.plan _ c.in-Some.ensures.some candump lines ids asks) at c.follow.ensures.followed)
+returns-clause-watch g c = λ form lines ids asks.
+    inr (rw (only_watch c.in-Some.plan _ c.in-Some.ensures.some form lines ids asks) at c.follow.ensures.followed)
 
 pub returns-clause-convert : goal.returns-clause-convert
-returns-clause-convert g c = λ from_candump to_candump lines asks.
-    inr (rw (only_convert c.in-Some.plan _ c.in-Some.ensures.some from_candump to_candump lines asks) at c.follow.ensures.followed)
+returns-clause-convert g c = λ from to lines asks.
+    inr (rw (only_convert c.in-Some.plan _ c.in-Some.ensures.some from to lines asks) at c.follow.ensures.followed)
 
 pub returns-clause-decode : goal.returns-clause-decode
 returns-clause-decode g c = λ name part payload asks.

@@ -81,7 +81,7 @@ rows-preserved g c =
         members = c.in-Ok.ensures.accepts ∙ so_far.accepts.members;
         allocatees = c.in-Ok.ensures.aaccepts ∙ so_far.accepts.allocatees;
       };
-      kept = c.in_ok-line.ensures.kept ∙ so_far.kept;
+      kept = c.in_ok-line.ensures.faults.kept ∙ so_far.kept;
       grows = omega (arith, so_far.grows, taken);
       shorter = omega (arith, so_far.shorter, (found-as _ _ _ _ c.in-Row.is c.next_row-next.ensures.found).shorter);
       some = inl (omega (arith, so_far.grows, taken));

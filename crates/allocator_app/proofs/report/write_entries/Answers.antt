@@ -15,7 +15,7 @@ entries-preserved g c =
     let low = c.entries-test.true in
     record {
       within = grind (arith, nat_tests, low);
-      kept = c.in_ok-line.ensures.kept ∙ so_far.kept;
+      kept = c.in_ok-line.ensures.faults.kept ∙ so_far.kept;
       grew = grows-trans _ _ _ so_far.grew c.in_ok-line.ensures.told.grew;
       told = λ w is log has.
           let far = so_far.told w is log has in

@@ -17,7 +17,7 @@ ids-preserved g c =
     record {
       least = omega arith;
       most = grind (arith, nat_tests, low);
-      kept = c.in_ok-write_log.ensures.kept ∙ so_far.kept;
+      kept = c.in_ok-write_log.ensures.faults.kept ∙ so_far.kept;
       grew = grows-trans _ _ _ so_far.grew c.in_ok-write_log.ensures.grew;
       told = λ w is.
           subst (λ lines. Appends (append_known (g.K.Sink.written c.args.sink.now) c.args.output.now) (append_known (g.K.Sink.written c.write_log.new.sink) c.write_log.new.output) lines)

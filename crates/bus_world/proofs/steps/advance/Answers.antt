@@ -17,7 +17,7 @@ pub returns-in-Ok-clause-finished : goal.returns-in-Ok-clause-finished
 returns-in-Ok-clause-finished g c = λ t key_disk up done.
     let step_result = step_of t c.args.number (event_of c.args.event) in
     let does = c.in-Ok.ensures.steps t up.stands in (
-      c.stepped.ensures ∙ told_same c.args.n c.view.result (view_of step_result.step_state.allocator) c.in-Ok.outcome.seen step_result.seen c.in-Ok.outcome.sent.items (listing_of step_result.step_state)
+      c.told_of_step.ensures ∙ told_same c.args.n c.view.result (view_of step_result.step_state.allocator) c.in-Ok.outcome.seen step_result.seen c.in-Ok.outcome.sent.items (listing_of step_result.step_state)
           (c.view.ensures.stands step_result.step_state.allocator does.stands) does.tells.seen does.tells.sent,
       up_after c.args.server.now c.step.new.self c.a_member_on_the_disk_by_states.ensures.puts t key_disk up step_result c.in-Ok.outcome does,
     )

@@ -39,7 +39,7 @@ lines-preserved g c =
       limit = c.next.ensures.limit ∙ so_far.limit;
       within = let most = c.next.ensures.taken in let same = c.next.ensures.limit in let first = so_far.limit in omega arith;
       source_kept = c.in-Ok-Line.ensures.source_kept ∙ so_far.source_kept;
-      sink_kept = c.in-Ok.ensures.kept ∙ (c.in-Ok-Line.ensures.sink_kept ∙ so_far.sink_kept);
+      sink_kept = c.in-Ok.ensures.faults.kept ∙ (c.in-Ok-Line.ensures.sink_kept ∙ so_far.sink_kept);
       came = λ bytes known.
           let far = so_far.came bytes known in (
             far.0 ++ c.in-Ok-Line.line ∷ [],

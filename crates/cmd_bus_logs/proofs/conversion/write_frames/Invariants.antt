@@ -1,5 +1,5 @@
 use Rattle.std.proofs.Common.{◌≡◌, ◌≤◌, ◌-◌, List, ℕ, Some}
-use Rattle.cmd_bus_logs.specs.declared.form.Line.{Line}
+use Rattle.can_logs.specs.declared.form.Line.{Line}
 use Rattle.cmd_bus_logs.specs.Converted.{converted}
 use Rattle.cmd_bus_logs.specs.Walking.{SoFar}
 use Rattle.cmd_bus_logs.proofs.conversion.write_frames.Given as goal

@@ -1,6 +1,6 @@
 use Rattle.std.proofs.Common.{◌≡◌, drop, take, refl, sym, ap, ◌∙◌, subst}
 use Rattle.cmd_base.specs.Input.{HasNoLineEnd, HasTooLongLine, IsLineEnd}
-use Rattle.cmd_bus_logs.specs.Lines.{Says, bells, end_of}
+use Rattle.can_logs.specs.Forms.{Says, bells, end_of}
 use Rattle.cmd_bus_logs.proofs.Ends.{line_found, no_line, too_long}
 use Rattle.cmd_bus_logs.proofs.front.first_line.Goals as goal
 

@@ -10,8 +10,7 @@ lines-init g c = record {
   form = refl;
   limit = refl;
   within = let first = c.requires.first in omega arith;
-  messages = refl;
-  services = refl;
+  accept = refl;
   source_kept = refl;
   sink_kept = refl;
   came = λ ids bytes has known. (
@@ -37,10 +36,9 @@ lines-preserved g c =
       form = c.next.ensures.form ∙ so_far.form;
       limit = c.next.ensures.limit ∙ so_far.limit;
       within = let most = c.next.ensures.taken in let same = c.next.ensures.limit in let first = so_far.limit in omega arith;
-      messages = c.in-Ok.ensures.messages ∙ so_far.messages;
-      services = c.in-Ok.ensures.services ∙ so_far.services;
+      accept = c.in-Ok.ensures.accept ∙ so_far.accept;
       source_kept = c.in-Ok-Line.ensures.source_kept ∙ so_far.source_kept;
-      sink_kept = c.in-Ok.ensures.kept ∙ (c.in-Ok-Line.ensures.sink_kept ∙ so_far.sink_kept);
+      sink_kept = c.in-Ok.ensures.faults.kept ∙ (c.in-Ok-Line.ensures.sink_kept ∙ so_far.sink_kept);
       came = λ ids bytes first known.
           let far = so_far.came ids bytes first known in
           let said = c.in-Ok-Line.line in

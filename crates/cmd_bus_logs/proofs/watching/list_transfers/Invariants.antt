@@ -1,8 +1,8 @@
 use Rattle.std.proofs.Common.{◌≡◌, ◌≤◌, ◌-◌, List, ℕ, Some}
-use Rattle.cmd_bus_logs.specs.declared.form.Line.{Line}
+use Rattle.can_logs.specs.declared.form.Line.{Line}
 use Rattle.cmd_bus_logs.specs.Walking.{SoFar}
 use Rattle.cmd_bus_logs.specs.Watched.{unwatched, watched}
-use Rattle.cmd_bus_logs.specs.Watching.{HasWatch, messages_accept, services_accept, watch_behind}
+use Rattle.cmd_bus_logs.specs.Watching.{HasWatch, watch_accept, watch_behind}
 use Rattle.cmd_bus_logs.proofs.watching.list_transfers.Given as goal
 
 -- the receivers stand behind the lines so far, and the transfers of these were written, or wait to be
@@ -14,8 +14,7 @@ invariant-lines g l =
       form : l.log.form ≡ l.fn.log.form;
       limit : l.log.limit ≡ l.fn.log.limit;
       within : l.log.taken ≤ l.fn.log.limit;
-      messages : messages_accept l.receivers ≡ messages_accept l.fn.receivers;
-      services : services_accept l.receivers ≡ services_accept l.fn.receivers;
+      accept : watch_accept l.receivers ≡ watch_accept l.fn.receivers;
       source_kept : g.S.Source.faults l.source ≡ g.S.Source.faults l.fn.source;
       sink_kept : g.K.Sink.faults l.sink ≡ g.K.Sink.faults l.fn.sink;
       came : (ids bytes : List ℕ) → HasWatch l.fn.receivers ids unwatched → left l.fn.source ≡ Some bytes → (lines : List Line)

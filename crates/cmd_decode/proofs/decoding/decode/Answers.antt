@@ -30,4 +30,4 @@ returns-in-Err-write_answer-clause-decodes g c =
     (wrote c.args.sink.now) (wrote c.write_answer.new.sink)
     (written c.args.sink.now) (written c.write_answer.new.sink)
     c.in-Ok.ending c.new-answer.result c.in-Ok.ensures.text c.new-answer.ensures
-    c.in-Err-write_answer.ensures.err c.in-Err-write_answer.ensures.cause.failed
+    c.in-Err-write_answer.ensures.err c.in-Err-write_answer.ensures.faults.cause.failed

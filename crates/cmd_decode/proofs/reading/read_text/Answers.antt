@@ -18,7 +18,7 @@ reading-preserved g c =
       short = waits.short;
       unended = waits.unended;
       another = waits.another;
-      kept = c.in-Ok-true.ensures.kept ∙ so_far.kept;
+      kept = c.in-Ok-true.ensures.faults.kept ∙ so_far.kept;
       told = λ bytes known. read_on bytes c.reading.input c.fill.new.self c.take.new.input _ _ c.reading.lines c.take.new.self (so_far.told bytes known) more c.take.ensures.taken;
     }
 

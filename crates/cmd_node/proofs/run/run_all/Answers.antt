@@ -1,7 +1,7 @@
 use Rattle.std.proofs.Common.{◌<◌, length, refl, inl, inr, ◌∙◌, subst, arith}
 use Rattle.std.specs.Prelude.{None, slice_index_or}
 use Rattle.alloc_spec.specs.Rules.{rules_by}
-use Rattle.cmd_node.specs.Opening.{Given, together_at_opening as opened_of}
+use Rattle.cmd_node.specs.Opening.{RunInput, together_at_opening as opened_of}
 use Rattle.cmd_node.specs.Runners.{runners_of}
 use Rattle.cmd_node.specs.Stands.{Stand}
 use Rattle.cmd_node.specs.Turns.{all_turns}
@@ -51,12 +51,12 @@ returns-in-Ok g c =
     let turned = c.take_turns.ensures in
     let rules = rules_by c.args.size c.args.told.now in
     let count = turned.nodes.count ∙ opened.all in
-    let stand = λ (given : Given) (tell : Tell g.L.Link.coming g.L.Link.sent g.D.Disk c.args.links.now c.args.disks.now (g.C.Clock.readings c.args.clock.now) given).
+    let stand = λ (given : RunInput) (tell : Tell g.L.Link.coming g.L.Link.sent g.D.Disk c.args.links.now c.args.disks.now (g.C.Clock.readings c.args.clock.now) given).
     let moments = opened.moments given.readings tell.readings_are in
     all_opened c.an_image_stands_for_one_state.ensures.state c.an_opening_goes_on.ensures.same g.L.Link.coming g.L.Link.sent rules c.args.ids.now
     (runners_of c.open_all.new.self) c.args.links.now c.args.disks.now (g.C.Clock.readings c.args.clock.now) given opened.opened opened.all c.requires.present tell
     (g.C.Clock.readings c.open_all.new.clock) c.args.steps.now c.requires.links moments.0 moments.1 c.requires.keeps in
-    let telling = λ (given : Given) (tell : Tell g.L.Link.coming g.L.Link.sent g.D.Disk c.args.links.now c.args.disks.now (g.C.Clock.readings c.args.clock.now) given).
+    let telling = λ (given : RunInput) (tell : Tell g.L.Link.coming g.L.Link.sent g.D.Disk c.args.links.now c.args.disks.now (g.C.Clock.readings c.args.clock.now) given).
     all_telling g.L.Link.coming g.L.Link.sent c.args.ids.now (runners_of c.open_all.new.self) (runners_of c.take_turns.new.self) c.args.links.now c.args.disks.now
     (g.C.Clock.readings c.args.clock.now) given opened.opened opened.all c.requires.present tell turned.nodes in
     record {

@@ -15,7 +15,7 @@ steps-preserved g c =
     let text = c.deref.ensures.0 ∙ c.write_told.ensures.line in
     let first = sym c.in-Some.ensures.value in
     record {
-      kept = c.in_ok-line.ensures.kept ∙ so_far.kept;
+      kept = c.in_ok-line.ensures.faults.kept ∙ so_far.kept;
       grew = grows-trans _ _ _ so_far.grew c.in_ok-line.ensures.told.grew;
       told = (
         far.0 ++ line,

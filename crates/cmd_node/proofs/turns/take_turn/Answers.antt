@@ -26,25 +26,15 @@ loop-place-init g c = record {
   turned = λ all is. is;
 }
 
-pub turn-requires-clause-callable : goal.turn-requires-clause-callable
-turn-requires-clause-callable g c =
+pub turn-requires-clause-receives : goal.turn-requires-clause-receives
+turn-requires-clause-receives g c =
     let nodes = c.loop-place.invariant.nodes in
     let count = nodes.count in
     let low = c.loop-place-test.true in
     let first : c.loop-place.place < length c.args.runners.now = omega (arith, low, count) in
     let some = c.index-runners-place.result in
     let same = sym (nodes.each c.loop-place.place some some first).accepts in
-    rw same at (c.requires.callable c.loop-place.place some first)
-
-pub turn-requires-clause-answers : goal.turn-requires-clause-answers
-turn-requires-clause-answers g c =
-    let nodes = c.loop-place.invariant.nodes in
-    let count = nodes.count in
-    let low = c.loop-place-test.true in
-    let first : c.loop-place.place < length c.args.runners.now = omega (arith, low, count) in
-    let some = c.index-runners-place.result in
-    let same = sym (nodes.each c.loop-place.place some some first).accepts in
-    rw same at (c.requires.answers c.loop-place.place some first)
+    rw same at (c.requires.receives c.loop-place.place some first)
 
 pub loop-place-preserved : goal.loop-place-preserved
 loop-place-preserved g c =

@@ -1,5 +1,5 @@
 use Rattle.std.proofs.Common.{sym, subst}
-use Rattle.dsdl_text.specs.declared.profile.TheConstants.{PROFILE}
+use Rattle.dsdl_text_codec_laws.specs.declared.text.TheConstants.{PROFILE}
 use Rattle.dsdl_text_codec_laws.specs.Profile.{EndsAs, profile}
 use Rattle.dsdl_text_codec_laws.proofs.Profile.{is_profile}
 use Rattle.dsdl_text_codec_laws.proofs.calls.profile_types.Goals as goal

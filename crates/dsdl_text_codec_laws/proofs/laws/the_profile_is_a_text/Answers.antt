@@ -1,4 +1,4 @@
-use Rattle.dsdl_text.specs.declared.profile.TheConstants.{PROFILE}
+use Rattle.dsdl_text_codec_laws.specs.declared.text.TheConstants.{PROFILE}
 use Rattle.dsdl_text_codec_laws.specs.Profile.{profile}
 use Rattle.dsdl_text_codec_laws.proofs.Profile.{is_profile, one_text_of, profile_read}
 use Rattle.dsdl_text_codec_laws.proofs.laws.the_profile_is_a_text.Goals as goal

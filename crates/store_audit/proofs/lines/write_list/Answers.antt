@@ -27,7 +27,7 @@ loop-earlier-preserved g c =
     let text : line ≡ place_line stores (n + 1) (entry_at c.args.store.now.entries.items (n + 1)) = c.as_bytes.ensures.bytes ∙ (c.place_line.ensures.text ∙ ap (place_line stores (n + 1)) c.entry_of-entry.ensures) in
     let all = line_more stores c.args.store.now n (n + 1) refl (omega arith) in
     record {
-      kept = c.in_ok-line.ensures.kept ∙ so_far.kept;
+      kept = c.in_ok-line.ensures.faults.kept ∙ so_far.kept;
       grew = grows-trans _ _ _ so_far.grew c.in_ok-line.ensures.told.grew;
       told = subst (Appends _ _) (ap (λ l. lines_to stores (committed c.args.store.now) n ++ l) text ∙ sym all) (Appends-trans _ _ _ _ line so_far.told c.in_ok-line.ensures.told.ok);
     }

@@ -1,4 +1,4 @@
-use Rattle.std.proofs.Common.{◌≡◌, ℕ, refl, ap, subst, ◌∙◌, arith, max}
+use Rattle.std.proofs.Common.{◌≡◌, ℕ, refl, ap, subst, ◌∙◌, arith, max, rules}
 use Rattle.alloc_handlers.proofs.Words.{durable_state, given_at, members_of, moves_of_expire, overdue, server_after_all, times_after_all}
 use Rattle.raft_core.specs.Stands as raft
 use Rattle.alloc_spec.specs.Step.{all_nodes}
@@ -7,11 +7,12 @@ use Rattle.alloc_handlers.proofs.Nodes.{in_all_nodes}
 use Rattle.alloc_handlers.proofs.member.Member.begin.Goals as goal
 
 pub returns-clause-step_state : goal.returns-clause-step_state
-returns-clause-step_state g c t h offered fresh step sessions =
+returns-clause-step_state g c t h sessions =
+    let step = c.args.step in
     let at : c.max-self.result ≡ max t.now c.args.now = c.max-self.ensures ∙ ap (λ (n : ℕ). max n c.args.now) h.now in
     let mine = c.requires.raft_me ∙ h.me in
     let state = durable_state c.args.self.now.durable in
-    begun c.args.self.now.durable _ t offered step c.args.now sessions (c.puts_go_on.ensures.nothing c.args.self.now.durable) refl fresh (record {
+    begun c.args.self.now.durable _ t step c.args.now sessions (c.puts_go_on.ensures.nothing c.args.self.now.durable) refl c.new-self.ensures.sent c.new-self.ensures.answers (record {
       me = h.me;
       size = h.size;
       raft = subst (λ (now : ℕ). raft.StandsFor c.expire.new.self (members_of t) state (server_after_all (members_of t) t.me step t.raft_server (moves_of_expire (overdue t.times now all_nodes))) (times_after_all (members_of t) t.me step (given_at now) t.raft_server (moves_of_expire (overdue t.times now all_nodes)) t.times)) at
@@ -29,14 +30,18 @@ returns-clause-step_state g c t h offered fresh step sessions =
 
 pub returns-clause-ready : goal.returns-clause-ready
 returns-clause-ready g c = record {
-  least = c.requires.least;
-  most = c.requires.most;
-  some = c.requires.some;
-  five = c.requires.five;
-  raft_me = c.expire.ensures.me ∙ c.requires.raft_me;
-  raft_size = c.expire.ensures.size ∙ c.requires.raft_size;
-  outbox_me = c.requires.outbox_me;
-  opened_before = omega (arith, c.max-self.ensures, c.requires.opened_before);
-  status_before = omega (arith, c.max-self.ensures, c.requires.status_before);
-  fits = c.expire.ensures.fits (durable_state c.args.self.now.durable) c.requires.fits;
+  ready = record {
+    least = c.requires.least;
+    most = c.requires.most;
+    some = c.requires.some;
+    five = c.requires.five;
+    raft_me = c.expire.ensures.me ∙ c.requires.raft_me;
+    raft_size = c.expire.ensures.size ∙ c.requires.raft_size;
+    outbox_me = c.requires.outbox_me;
+    opened_before = omega (arith, c.max-self.ensures, c.requires.opened_before);
+    status_before = omega (arith, c.max-self.ensures, c.requires.status_before);
+    fits = c.expire.ensures.fits (durable_state c.args.self.now.durable) c.requires.fits;
+  };
+  sent_room = search rules;
+  given_room = search rules;
 }

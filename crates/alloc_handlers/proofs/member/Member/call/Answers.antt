@@ -13,7 +13,7 @@ pub returns-in_default-clause-step_state : goal.returns-in_default-clause-step_s
 returns-in_default-clause-step_state g c start step_state h =
     let t = step_state.allocator in
     let none = c.in_default.ensures.none refl (members_of t) t.raft_server t.times h.stands.raft in
-    subst (λ (move : Option Move). IsInStep start c.args.self.now c.args.offered.now (calls_owed c.args.offered.now.step move step_state)) (sym none ∙ ap (λ (now : ℕ). owed t.raft_server t.times c.args.peer now) h.stands.now) h
+    subst (λ (move : Option Move). IsInStep start c.args.self.now (calls_owed c.args.self.now.offered.step move step_state)) (sym none ∙ ap (λ (now : ℕ). owed t.raft_server t.times c.args.peer now) h.stands.now) h
 
 pub called-requires-clause-owed : goal.called-requires-clause-owed
 called-requires-clause-owed g c =
@@ -22,17 +22,17 @@ called-requires-clause-owed g c =
 pub returns-then-send-clause-step_state : goal.returns-then-send-clause-step_state
 returns-then-send-clause-step_state g c start step_state h =
     let t = step_state.allocator in
-    let s = c.args.offered.now.step in
+    let s = c.args.self.now.offered.step in
     let owes = c.in-Some.ensures.some (members_of t) s t.raft_server t.times h.stands.raft in
-    let says = subst (λ (me : ℕ). Says me s t.raft_server c.args.peer c.in-Some.call owes.0) (c.requires.ready.raft_me ∙ h.stands.me) owes.2 in
+    let says = subst (λ (me : ℕ). Says me s t.raft_server c.args.peer c.in-Some.call owes.0) (c.requires.ready.ready.raft_me ∙ h.stands.me) owes.2 in
     let by = calls_as s c.args.peer step_state c.in-Some.call owes.0 says in
     let due : owed t.raft_server t.times c.args.peer t.now ≡ Some owes.0 = ap (λ (now : ℕ). owed t.raft_server t.times c.args.peer now) (sym h.stands.now) ∙ owes.1 in
     let what : c.what_of-what.result ≡ what_of c.in-Some.call = c.what_of-what.ensures in
     let bytes : c.payload_of.result.items ≡ bytes_of c.in-Some.call = c.payload_of.ensures in
     let none = subst (λ (w : What). pair_in w c.payload_of.result.items ≡ None) (sym what) (no_pair c.in-Some.call c.payload_of.result.items) in
     let sent : StepState = with_transfer s (what_of c.in-Some.call) c.args.peer (bytes_of c.in-Some.call) (Some (Requests by.0)) step_state in
-    let is_sent = subst (λ (list : List ℕ). IsInStep start c.send.new.self c.send.new.offered (with_transfer s (what_of c.in-Some.call) c.args.peer list (Some (Requests by.0)) step_state)) bytes
-    (subst (λ (w : What). IsInStep start c.send.new.self c.send.new.offered (with_transfer s w c.args.peer c.payload_of.result.items (Some (Requests by.0)) step_state)) what
+    let is_sent = subst (λ (list : List ℕ). IsInStep start c.send.new.self (with_transfer s (what_of c.in-Some.call) c.args.peer list (Some (Requests by.0)) step_state)) bytes
+    (subst (λ (w : What). IsInStep start c.send.new.self (with_transfer s w c.args.peer c.payload_of.result.items (Some (Requests by.0)) step_state)) what
     (c.send.ensures.step_state none (Some (Requests by.0)) start step_state h)) in
     let room : has_room t.queue (bytes_of c.in-Some.call) ≡ c.send.result =
     ap (λ (list : List ℕ). has_room t.queue list) (sym bytes) ∙ ap (λ (w : Waiting). has_room w.queue c.payload_of.result.items) (sym h.stands.outbox) ∙ sym c.send.ensures.fitted in
@@ -40,10 +40,10 @@ returns-then-send-clause-step_state g c start step_state h =
     c.next_id-id.ensures.id ∙ ap (λ (w : What). id_of c.args.self.now.outbox.ids w c.args.peer) what ∙ ap (λ (w : Waiting). id_of w.ids (what_of c.in-Some.call) c.args.peer) h.stands.outbox in
     let moved = subst (λ (n : ℕ). raft.StandsFor c.called.new.self (members_of t) (durable_state c.send.new.self.durable) (server_after_all (members_of t) (raft_me c.send.new.self.raft) n t.raft_server (owes.0 ∷ [])) (times_after_all (members_of t) (raft_me c.send.new.self.raft) n (given_call c.send.new.self.latest c.next_id-id.result) t.raft_server (owes.0 ∷ []) t.times)) c.send.ensures.leaves.lists.step
     (c.called.ensures.moves (members_of t) t.raft_server t.times is_sent.stands.raft owes.0 (ap (λ (now : ℕ). owed t.raft_server t.times c.args.peer now) is_sent.stands.now ∙ due)) in
-    subst (λ (m : Option Move). IsInStep start (record c.send.new.self { raft = c.called.new.self }) c.send.new.offered (calls_owed s m step_state)) (sym due)
-    (subst (λ (x : StepState). IsInStep start (record c.send.new.self { raft = c.called.new.self }) c.send.new.offered x) (sym by.1)
-    (then_ (λ (x : StepState). IsInStep start (record c.send.new.self { raft = c.called.new.self }) c.send.new.offered x) _ _ _ (room ∙ c.if-send.true)
-    (noted_moves start c.send.new.self c.send.new.offered sent is_sent s (given_call t.now (id_of t.ids (what_of c.in-Some.call) c.args.peer)) (owes.0 ∷ []) c.called.new.self
+    subst (λ (m : Option Move). IsInStep start (record c.send.new.self { raft = c.called.new.self }) (calls_owed s m step_state)) (sym due)
+    (subst (λ (x : StepState). IsInStep start (record c.send.new.self { raft = c.called.new.self }) x) (sym by.1)
+    (then_ (λ (x : StepState). IsInStep start (record c.send.new.self { raft = c.called.new.self }) x) _ _ _ (room ∙ c.if-send.true)
+    (noted_moves start c.send.new.self sent is_sent s (given_call t.now (id_of t.ids (what_of c.in-Some.call) c.args.peer)) (owes.0 ∷ []) c.called.new.self
     (call_is_quiet (members_of t) t.me s (given_call t.now (id_of t.ids (what_of c.in-Some.call) c.args.peer)) t.raft_server c.args.peer c.in-Some.call owes.0 says)
     (subst (λ (n : ℕ). raft.StandsFor c.called.new.self (members_of t) (durable_state c.send.new.self.durable) (server_after_all (members_of t) t.me s t.raft_server (owes.0 ∷ [])) (times_after_all (members_of t) t.me s (given_call t.now n) t.raft_server (owes.0 ∷ []) t.times)) id
     (subst (λ (now : ℕ). raft.StandsFor c.called.new.self (members_of t) (durable_state c.send.new.self.durable) (server_after_all (members_of t) t.me s t.raft_server (owes.0 ∷ [])) (times_after_all (members_of t) t.me s (given_call now c.next_id-id.result) t.raft_server (owes.0 ∷ []) t.times)) is_sent.stands.now
@@ -53,20 +53,20 @@ returns-then-send-clause-step_state g c start step_state h =
 pub returns-else-send-clause-step_state : goal.returns-else-send-clause-step_state
 returns-else-send-clause-step_state g c start step_state h =
     let t = step_state.allocator in
-    let s = c.args.offered.now.step in
+    let s = c.args.self.now.offered.step in
     let owes = c.in-Some.ensures.some (members_of t) s t.raft_server t.times h.stands.raft in
-    let says = subst (λ (me : ℕ). Says me s t.raft_server c.args.peer c.in-Some.call owes.0) (c.requires.ready.raft_me ∙ h.stands.me) owes.2 in
+    let says = subst (λ (me : ℕ). Says me s t.raft_server c.args.peer c.in-Some.call owes.0) (c.requires.ready.ready.raft_me ∙ h.stands.me) owes.2 in
     let by = calls_as s c.args.peer step_state c.in-Some.call owes.0 says in
     let due : owed t.raft_server t.times c.args.peer t.now ≡ Some owes.0 = ap (λ (now : ℕ). owed t.raft_server t.times c.args.peer now) (sym h.stands.now) ∙ owes.1 in
     let what : c.what_of-what.result ≡ what_of c.in-Some.call = c.what_of-what.ensures in
     let bytes : c.payload_of.result.items ≡ bytes_of c.in-Some.call = c.payload_of.ensures in
     let none = subst (λ (w : What). pair_in w c.payload_of.result.items ≡ None) (sym what) (no_pair c.in-Some.call c.payload_of.result.items) in
     let sent : StepState = with_transfer s (what_of c.in-Some.call) c.args.peer (bytes_of c.in-Some.call) (Some (Requests by.0)) step_state in
-    let is_sent = subst (λ (list : List ℕ). IsInStep start c.send.new.self c.send.new.offered (with_transfer s (what_of c.in-Some.call) c.args.peer list (Some (Requests by.0)) step_state)) bytes
-    (subst (λ (w : What). IsInStep start c.send.new.self c.send.new.offered (with_transfer s w c.args.peer c.payload_of.result.items (Some (Requests by.0)) step_state)) what
+    let is_sent = subst (λ (list : List ℕ). IsInStep start c.send.new.self (with_transfer s (what_of c.in-Some.call) c.args.peer list (Some (Requests by.0)) step_state)) bytes
+    (subst (λ (w : What). IsInStep start c.send.new.self (with_transfer s w c.args.peer c.payload_of.result.items (Some (Requests by.0)) step_state)) what
     (c.send.ensures.step_state none (Some (Requests by.0)) start step_state h)) in
     let room : has_room t.queue (bytes_of c.in-Some.call) ≡ c.send.result =
     ap (λ (list : List ℕ). has_room t.queue list) (sym bytes) ∙ ap (λ (w : Waiting). has_room w.queue c.payload_of.result.items) (sym h.stands.outbox) ∙ sym c.send.ensures.fitted in
-    subst (λ (m : Option Move). IsInStep start c.send.new.self c.send.new.offered (calls_owed s m step_state)) (sym due)
-    (subst (λ (x : StepState). IsInStep start c.send.new.self c.send.new.offered x) (sym by.1)
-    (otherwise (λ (x : StepState). IsInStep start c.send.new.self c.send.new.offered x) _ _ _ (room ∙ c.if-send.false) is_sent))
+    subst (λ (m : Option Move). IsInStep start c.send.new.self (calls_owed s m step_state)) (sym due)
+    (subst (λ (x : StepState). IsInStep start c.send.new.self x) (sym by.1)
+    (otherwise (λ (x : StepState). IsInStep start c.send.new.self x) _ _ _ (room ∙ c.if-send.false) is_sent))

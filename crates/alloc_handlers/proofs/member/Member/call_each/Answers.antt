@@ -5,7 +5,7 @@ use Rattle.alloc_handlers.proofs.member.Member.call_each.Goals as goal
 
 pub loop-peer-preserved : goal.loop-peer-preserved
 loop-peer-preserved g c =
-    let s = c.args.offered.now.step in
+    let s = c.args.self.now.offered.step in
     let peers = c.args.peers.now in
     let i = c.loop-peer.peer-index in
     let peer = get_or peers i 0 in
@@ -14,7 +14,7 @@ loop-peer-preserved g c =
       step_state = λ start begun h.
           let by = c.loop-peer.invariant.step_state start begun h in (
             calls_peer s peer by.0,
-            subst (λ (n : ℕ). IsInStep start c.call.new.self c.call.new.offered (calls_peer n peer by.0)) c.loop-peer.invariant.leaves.lists.step (c.call.ensures.step_state start by.0 by.1),
+            subst (λ (n : ℕ). IsInStep start c.call.new.self (calls_peer n peer by.0)) c.loop-peer.invariant.leaves.lists.step (c.call.ensures.step_state start by.0 by.1),
             next_peer s peers i by.0 begun below by.2,
           );
       leaves = record {
@@ -32,8 +32,8 @@ pub returns-clause-step_state : goal.returns-clause-step_state
 returns-clause-step_state g c start begun h =
     let by = c.loop-peer.invariant.step_state start begun h in
     let over : length c.args.peers.now ≤ c.loop-peer.peer-index = omega arith in
-    subst (λ (x : StepState). IsInStep start c.loop-peer.self c.loop-peer.offered x)
-    (sym (ap (λ (list : List ℕ). calls_all c.args.offered.now.step list by.0) (drop_of_length-le c.args.peers.now over)) ∙ by.2) by.1
+    subst (λ (x : StepState). IsInStep start c.loop-peer.self x)
+    (sym (ap (λ (list : List ℕ). calls_all c.args.self.now.offered.step list by.0) (drop_of_length-le c.args.peers.now over)) ∙ by.2) by.1
 
 pub returns-clause-leaves : goal.returns-clause-leaves
 returns-clause-leaves g c =

@@ -5,7 +5,7 @@ use Rattle.alloc_handlers.proofs.Taking.{goes_failed}
 use Rattle.alloc_handlers.proofs.member.Member.end_vote_call.Goals as goal
 
 pub returns-in_err-on_vote_answer-clause-goes : goal.returns-in_err-on_vote_answer-clause-goes
-returns-in_err-on_vote_answer-clause-goes g c offered step start step_state h =
+returns-in_err-on_vote_answer-clause-goes g c step start step_state h =
     let t = step_state.allocator in
     let d = delivery_of c.args.transfer.now in
     let did = c.in_err-on_vote_answer.ensures in
@@ -14,7 +14,7 @@ returns-in_err-on_vote_answer-clause-goes g c offered step start step_state h =
     (λ awaited request pending. (did.moves (members_of t) step t.raft_server t.times h.stands.raft awaited d.mark.step request pending).0))
 
 pub returns-clause-goes : goal.returns-clause-goes
-returns-clause-goes g c offered step start step_state h =
+returns-clause-goes g c step start step_state h =
     let t = step_state.allocator in
     let d = delivery_of c.args.transfer.now in
     let did = c.in_ok-on_vote_answer.ensures in

@@ -11,9 +11,9 @@ returns-clause-answer g c t h =
     ∙ ap (λ (may : Bool). answer t.accepted c.args.message.now t.now may) (c.may_follow-may_follow.ensures t h)
 
 pub returns-clause-step_state : goal.returns-clause-step_state
-returns-clause-step_state g c offered start step_state h =
+returns-clause-step_state g c start step_state h =
     let t = step_state.allocator in
-    noted_request start c.args.self.now offered step_state h c.heard.new.self (after t.accepted c.args.message.now t.now (may_follow t))
+    noted_request start c.args.self.now step_state h c.heard.new.self (after t.accepted c.args.message.now t.now (may_follow t))
     (subst (λ (may : Bool). exchange.StandsFor c.heard.new.self (after t.accepted c.args.message.now t.now may)) (c.may_follow-may_follow.ensures t h.stands)
     (subst (λ (now : ℕ). exchange.StandsFor c.heard.new.self (after t.accepted c.args.message.now now c.may_follow-may_follow.result)) h.stands.now
     (c.heard.ensures.after t.accepted h.stands.exchange)))

@@ -8,7 +8,7 @@ use Rattle.alloc_handlers.proofs.Sights.{read_as}
 use Rattle.alloc_handlers.proofs.member.Member.hear_discovery.Goals as goal
 
 pub returns-clause-sees : goal.returns-clause-sees
-returns-clause-sees g c offered start step_state h =
+returns-clause-sees g c start step_state h =
     let t = step_state.allocator in
     let value = c.in-Some.ensures.value ∙ ap (λ (bytes : List ℕ). discovery_of bytes) c.deref.ensures.0 in
     let d = delivery_of c.args.transfer.now in
@@ -16,8 +16,8 @@ returns-clause-sees g c offered start step_state h =
     let stays = λ (leads : raft_role c.args.self.now.raft ≢ Follower).
     c.a_complete_list_stays.ensures.members (start_of t) t.heard d.ident.source c.in-Some.message
     (same_number (length (members_of t)) t.size (ap (λ (list : List ℕ). length list) (sym (h.stands.raft.known leads)) ∙ c.args.self.now.raft.complete leads ∙ c.requires.raft_size ∙ h.stands.size)) in
-    read_as (λ (step_result : StepResult). IsInStep start (record c.args.self.now { cluster = c.heard.new.self }) offered step_result.step_state × (Took ≡ step_result.seen)) (hears_discovery d) _ c.in-Some.message step_state value (
-      noted_cluster start c.args.self.now offered step_state h c.heard.new.self events (c.heard.ensures.follows (start_of t) t.heard h.stands.cluster)
+    read_as (λ (step_result : StepResult). IsInStep start (record c.args.self.now { cluster = c.heard.new.self }) step_result.step_state × (Took ≡ step_result.seen)) (hears_discovery d) _ c.in-Some.message step_state value (
+      noted_cluster start c.args.self.now step_state h c.heard.new.self events (c.heard.ensures.follows (start_of t) t.heard h.stands.cluster)
           (counts_same c.args.self.now.raft (members_of t) (members (start_of t) events) _ t.raft_server t.times h.stands.raft stays),
       refl,
     )

@@ -3,12 +3,12 @@ use Rattle.alloc_handlers.proofs.Taking.{goes_failed}
 use Rattle.alloc_handlers.proofs.member.Member.reserve.Goals as goal
 
 pub returns-in_err-reserve-clause-goes : goal.returns-in_err-reserve-clause-goes
-returns-in_err-reserve-clause-goes g c offered step start step_state h =
+returns-in_err-reserve-clause-goes g c step start step_state h =
     goes_failed _ c.from_residual.ensures.0 c.from_residual.ensures.1
     (appended c.requires.ready h c.puts_go_on.ensures step c.reserve.ensures.same tt c.in_err-reserve.ensures.appends)
 
 pub returns-clause-goes : goal.returns-clause-goes
-returns-clause-goes g c offered step start step_state h =
+returns-clause-goes g c step start step_state h =
     let did = c.in_ok-reserve.ensures in
     appended c.requires.ready h c.puts_go_on.ensures step did.same
     (is_tried _ (λ is. did.not_leader.0 is c.requires.leads) (λ is. no_room _ c.requires.log_room ((did.full.0 is).1)) (λ is. c.requires.free_node ((did.taken.0 is).2)))

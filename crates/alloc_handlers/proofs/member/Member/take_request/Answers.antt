@@ -8,22 +8,22 @@ pub returns-then-transfer-clause-sees : goal.returns-then-transfer-clause-sees
 returns-then-transfer-clause-sees g c start step_state h =
     let d = delivery_of c.args.transfer.now in
     let told = c.tell_info.ensures.sees start step_state h in
-    then_ (λ (step_result : StepResult). SeesTo start c.tell_info.new.self c.tell_info.new.offered step_result (Ok c.tell_info.result)) _ _ _
+    then_ (λ (step_result : StepResult). SeesTo start c.tell_info.new.self step_result (Ok c.tell_info.result)) _ _ _
     (same_number c.args.transfer.now.ident.number 1 c.if-transfer.true)
     (sees told.1 told.0)
 
 pub returns-then-transfer-2-clause-sees : goal.returns-then-transfer-2-clause-sees
 returns-then-transfer-2-clause-sees g c start step_state h =
-    otherwise (λ (step_result : StepResult). SeesTo start c.take_append_request.new.self c.take_append_request.new.offered step_result c.take_append_request.result) _ _ _
+    otherwise (λ (step_result : StepResult). SeesTo start c.take_append_request.new.self step_result c.take_append_request.result) _ _ _
     (other_number c.args.transfer.now.ident.number 1 c.if-transfer.false)
-    (then_ (λ (step_result : StepResult). SeesTo start c.take_append_request.new.self c.take_append_request.new.offered step_result c.take_append_request.result) _ _ _
+    (then_ (λ (step_result : StepResult). SeesTo start c.take_append_request.new.self step_result c.take_append_request.result) _ _ _
     (same_number c.args.transfer.now.ident.number 30 c.if-transfer-2.true)
     (c.take_append_request.ensures.sees start step_state h))
 
 pub returns-else-transfer-2-clause-sees : goal.returns-else-transfer-2-clause-sees
 returns-else-transfer-2-clause-sees g c start step_state h =
-    otherwise (λ (step_result : StepResult). SeesTo start c.take_vote_request.new.self c.take_vote_request.new.offered step_result c.take_vote_request.result) _ _ _
+    otherwise (λ (step_result : StepResult). SeesTo start c.take_vote_request.new.self step_result c.take_vote_request.result) _ _ _
     (other_number c.args.transfer.now.ident.number 1 c.if-transfer.false)
-    (otherwise (λ (step_result : StepResult). SeesTo start c.take_vote_request.new.self c.take_vote_request.new.offered step_result c.take_vote_request.result) _ _ _
+    (otherwise (λ (step_result : StepResult). SeesTo start c.take_vote_request.new.self step_result c.take_vote_request.result) _ _ _
     (other_number c.args.transfer.now.ident.number 30 c.if-transfer-2.false)
     (c.take_vote_request.ensures.sees start step_state h))

@@ -10,7 +10,7 @@ pub returns-then-not-due-clause-step_state : goal.returns-then-not-due-clause-st
 returns-then-not-due-clause-step_state g c start step_state h =
     let t = step_state.allocator in
     let due = c.due.ensures (start_of t) t.heard h.stands.cluster ∙ ap (λ (n : ℕ). is_due (start_of t) t.heard n) h.stands.now in
-    otherwise (λ (x : StepState). IsInStep start c.args.self.now c.args.offered.now x) _ _ _ (sym due ∙ c.if-not-due.true) h
+    otherwise (λ (x : StepState). IsInStep start c.args.self.now x) _ _ _ (sym due ∙ c.if-not-due.true) h
 
 same_bytes : (a b : ℕ) (xs ys : List ℕ) → a ≡ b → xs ≡ ys → a ∷ xs ≡ b ∷ ys
 same_bytes a b xs ys e f = cc
@@ -21,7 +21,7 @@ returns-clause-step_state g c start step_state h =
     let due = c.due.ensures (start_of t) t.heard h.stands.cluster ∙ ap (λ (n : ℕ). is_due (start_of t) t.heard n) h.stands.now in
     let sent = c.send.ensures.step_state refl None start step_state h in
     let payload = c.write-payload.ensures.bytes ∙ same_bytes _ _ _ _ (c.message.ensures.size (start_of t) t.heard h.stands.cluster) (c.message.ensures.known (start_of t) t.heard h.stands.cluster) in
-    then_ (λ (x : StepState). IsInStep start (record c.send.new.self { cluster = c.sent.new.self }) c.send.new.offered x) _ _ _ (sym due ∙ c.if-not-due.false)
-    (subst (λ (bytes : List ℕ). IsInStep start (record c.send.new.self { cluster = c.sent.new.self }) c.send.new.offered (with_discovery (with_transfer c.args.offered.now.step Disc 0 bytes None step_state))) payload
-    (noted_cluster start c.send.new.self c.send.new.offered _ sent c.sent.new.self _
+    then_ (λ (x : StepState). IsInStep start (record c.send.new.self { cluster = c.sent.new.self }) x) _ _ _ (sym due ∙ c.if-not-due.false)
+    (subst (λ (bytes : List ℕ). IsInStep start (record c.send.new.self { cluster = c.sent.new.self }) (with_discovery (with_transfer c.args.self.now.offered.step Disc 0 bytes None step_state))) payload
+    (noted_cluster start c.send.new.self _ sent c.sent.new.self _
     (subst (λ (n : ℕ). cluster.StandsFor c.sent.new.self (start_of t) (SentAt n ∷ t.heard)) sent.stands.now (c.sent.ensures.follows (start_of t) t.heard sent.stands.cluster)) sent.stands.raft))

@@ -15,6 +15,6 @@ returns-clause-step_state g c start step_state h =
     let due : 1000 ≤ t.now - t.status_at = omega (arith, c.if-self-lt-STATUS_INTERVAL.false, h.stands.now, h.stands.status_at) in
     let sent = c.send.ensures.step_state refl None start step_state h in
     let payload = c.write-payload.ensures.bytes ∙ ap (λ (s : NodeStatus). node_status_bytes s) (c.status.ensures.status t h.stands) in
-    then_ (λ (x : StepState). IsInStep start (record c.send.new.self { status_at = c.send.new.self.latest }) c.send.new.offered x) _ _ _ (passed t.now t.status_at due)
-    (subst (λ (bytes : List ℕ). IsInStep start (record c.send.new.self { status_at = c.send.new.self.latest }) c.send.new.offered (with_status (with_transfer c.args.offered.now.step Stat 0 bytes None step_state))) payload
-    (noted_status start c.send.new.self c.send.new.offered _ sent c.send.new.self.latest sent.stands.now))
+    then_ (λ (x : StepState). IsInStep start (record c.send.new.self { status_at = c.send.new.self.latest }) x) _ _ _ (passed t.now t.status_at due)
+    (subst (λ (bytes : List ℕ). IsInStep start (record c.send.new.self { status_at = c.send.new.self.latest }) (with_status (with_transfer c.args.self.now.offered.step Stat 0 bytes None step_state))) payload
+    (noted_status start c.send.new.self _ sent c.send.new.self.latest sent.stands.now))

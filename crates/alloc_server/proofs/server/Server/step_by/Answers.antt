@@ -8,7 +8,9 @@ use Rattle.transfer_rx.specs.Reassembly.{Setting}
 use Rattle.alloc_spec.specs.Accepted.{setting_for}
 use Rattle.alloc_spec.specs.Delivered.{StepResult}
 use Rattle.alloc_spec.specs.Step as steps
-use Rattle.alloc_server.specs.Server.{ComesTo, event_of}
+use Rattle.alloc_server.specs.Server.{event_of}
+use Rattle.alloc_spec.specs.declared.offered.Offered.{Offered}
+use Rattle.alloc_server.proofs.Unlisted.{ready_unlisted, stands_unlisted}
 use Rattle.alloc_server.proofs.server.Server.step_by.Goals as goal
 
 pub returns-in-Some-clause-steps : goal.returns-in-Some-clause-steps
@@ -17,15 +19,14 @@ returns-in-Some-clause-steps g c t h = let sound = h.sound in cc
 pub returns-in-Ok-clause-steps : goal.returns-in-Ok-clause-steps
 returns-in-Ok-clause-steps g c t h =
     let step_result : StepResult = steps.step t c.args.step (event_of c.args.event) in
-    let comes = subst (λ (n : ℕ). ComesTo c.args.self.now.member.durable t c.take.new.member c.take.new.receiver c.take.new.offered (steps.step t n (event_of c.args.event)) c.take.result) c.new-offered.ensures.step
-    (c.take.ensures.comes t h.member h.sessions h.setting) in
+    let comes = c.take.ensures.comes t h.member h.sessions h.setting in
     let none : result_err c.take.result ≡ None = ap result_err c.in-Ok.is in
     let step_state = comes.sees.goes.step_state none in
     let puts = subst (λ (f : Option Fault). CallWrites step_result.step_state.puts c.args.self.now.member.durable c.take.new.member.durable f) none comes.sees.goes.puts in
     let faults = puts.faults.works h.works in
     record {
       stands = record {
-        member = step_state.stands;
+        member = stands_unlisted step_state.stands;
         sessions = comes.sessions;
         setting = c.take.ensures.setting ∙ h.setting ∙ ap setting_for (sym comes.me);
         sound = h.sound;
@@ -33,8 +34,8 @@ returns-in-Ok-clause-steps g c t h =
       };
       tells = record {
         seen = subst (λ (r : Result Seen Fault). IfOk r (λ seen. seen ≡ step_result.seen)) c.in-Ok.is comes.sees.seen;
-        sent = step_state.sent;
-        given = step_state.given;
+        sent = ap (λ (o : Offered). o.sent.items) c.replace-offered.ensures.value ∙ step_state.sent;
+        given = ap (λ (o : Offered). o.answers.items) c.replace-offered.ensures.value ∙ step_state.given;
       };
       leaves = λ tells image left. puts.made.stop h.works tells image left;
       made = puts.made.made h.works;
@@ -45,8 +46,7 @@ returns-in-Ok-clause-steps g c t h =
 pub returns-in-Err-clause-steps : goal.returns-in-Err-clause-steps
 returns-in-Err-clause-steps g c t h =
     let step_result : StepResult = steps.step t c.args.step (event_of c.args.event) in
-    let comes = subst (λ (n : ℕ). ComesTo c.args.self.now.member.durable t c.take.new.member c.take.new.receiver c.take.new.offered (steps.step t n (event_of c.args.event)) c.take.result) c.new-offered.ensures.step
-    (c.take.ensures.comes t h.member h.sessions h.setting) in
+    let comes = c.take.ensures.comes t h.member h.sessions h.setting in
     let failed : result_err c.take.result ≡ Some c.in-Err.fault = ap result_err c.in-Err.is in
     let puts = subst (λ (f : Option Fault). CallWrites step_result.step_state.puts c.args.self.now.member.durable c.take.new.member.durable f) failed comes.sees.goes.puts in
     let faults = puts.faults.works h.works in
@@ -64,7 +64,7 @@ invariant_of-self g c =
     let tells = c.in-Ok.ensures.faults.works (c.args.self.now.kept ∙ c.in_default.is) in
     record {
       rows = ap (λ (setting : Setting). setting.rows) c.take.ensures.setting ∙ c.args.self.now.rows;
-      ready = λ none. c.in-Ok.ensures.ready;
+      ready = λ none. ready_unlisted c.in-Ok.ensures.ready;
       kept = tells.kept ∙ sym c.in_default.is;
       silent = λ why is. absurd (c.in_default.not-Some why is);
     }

@@ -39,14 +39,8 @@ returns-clause-lawful g c = λ w stands.
     None (sym (ap (λ (j : Judged). cause_of_judgement j) c.in-Fine.is) ∙ c.judge.ensures (w.member c.args.n) here) in
     (lawful, row)
 
-pub judge-requires-clause-callable : goal.judge-requires-clause-callable
-judge-requires-clause-callable g c =
+pub judge-requires : goal.judge-requires
+judge-requires g c =
     let xs = c.args.self.now.members.items in let accept = c.args.self.now.accept in let m = c.index.result.now in
     let same = sym (alike_there xs c.args.n c.in-Ok.place m accept c.args.self.now.alike c.in-Ok.ensures.place c.index.ensures) in
-    rw same at c.requires.callable
-
-pub judge-requires-clause-answers : goal.judge-requires-clause-answers
-judge-requires-clause-answers g c =
-    let xs = c.args.self.now.members.items in let accept = c.args.self.now.accept in let m = c.index.result.now in
-    let same = sym (alike_there xs c.args.n c.in-Ok.place m accept c.args.self.now.alike c.in-Ok.ensures.place c.index.ensures) in
-    rw same at c.requires.answers
+    record { receives = rw same at c.requires.receives }

@@ -6,8 +6,8 @@ use Rattle.cluster_spec.specs.Cluster.{is_member, with_member}
 use Rattle.cluster_spec.specs.Members.{with_stop_armed, is_running, stopped_with}
 use Rattle.bus_world.specs.Members.{Holds}
 use Rattle.bus_world.specs.Stands.{StandsFor}
-use Rattle.cluster_spec.specs.ReportLine.{report_line_of}
-use Rattle.cluster_spec.specs.ReportLine.ReportLine.{HasStopped, IsArmed}
+use Rattle.replay_text.specs.ReportLine.{report_line_of}
+use Rattle.replay_text.specs.ReportLine.ReportLine.{HasStopped, WasArmed}
 use Rattle.bus_world.specs.declared.member.Member.{Member}
 use Rattle.bus_world.proofs.Finding.{alike_there, set_alike, is_not_zero, is_zero, its_id, runs_from, set_holds, stands_there}
 use Rattle.bus_world.proofs.members.Members.crash.Goals as goal
@@ -18,7 +18,7 @@ returns-in-Ok-clause-told g c = λ w stands.
     let here = subst (λ (m : Member g.row.F.Denot). StandsFor m (w.member n)) (sym c.index_mut.ensures.value)
     (stands_there xs bus w stands.holds n c.in-Ok.place c.in-Ok.ensures.place m) in
     let id = ap (λ (m : Member g.row.F.Denot). m.id) c.index_mut.ensures.value ∙ its_id xs bus w stands.holds n c.in-Ok.place c.in-Ok.ensures.place m in
-    subst (λ (b : Bool). (or_else (no_node w n) (if b then not_running w n else None) ≡ None) × (report_line_of c.stop.result ≡ (if b then HasStopped n else IsArmed n))) (sym (is_zero c.args.calls c.if-calls-eq0.true))
+    subst (λ (b : Bool). (or_else (no_node w n) (if b then not_running w n else None) ≡ None) × (report_line_of c.stop.result ≡ (if b then HasStopped n else WasArmed n))) (sym (is_zero c.args.calls c.if-calls-eq0.true))
     (c.in-Ok.ensures.lawful w stands, c.stop.ensures.told ∙ ap (λ (k : ℕ). HasStopped k) id)
 
 pub returns-in-Ok-clause-leaves : goal.returns-in-Ok-clause-leaves
@@ -37,8 +37,8 @@ returns-in-Ok-member-clause-told g c = λ w stands.
     let here = subst (λ (m : Member g.row.F.Denot). StandsFor m (w.member n)) (sym c.index_mut-in-Ok-member.ensures.value)
     (stands_there xs bus w stands.holds n c.in-Ok-member.place c.in-Ok-member.ensures.place m) in
     let id = ap (λ (m : Member g.row.F.Denot). m.id) c.index_mut-in-Ok-member.ensures.value ∙ its_id xs bus w stands.holds n c.in-Ok-member.place c.in-Ok-member.ensures.place m in
-    subst (λ (b : Bool). (or_else (no_node w n) (if b then not_running w n else None) ≡ None) × (report_line_of c.stop_at.result ≡ (if b then HasStopped n else IsArmed n))) (sym (is_not_zero c.args.calls c.if-calls-eq0.false))
-    (ap (λ (first : Option Unlawful). or_else first None) (c.in-Ok-member.ensures.lawful w stands), c.stop_at.ensures.told ∙ ap (λ (k : ℕ). IsArmed k) id)
+    subst (λ (b : Bool). (or_else (no_node w n) (if b then not_running w n else None) ≡ None) × (report_line_of c.stop_at.result ≡ (if b then HasStopped n else WasArmed n))) (sym (is_not_zero c.args.calls c.if-calls-eq0.false))
+    (ap (λ (first : Option Unlawful). or_else first None) (c.in-Ok-member.ensures.lawful w stands), c.stop_at.ensures.told ∙ ap (λ (k : ℕ). WasArmed k) id)
 
 pub returns-in-Ok-member-clause-leaves : goal.returns-in-Ok-member-clause-leaves
 returns-in-Ok-member-clause-leaves g c = λ w stands.

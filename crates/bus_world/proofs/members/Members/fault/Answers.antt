@@ -2,7 +2,7 @@ use Rattle.std.proofs.Common.{ℕ, ◌∙◌, ap, sym, subst}
 use Rattle.bus_world.specs.Stands.{StandsFor}
 use Rattle.bus_world.specs.declared.member.Member.{Member}
 use Rattle.cluster_spec.specs.Members.{with_failure_armed}
-use Rattle.cluster_spec.specs.ReportLine.ReportLine.{IsArmed}
+use Rattle.replay_text.specs.ReportLine.ReportLine.{WasArmed}
 use Rattle.bus_world.proofs.Finding.{set_few, set_some, alike_there, set_alike, its_id, set_holds, stands_there}
 use Rattle.bus_world.proofs.members.Members.fault.Goals as goal
 
@@ -12,7 +12,7 @@ returns-in-Ok-clause-told g c = λ w stands.
     let here = subst (λ (m : Member g.row.F.Denot). StandsFor m (w.member n)) (sym c.index_mut.ensures.value)
     (stands_there xs bus w stands.holds n c.in-Ok.place c.in-Ok.ensures.place m) in
     let id = ap (λ (m : Member g.row.F.Denot). m.id) c.index_mut.ensures.value ∙ its_id xs bus w stands.holds n c.in-Ok.place c.in-Ok.ensures.place m in
-    (c.in-Ok.ensures.lawful w stands, c.fail_at.ensures.told ∙ ap (λ (k : ℕ). IsArmed k) id)
+    (c.in-Ok.ensures.lawful w stands, c.fail_at.ensures.told ∙ ap (λ (k : ℕ). WasArmed k) id)
 
 pub returns-in-Ok-clause-leaves : goal.returns-in-Ok-clause-leaves
 returns-in-Ok-clause-leaves g c = λ w stands.

@@ -4,7 +4,7 @@ use Rattle.cluster_spec.specs.Cluster.{arrival_at, frame_at, is_member}
 use Rattle.cluster_spec.specs.Members.{is_running, member_after_step}
 use Rattle.cluster_spec.specs.Report.{line_of_step}
 use Rattle.bus_world.specs.Stands.{StandsFor}
-use Rattle.cluster_spec.specs.ReportLine.{report_line_of}
+use Rattle.replay_text.specs.ReportLine.{report_line_of}
 use Rattle.bus_world.specs.declared.member.Member.{Member}
 use Rattle.bus_world.proofs.Finding.{alike_there, set_alike, set_few, set_some, its_id, runs_from, set_holds, stands_there}
 use Rattle.bus_world.proofs.members.Members.receive.Goals as goal
@@ -35,17 +35,11 @@ returns-in-Ok-clause-leaves g c = λ w stands.
     (subst (λ (r : ℕ). StandsFor c.step.new.self (member_after_step (r + 1) event (w.member n).status (w.member n))) stands.rows
     (subst (λ (e : Event). StandsFor c.step.new.self (member_after_step (c.args.self.now.taken + 1) e (w.member n).status (w.member n))) (c.in-Ok.ensures.event w stands) (c.step.ensures.stands (w.member n) here (runs_from (is_member w.ids n) (is_running (w.member n).status) (c.in-Ok.ensures.lawful w stands).0))))
 
-pub step-requires-clause-callable : goal.step-requires-clause-callable
-step-requires-clause-callable g c =
+pub step-requires : goal.step-requires
+step-requires g c =
     let xs = c.args.self.now.members.items in let accept = c.args.self.now.accept in let m = c.index_mut.result.now in
     let same = sym (alike_there xs c.args.n c.in-Ok.place m accept c.args.self.now.alike c.in-Ok.ensures.place c.index_mut.ensures.value) in
-    rw same at c.requires.callable
-
-pub step-requires-clause-answers : goal.step-requires-clause-answers
-step-requires-clause-answers g c =
-    let xs = c.args.self.now.members.items in let accept = c.args.self.now.accept in let m = c.index_mut.result.now in
-    let same = sym (alike_there xs c.args.n c.in-Ok.place m accept c.args.self.now.alike c.in-Ok.ensures.place c.index_mut.ensures.value) in
-    rw same at c.requires.answers
+    record { receives = rw same at c.requires.receives }
 
 pub invariant_of-self-clause-alike : goal.invariant_of-self-clause-alike
 invariant_of-self-clause-alike g c =

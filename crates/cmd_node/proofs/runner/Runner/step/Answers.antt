@@ -4,7 +4,7 @@ use Rattle.raft_core.specs.StoredPuts.{stored_puts}
 use Rattle.raft_log.specs.Stored.{after_puts}
 use Rattle.alloc_spec.specs.Step.{step as step_of}
 use Rattle.alloc_spec.specs.AllocatorState.{view_of}
-use Rattle.cluster_spec.specs.ReportLine.{text_of_line}
+use Rattle.replay_text.specs.ReportLine.{text_of_line}
 use Rattle.alloc_server.specs.Server.{HasPut, LeavesSome, StepsTo, event_of}
 use Rattle.cmd_node.specs.Steps.{Keeps}
 use Rattle.cmd_node.proofs.Turning.{told_same}
@@ -18,7 +18,7 @@ returns-in-Ok-clause-stepped g c = λ t coming sent is.
     let step_result = step_of t.running.allocator number (event_of c.args.event) in
     let does = subst (λ n. StepsTo c.args.self.now.server c.step.new.self (step_of t.running.allocator n (event_of c.args.event)) (Ok c.in-Ok.outcome)) at
     (c.in-Ok.ensures.steps t.running.allocator is.running.server) in
-    let line = c.stepped.ensures number ∙ ap (text_of_line number) (told_same c.args.self.now.id t.running.id c.view.result (view_of step_result.step_state.allocator) c.in-Ok.outcome.seen
+    let line = ap (text_of_line number) (c.told_of_step.ensures ∙ told_same c.args.self.now.id t.running.id c.view.result (view_of step_result.step_state.allocator) c.in-Ok.outcome.seen
     c.in-Ok.outcome.sent.items step_result is.running.id (c.view.ensures.stands step_result.step_state.allocator does.stands) does.tells.seen does.tells.sent) in
     record {
       running = record {

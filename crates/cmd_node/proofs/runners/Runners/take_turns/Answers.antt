@@ -43,21 +43,13 @@ turns-init g c = record {
   turned = λ all is. is;
 }
 
-pub take_turn-requires-clause-callable : goal.take_turn-requires-clause-callable
-take_turn-requires-clause-callable g c = λ i runner within.
+pub take_turn-requires-clause-receives : goal.take_turn-requires-clause-receives
+take_turn-requires-clause-receives g c = λ i runner within.
     let value = c.as_mut_slice.ensures.value in
     let size = ap length value in
     let inside : i < length (runners_of c.turns.self) = omega (arith, size, within) in
     let same = sym (ap (λ l. closure_of (slice_index_or l i runner)) value ∙ c.turns.self.alike i runner inside ∙ c.turns.invariant.accepts) in
-    rw same at c.requires.callable
-
-pub take_turn-requires-clause-answers : goal.take_turn-requires-clause-answers
-take_turn-requires-clause-answers g c = λ i runner within.
-    let value = c.as_mut_slice.ensures.value in
-    let size = ap length value in
-    let inside : i < length (runners_of c.turns.self) = omega (arith, size, within) in
-    let same = sym (ap (λ l. closure_of (slice_index_or l i runner)) value ∙ c.turns.self.alike i runner inside ∙ c.turns.invariant.accepts) in
-    rw same at c.requires.answers
+    rw same at c.requires.receives
 
 pub take_turn-requires-clause-working : goal.take_turn-requires-clause-working
 take_turn-requires-clause-working g c = subst (λ l. AreWorking l) (sym c.as_mut_slice.ensures.value) c.turns.invariant.working

@@ -20,8 +20,8 @@ returns-then-ne-clause-appends g c =
     not_tried c.args.self.now c.args.uid.now c.args.node c.args.origin c.args.d.now (Ok NotLeader) (λ t. t) refl (c.puts_in_turn.ensures.nothing c.args.d.now)
     (λ p store role may. follows (leads c.args.self.now.role (sym role ∙ may.leads)))
 
-pub returns-then-last-ge127-clause-appends : goal.returns-then-last-ge127-clause-appends
-returns-then-last-ge127-clause-appends g c =
+pub returns-then-last-ge-LOG_LIMIT-clause-appends : goal.returns-then-last-ge-LOG_LIMIT-clause-appends
+returns-then-last-ge-LOG_LIMIT-clause-appends g c =
     let full : 127 ≤ length (durable_state c.args.d.now).log = omega arith in
     not_tried c.args.self.now c.args.uid.now c.args.node c.args.origin c.args.d.now (Ok LogFull) (λ t. t) refl (c.puts_in_turn.ensures.nothing c.args.d.now)
     (λ p store role may. let room = subst (λ (z : Store). length z.log < 127) store may.room in omega (arith, full, room))

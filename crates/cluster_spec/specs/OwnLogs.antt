@@ -1,5 +1,5 @@
--- What a vehicle maker relies on of each allocator: its log gives no ID twice, and whatever pair it offers to the bus
--- is one of its own committed log by then.
+-- What each allocator keeps with its own log: the log gives no ID twice, and whatever pair the allocator offers to the
+-- bus is one of its own committed log by then. A vehicle maker relies on this.
 use Rattle.std.specs.Prelude.{ℕ, ◌+◌, List, [], ◌∷◌, if◌then◌else◌, IfSome}
 use Rattle.std.specs.Option.{option_map_or}
 use Rattle.can_frame.specs.declared.entry.Entry.{Entry}
@@ -13,7 +13,7 @@ use Rattle.replay_text.specs.declared.row.Row.{Row}
 use Rattle.alloc_spec.specs.Delivered.{StepResult}
 use Rattle.alloc_spec.specs.StepState.{pairs}
 use Rattle.alloc_spec.specs.Step.{Event, step}
-use Rattle.alloc_spec.specs.Transfers.{Given}
+use Rattle.alloc_spec.specs.Transfers.{GivenPair}
 use Rattle.cluster_spec.specs.Cluster.{Cluster, after_row, step_of}
 use Rattle.cluster_spec.specs.Members.{MemberStatus, Member, puts_of, server_of}
 use Rattle.cluster_spec.specs.Members.MemberStatus.{Down, Up, Failed}
@@ -21,11 +21,11 @@ use Rattle.cluster_spec.specs.Members.MemberStatus.{Down, Up, Failed}
 -- ---- the pairs that a row offers: those of the Allocations that a finished step puts into its queue, read from
 -- their payload
 
-abbrev pub pairs_of_result : Member → StepResult → List Given
+abbrev pub pairs_of_result : Member → StepResult → List GivenPair
 pairs_of_result x step_result =
     if are_put (puts_of x step_result.step_state) x.disk.calls then pairs step_result.step_state else []
 
-abbrev pub pairs_of_step : ℕ → Event → MemberStatus → Member → List Given
+abbrev pub pairs_of_step : ℕ → Event → MemberStatus → Member → List GivenPair
 pairs_of_step row event Down x = []
 pairs_of_step row event (Up server) x = pairs_of_result x (step server row event)
 pairs_of_step row event (Failed failure) x = []
@@ -34,8 +34,8 @@ pairs_of_step row event (Failed failure) x = []
 abbrev pub committed_by : MemberStatus → List Entry
 committed_by status = option_map_or (λ server. committed server.raft_server.store) (server_of status) []
 
-abbrev pub AreOwn : List Given → MemberStatus → Type 0
-AreOwn givens status = (given : Given) → In given givens → HasPair (committed_by status) given.0 given.1
+abbrev pub AreOwn : List GivenPair → MemberStatus → Type 0
+AreOwn givens status = (given : GivenPair) → In given givens → HasPair (committed_by status) given.0 given.1
 
 -- whatever pair a lawful row offers, it is committed when the row is done
 abbrev pub OffersItsOwn : Cluster → Row → Type 0

@@ -10,11 +10,11 @@ use Rattle.can_logs.specs.declared.candump.LogLine.{LogLine}
 use Rattle.can_logs.specs.declared.candump.LogLine.TheVariants as log_line
 use Rattle.can_logs.specs.declared.slcan.SlLine.{SlLine}
 use Rattle.can_logs.specs.declared.slcan.SlLine.TheVariants as slcan_line
-use Rattle.cmd_bus_logs.specs.declared.form.Form.{Form}
-use Rattle.cmd_bus_logs.specs.declared.form.Form.TheVariants.{Candump, Slcan}
-use Rattle.cmd_bus_logs.specs.declared.form.Line.{Line}
-use Rattle.cmd_bus_logs.specs.Lines.{IsLineWritable, Says, of_candump, of_slcan}
-use Rattle.cmd_bus_logs.proofs.laws.said_lines_are_writable.Goals as goal
+use Rattle.can_logs.specs.declared.form.Form.{Form}
+use Rattle.can_logs.specs.declared.form.Form.TheVariants.{Candump, Slcan}
+use Rattle.can_logs.specs.declared.form.Line.{Line}
+use Rattle.can_logs.specs.Forms.{IsLineWritable, Says, of_candump, of_slcan}
+use Rattle.can_logs.proofs.laws.said_lines_are_writable.Goals as goal
 
 abbrev Law : Type 0
 Law = (sec micros : ℕ) (iface : ArrayVec ℕ) (frame : FrameValue) (line : List ℕ)

@@ -1,18 +1,19 @@
-ghost use Rattle.std.specs.Prelude.{◌≡◌, ◌≤◌, ◌==◌, IfSome, Some, codes, length};
+ghost use Rattle.std.specs.Prelude.{◌≡◌, ◌≤◌, ◌==◌, IfSome, IsNone, Some, codes, length};
 ghost use Rattle.std.specs.List.{prefix_len};
 ghost use Rattle.can_logs.specs.Candump as candump;
 ghost use Rattle.can_logs.specs.declared.candump.LogLine.{LogLine as LogLineValue};
-ghost use Rattle.cmd_bus_logs.specs.declared.form.Line.{Line as LineValue};
-ghost use Rattle.cmd_bus_logs.specs.Converted.{frame_line};
-ghost use Rattle.cmd_bus_logs.specs.Lines.{Says, bells, end_of, form_of, of_candump, of_slcan};
+ghost use Rattle.can_logs.specs.declared.form.Form.{Form as FormValue};
+ghost use Rattle.can_logs.specs.declared.form.Line.{Line as LineValue};
+ghost use Rattle.can_logs.specs.Forms.{Says, bells, end_of, form_word, frame_line, of_candump, of_slcan};
 
+use crate::candump::{LogLine, read_candump, write_candump};
+use crate::slcan::{SlLine, read_slcan, write_slcan};
 use arrayvec::ArrayVec;
 use can_frame::Frame;
-use can_logs::{LogLine, SlLine, read_candump, read_slcan, write_candump, write_slcan};
 
 /// How the lines of a log are written.
 #[derive(Clone, Copy, Debug, PartialEq, Eq)]
-pub(crate) enum Form {
+pub enum Form {
     /// As `candump` writes them: a line ends with a line feed.
     Candump,
 
@@ -23,7 +24,7 @@ pub(crate) enum Form {
 
 /// A frame of a log, and what its line says of it.
 #[derive(Debug, Drop, PartialEq, Eq)]
-pub(crate) struct Logged {
+pub struct Logged {
     /// The moment: seconds of up to ten digits, and millionths of a second. 0 for an adapter.
     pub sec: u64,
     pub micros: u32,
@@ -39,7 +40,7 @@ pub(crate) struct Logged {
 
 /// What a line is.
 #[derive(Drop)]
-pub(crate) enum Line {
+pub enum Line {
     /// That of a frame.
     Frame(Logged),
 
@@ -51,11 +52,18 @@ pub(crate) enum Line {
 const BELL: u8 = 7;
 
 impl Form {
-    /// The form that a word names.
-    pub fn of(candump: bool) -> Form
-        ensures { result ≡ form_of candump }
+    /// The form that a word names, `candump` or `slcan`; `None` where it names none.
+    pub fn of_word(word: &str) -> Option<Form>
+        ensures some { IfSome result (λ form. word.now ≡ form_word form) }
+        ensures none { IsNone result → (form : FormValue) → word.now ≡ form_word form → ⊥ }
     {
-        if candump { Form::Candump } else { Form::Slcan }
+        if word == "candump" {
+            return Some(Form::Candump);
+        }
+        if word == "slcan" {
+            return Some(Form::Slcan);
+        }
+        None
     }
 
     /// The byte that ends a line.
