@@ -47,7 +47,7 @@ use Rattle.cluster_recovery.proofs.Taking.{HasTaken, frame_is, part_taken, takes
 
 -- ---- a request may be given to it
 
-is_fine : (t : AllocatorState) (frame : Queued) (message : Allocation) (moment : ℕ) → t.now ≤ moment → Asked message moment frame
+pub is_fine : (t : AllocatorState) (frame : Queued) (message : Allocation) (moment : ℕ) → t.now ≤ moment → Asked message moment frame
     → arrival_judgement t (comes_at frame moment) ≡ Fine
 unfolding arrival_judgement
 is_fine t frame message moment now asked =

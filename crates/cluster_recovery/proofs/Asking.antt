@@ -123,7 +123,7 @@ module _ (uid : List ℕ) (preferred moment : ℕ) where
 
 -- ---- its request is on the bus
 
-first_place : (id step re : ℕ) (pieces : List Piece) (frame : Queued) → marked id step re 0 pieces ≡ frame ∷ [] → frame.mark.place ≡ 0
+pub first_place : (id step re : ℕ) (pieces : List Piece) (frame : Queued) → marked id step re 0 pieces ≡ frame ∷ [] → frame.mark.place ≡ 0
 first_place id step re [] frame e = absurd (omega (arith, ap length e))
 first_place id step re (piece ∷ pieces) frame e = sym (ap (λ (l : List Queued). (slice_index_or l 0 frame).mark.place) e)
 

@@ -22,11 +22,10 @@ use Rattle.alloc_spec_laws.proofs.Choices.{lt_tells, tell}
 use Rattle.cluster_discovery.specs.Members.{is_on_list}
 use Rattle.cluster_progress.specs.ComingBack.{HasGrown}
 use Rattle.cluster_progress.specs.Serving.{MayRecord}
-use Rattle.cluster_progress.proofs.Alone.{one_longer}
+use Rattle.cluster_progress.proofs.Alone.{lt_is, one_longer}
 use Rattle.cluster_recovery.specs.Alone.{IsLeft}
 use Rattle.cluster_progress.proofs.FollowUps.{same_number}
 use Rattle.cluster_recovery.proofs.Members.{or_true}
-use Rattle.cluster_recovery.proofs.Leads.{lt_is}
 use Rattle.cluster_recovery.proofs.Serving.{IsServing, is_alone}
 
 -- ---- what has no place in a log
@@ -42,7 +41,7 @@ past_all (entry ∷ log) uid none = rw (other)
       | inr z ↦ z
     ]
 
-not_first : (log : List Entry) (uid : List ℕ) → (HasUid log uid → ⊥) → recorded_at log uid ≡ None
+pub not_first : (log : List Entry) (uid : List ℕ) → (HasUid log uid → ⊥) → recorded_at log uid ≡ None
 not_first log uid none = rw (past_all log uid none) (elim (lt_tells (length log) (length log)) [ inl z ↦ absurd (omega (arith, z.1)) | inr z ↦ rw (z.0) refl ])
 
 -- where it stands first
@@ -84,14 +83,14 @@ same_node log uid i j injective device li lj ei ej = elim (eqb_tells i j) [
   ]
 ]
 
-not_recorded : (log : List Entry) (node : ℕ) → (HasNodeId log node → ⊥) → is_recorded log node ≡ false
+pub not_recorded : (log : List Entry) (node : ℕ) → (HasNodeId log node → ⊥) → is_recorded log node ≡ false
 not_recorded [] node none = refl
 not_recorded (entry ∷ log) node none = rw (other) (not_recorded log node (λ h. none (record { place = suc h.place; within = omega (arith, h.within); same = h.same })))
   where
     other : nat_eq entry.node node ≡ false
     other = elim (eqb_tells entry.node node) [ inl z ↦ absurd (none (record { place = 0; within = omega arith; same = z.1 })) | inr z ↦ z.0 ]
 
-recorded : (log : List Entry) (node place : ℕ) → place < length log → (slice_index_or log place (blank 0)).node ≡ node → is_recorded log node ≡ true
+pub recorded : (log : List Entry) (node place : ℕ) → place < length log → (slice_index_or log place (blank 0)).node ≡ node → is_recorded log node ≡ true
 recorded [] node place within same = absurd (omega (arith, within))
 recorded (entry ∷ log) node zero within same = let e : nat_eq entry.node node ≡ true = ap (λ (k : ℕ). nat_eq k node) same ∙ same_number node in rw (e) refl
 recorded (entry ∷ log) node (suc place) within same =
@@ -177,15 +176,15 @@ grown_length before now (inr (term, e)) = omega (arith, ap length e, one_longer 
 pub not_zeros : (uid : List ℕ) → uid ≢ zeros → is_zero uid ≡ false
 not_zeros uid device = elim (tell (is_zero uid)) [ inl z ↦ absurd (device ((bytes_eq-Decides uid zeros).0 z)) | inr z ↦ z ]
 
-left_false : (a b : Bool) → (a || b) ≡ false → a ≡ false
+pub left_false : (a b : Bool) → (a || b) ≡ false → a ≡ false
 left_false true b e = e
 left_false false b e = refl
 
-right_false : (a b : Bool) → (a || b) ≡ false → b ≡ false
+pub right_false : (a b : Bool) → (a || b) ≡ false → b ≡ false
 right_false true b e = absurd (cc (e))
 right_false false b e = e
 
-none_any : (test : ℕ → Bool) (nodes : List ℕ) → ((node : ℕ) → test node ≡ false) → list_any test nodes ≡ false
+pub none_any : (test : ℕ → Bool) (nodes : List ℕ) → ((node : ℕ) → test node ≡ false) → list_any test nodes ≡ false
 none_any test [] none = refl
 none_any test (node ∷ nodes) none = rw (none node) (none_any test nodes none)
 
@@ -202,7 +201,7 @@ pub record Chooses (ids : List Bool) (preferred : ℕ) : Type 0 where
   pub free : slice_index_or ids node true ≡ false
   pub chosen_is : chosen ids preferred ≡ Some node
 
-chooses : ((ids : List Bool) (preferred : ℕ) → IsChoice ids preferred (chosen ids preferred)) → (ids : List Bool) (preferred free : ℕ)
+pub chooses : ((ids : List Bool) (preferred : ℕ) → IsChoice ids preferred (chosen ids preferred)) → (ids : List Bool) (preferred free : ℕ)
     → 1 ≤ free → free ≤ 125 → slice_index_or ids free true ≡ false → Chooses ids preferred
 chooses law ids preferred free least most is_free_one = by (chosen ids preferred) refl (law ids preferred)
   where

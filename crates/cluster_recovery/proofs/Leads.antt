@@ -1,6 +1,6 @@
 -- An allocator that is alone leads at the first tick after its wait.
-use Rattle.std.proofs.Common.{◌≡◌, ℕ, zero, suc, ◌+◌, ◌<◌, ◌≤◌, Bool, true, false, List, [], ◌∷◌, ◌++◌, length, max, inl, inr, refl, sym, ◌∙◌, ap, subst, arith, Option, None, Some}
-use Rattle.std.specs.Prelude.{◌-◌, ◌&&◌, ◌||◌, find, is_some, nat_lt, not, if◌then◌else◌}
+use Rattle.std.proofs.Common.{◌≡◌, ℕ, ◌+◌, ◌<◌, ◌≤◌, Bool, true, false, List, [], ◌∷◌, ◌++◌, length, max, inl, inr, refl, sym, ◌∙◌, ap, subst, arith, Option, None, Some}
+use Rattle.std.specs.Prelude.{◌-◌, ◌&&◌, ◌||◌, find, is_some, not, if◌then◌else◌}
 use Rattle.can_frame.specs.declared.entry.Entry.{Entry}
 use Rattle.can_frame.specs.declared.step.What.TheVariants.{Stat}
 use Rattle.can_frame.specs.Cutting.{Piece, frame_bytes, tail_at}
@@ -11,10 +11,8 @@ use Rattle.node_discovery.specs.History.{identity, is_silent}
 use Rattle.node_discovery.specs.Watch.{Watched, devices, history, is_due, next_query}
 use Rattle.raft_core.specs.Handled.{moves_of_expire, puts_with_origins, with_blank}
 use Rattle.raft_core.specs.Times.{Times, given_at, given_tick, has_waited, overdue, stand, win}
-use Rattle.raft_model.specs.Decisions.{can_commit, commit_index, greatest_to}
 use Rattle.raft_model.specs.Duty as duty
 use Rattle.raft_model.specs.Handlers.{server_after}
-use Rattle.raft_model.specs.Log.{term_at}
 use Rattle.raft_model.specs.Moves.{Move}
 use Rattle.raft_model.specs.Moves.Elections.{is_leader, stand_memory, term_limit, win_memory}
 use Rattle.raft_model.specs.Moves.Move.{CommitTo, ProposeEntry, TimeOut}
@@ -32,7 +30,7 @@ use Rattle.alloc_spec.specs.StepState.{StepState, initial_state, with_moves}
 use Rattle.alloc_spec.specs.Tick.{asks, candidate, clock_phase, election_moves, election_phase, is_candidate, query_phase, record_phase, records_node, status_phase, tells_status}
 use Rattle.alloc_spec.specs.Transfers.{Offer, frames_of, ident_of, signature_of}
 use Rattle.cluster_progress.specs.ComingBack.{HasGrown}
-use Rattle.cluster_progress.proofs.Alone.{last_entry, one_longer}
+use Rattle.cluster_progress.proofs.Alone.{last_entry, lt_is, one_longer, to_the_end}
 use Rattle.cluster_progress.proofs.Ends.{IsKept, rest_keeps}
 use Rattle.cluster_progress.proofs.FollowUps.{commits_nothing, same_number}
 use Rattle.allocatee.proofs.Requests.{le_is, one_piece}
@@ -76,22 +74,6 @@ asks_nothing number g e =
     ap (λ (o : Option ℕ). if is_leader g.allocator.raft_server.memory.role then asks number o g else g)
     (no_query g.allocator.watch (known g.allocator) g.allocator.now e)
     ∙ same_either (is_leader g.allocator.raft_server.memory.role) g
-
-pub lt_is : (a b : ℕ) → a < b → nat_lt a b ≡ true
-lt_is a b h = elim (lt_tells a b) [ inl z ↦ z.0 | inr z ↦ absurd (omega (arith, z.1, h)) ]
-
-top : (limit : ℕ) (test : ℕ → Bool) → test limit ≡ true → greatest_to limit test ≡ Some limit
-top zero test e = rw (e) refl
-top (suc n) test e = rw (e) refl
-
-to_the_end : (me : ℕ) (server : RaftServer) → server.store.commit < length server.store.log
-    → term_at server.store.log (length server.store.log) ≡ server.store.term
-    → commit_index (me ∷ []) me server ≡ Some (length server.store.log)
-to_the_end me server below own =
-    top (length server.store.log) (can_commit (me ∷ []) me server)
-    (rw (lt_is server.store.commit (length server.store.log) below)
-    (rw (le_is (length server.store.log) (length server.store.log) (omega arith))
-    (rw (own) (rw (same_number server.store.term) (rw (same_number me) refl)))))
 
 -- ---- the tick
 
@@ -267,6 +249,7 @@ pub record IsFreshLeader (n : ℕ) (store : Store) (moment : ℕ) (t : Allocator
   pub log : t.raft_server.store.log ≡ store.log
   pub committed : t.raft_server.store.commit ≡ length store.log
   pub told : t.raft_server.memory.told ≡ length store.log
+  pub status_at : t.status_at ≡ moment
   pub status : Queued
   pub waiting : t.queue ≡ status ∷ []
 
@@ -312,6 +295,7 @@ fresh n store moment number committed low =
       log = refl;
       committed = committed;
       told = committed;
+      status_at = refl;
       status = (status_frame n store moment number).0;
       waiting = (status_frame n store moment number).1;
     })

@@ -175,7 +175,7 @@ only_run setting key [] sessions are only = only
 only_run setting key (arrival ∷ arrivals) sessions are only =
     only_run setting key arrivals (next setting sessions arrival) are.1 (keeps setting sessions arrival key are.0 only).only
 
-all_of_key : (setting : Setting) (key : Key) (arrivals : List Arrival) → AreOfKey setting key arrivals → of_key setting key arrivals ≡ arrivals
+pub all_of_key : (setting : Setting) (key : Key) (arrivals : List Arrival) → AreOfKey setting key arrivals → of_key setting key arrivals ≡ arrivals
 all_of_key setting key [] are = refl
 all_of_key setting key (arrival ∷ arrivals) are = rw (are.0) (rw (all_of_key setting key arrivals are.1) refl)
 

@@ -32,10 +32,10 @@ use Rattle.alloc_spec_laws.proofs.Choices.{lt_tells}
 use Rattle.allocatee.proofs.Requests.{le_is}
 use Rattle.cluster_progress.specs.Requests.{IsRequest, moment_at}
 use Rattle.cluster_progress.specs.Serving.{FollowsUp, IsReady, MayRecord, TellsAtOnce, allocation_from, with_queue}
-use Rattle.cluster_progress.proofs.Alone.{tells_at_once}
+use Rattle.cluster_progress.proofs.Alone.{lt_is, tells_at_once}
 use Rattle.cluster_progress.proofs.Begins.{IsAsBefore}
 use Rattle.cluster_progress.proofs.FollowUps.{begun, commits_nothing, gives, may, same_follow, step_is, when_come}
-use Rattle.cluster_recovery.proofs.Leads.{IsFreshLeader, and_false, lt_is}
+use Rattle.cluster_recovery.proofs.Leads.{IsFreshLeader, and_false}
 
 -- it leads, with this log, which is committed and told; it accepted these requests; its next Allocation has this transfer
 -- ID; and nothing waits
@@ -93,7 +93,7 @@ room_in queue node bytes none short = le_is (length queue + frame_count (suc (le
 -- ---- a follow-up
 
 -- the end of a step in which nothing is to be committed, told or called
-quiet_end : (number : ℕ) (g : StepState) → g.allocator.raft_server.store.commit ≡ length g.allocator.raft_server.store.log
+pub quiet_end : (number : ℕ) (g : StepState) → g.allocator.raft_server.store.commit ≡ length g.allocator.raft_server.store.log
     → g.allocator.raft_server.memory.told ≡ g.allocator.raft_server.store.commit → members_of g.allocator ≡ g.allocator.me ∷ []
     → end_phase number g ≡ with_moves number (given_at g.allocator.now) [] g
 quiet_end number g committed told alone =

@@ -44,7 +44,7 @@ use Rattle.cluster_recovery.proofs.Scenes.{At}
 pub frame_is : (front rest : List Queued) (frame : Queued) → frame_at (front ++ frame ∷ rest) (length front + 1) ≡ frame
 frame_is front rest frame = get_or_at front frame rest no_frame (length front + 1 - 1) (omega arith)
 
-is_there : (k count : ℕ) → 1 ≤ k → k ≤ count → ((k == 0) || nat_lt count k) ≡ false
+pub is_there : (k count : ℕ) → 1 ≤ k → k ≤ count → ((k == 0) || nat_lt count k) ≡ false
 is_there k count low high = grind arith
 
 pub there_is : (w : Cluster) (front rest : List Queued) (frame : Queued) → w.frames ≡ front ++ frame ∷ rest → no_such_frame w (length front + 1) ≡ None
@@ -73,7 +73,7 @@ module _ (n a : ℕ) (place : is_place a ≡ true) where
       refuses_not : arrival_refusal_at (w.allocatee a) (arrival_at (frame_at w.frames (length front + 1)) moment) ≡ None
       refuses_not = (λ i. arrival_refusal_at (is.there i) (arrival_at (at_it i) moment)) ∙ ap cause_of_judgement fine
 
-fine_none : (number : ℕ) (x : Answer) → GivesNone x → answer_judgement number x ≡ Fine
+pub fine_none : (number : ℕ) (x : Answer) → GivesNone x → answer_judgement number x ≡ Fine
 fine_none number (Gives d) none = absurd none
 fine_none number Continues none = refl
 fine_none number (Drops why) none = refl

@@ -1,2 +1,4 @@
 pub mod Alone
+pub mod Calm
+pub mod CalmExample
 pub mod Recovery

@@ -2,8 +2,10 @@
 
 ghost use Rattle.std.specs.Prelude.{ℕ, List, [], ◌∷◌};
 ghost use Rattle.cluster_recovery.specs.Alone.{ComesBack, ServesDevices, TellsAgain};
+ghost use Rattle.cluster_recovery.specs.Calm.{AreCalm, CalmGoesOn, ComesToRest, HasPlaceFor, IsAtRest, ServesInTime, TellsInTime, no_traffic};
+ghost use Rattle.cluster_recovery.specs.CalmExample.{calm_rows, clocks, first_rows, pace, some_uid, then_world};
 ghost use Rattle.cluster_recovery.specs.Recovery.{AreNeverStuck};
-ghost use Rattle.cluster_spec.specs.Cluster.{AreMembers, cluster};
+ghost use Rattle.cluster_spec.specs.Cluster.{AreMembers, cluster, world_of};
 ghost use Rattle.cluster_spec.specs.Lawful.{DoNoHarm};
 ghost use Rattle.replay_text.specs.declared.row.Row.{Row};
 
@@ -24,7 +26,7 @@ use transfer_tx::laws::frames_by_place;
 
 /// After every list of rows that do no harm, whatever frames were delivered, lost or repeated, whatever clocks read and
 /// wherever inside store writes allocators stopped: each pair of a unique ID and a node ID that stand in no stored log
-/// of a majority can still be committed and told by this majority, in the run of the message machine that the rows
+/// of a majority can still be committed and told by this majority, in the run of the Raft model that the rows
 /// show, where these logs have room for two entries more and a term is left.
 pub fn rows_are_never_stuck()
     ensures { (ids : List ℕ) (rows : List Row) → AreMembers ids → DoNoHarm (cluster ids) rows →
@@ -78,3 +80,58 @@ pub fn who_is_alone_serves_devices()
     rows_grow_by_one();
     the_disk_by_states();
 }
+
+/// After every list of rows that do no harm an allocator that is alone comes to rest again: it leads, with all
+/// committed and told, and nothing to send, where its log has room for a blank and two terms are left. There are eight
+/// rows at most, which take 4,000 ms at most, that do it.
+pub fn who_is_alone_comes_to_rest()
+    ensures { (n : ℕ) (rows : List Row) → AreMembers (n ∷ []) → DoNoHarm (cluster (n ∷ [])) rows →
+        ComesToRest n rows }
+{
+    a_choice_fits();
+    an_opening_keeps_the_store();
+    law_every_run();
+    rows_are_shown();
+    rows_grow_by_one();
+    the_disk_by_states();
+}
+
+/// An allocator that is alone serves each device in time, in every calm continuation of any rows that do no harm:
+/// where it leads, has all committed and told, and nothing to send, where no node is online that it does not know, and
+/// where from the device's coming on the device reads its clock, and both send and receive, at such a pace that a
+/// period and four delays take 100 ms at most. Within 2,100 ms a device whose unique ID is new holds a node ID that was
+/// left, where one is and the log has room; one whose unique ID stands in the log holds the node ID that it has there.
+/// The rows by then are lawful.
+pub fn who_is_alone_serves_in_time()
+    ensures new { (n : ℕ) (rows : List Row) → AreMembers (n ∷ []) → DoNoHarm (cluster (n ∷ [])) rows →
+        ServesInTime n rows }
+    ensures again { (n : ℕ) (rows : List Row) → AreMembers (n ∷ []) → DoNoHarm (cluster (n ∷ [])) rows →
+        TellsInTime n rows }
+{
+    a_choice_fits();
+    allocations_both_ways();
+    chosen_is_the_choice();
+    delivers_what_comes_whole();
+    frames_by_place();
+    frames_carry_what_is_cut();
+    frames_read_as_their_pieces();
+    identifiers_both_ways();
+    law_every_run();
+    lengths_of_cuttings();
+    requests_of_devices_are_requests();
+    rows_are_shown();
+    rows_grow_by_one();
+}
+
+/// The calm can go on: behind any calm rows, from whatever world, there are calm rows to any later moment, where the
+/// period is a millisecond at least.
+pub fn calm_goes_on()
+    ensures { CalmGoesOn }
+{}
+
+/// The premises can be met: an allocator that is alone came to rest, a device comes, and rows go on calmly.
+pub fn calm_can_be()
+    ensures rest { IsAtRest 1 [] 2950 (world_of (1 ∷ []) first_rows) }
+    ensures place { HasPlaceFor 1 [] some_uid }
+    ensures calm { AreCalm 1 1 clocks pace (no_traffic 2950) then_world calm_rows }
+{}
