@@ -17,6 +17,8 @@ import browsers
 import support
 from support import EXAMPLES, TESTS, Ended, run_tool
 
+from caldrouz import report
+
 PAGE = pathlib.Path()  # set by the words
 FACTS = re.compile(r'<script type="application/json" id="facts">(.*?)</script>', re.DOTALL)
 PATIENCE = 60  # seconds
@@ -67,6 +69,16 @@ class Engine(unittest.TestCase):
                 self.assertEqual(base64.b64decode(answer["output"]), (folder / "report").read_bytes())
                 self.assertEqual(answer["errors"], 0)
 
+    def ask(self, code: str) -> Any:
+        raise NotImplementedError
+
+    def test_a_file_that_begins_with_any_row_is_a_schedule(self) -> None:
+        rows = {name: f"{name}{' 1' * (length - 1)}\n" for name, (length, _) in report.ROWS.items()}
+        others = {"no row": "opened 1 0 0\n", "a log": "(1.0) can0 1E0101AA#00\n", "a text": "@ Name\n", "nothing": ""}
+        given = json.dumps({**rows, **others})
+        code = f"JSON.stringify(Object.entries({given}).filter(one => Facts.is_schedule(one[1])).map(one => one[0]))"
+        self.assertEqual(json.loads(self.ask(code)), list(rows))
+
     def test_the_picture_of_each_example_has_the_facts_of_view(self) -> None:
         for name, folder in examples().items():
             if not (folder / "words").read_text().startswith("replay "):
@@ -79,7 +91,14 @@ class Engine(unittest.TestCase):
 class InNode(Engine):
     @classmethod
     def setUpClass(cls) -> None:
-        cls.answers = json.loads(json.loads(Ended(["node", TESTS / "page_in_node.js", PAGE, ANSWERS]).written))
+        cls.answers = json.loads(cls.asked(ANSWERS))
+
+    @staticmethod
+    def asked(code: str) -> Any:
+        return json.loads(Ended(["node", TESTS / "page_in_node.js", PAGE, code]).written)
+
+    def ask(self, code: str) -> Any:
+        return self.asked(code)
 
 
 class Browsed(Engine):
@@ -99,6 +118,9 @@ class Browsed(Engine):
         cls.addClassCleanup(cls.browser.end)
         cls.browser.open(PAGE)
         cls.answers = json.loads(cls.browser.ask(ANSWERS))
+
+    def ask(self, code: str) -> Any:
+        return self.browser.ask(code)
 
     def open(self, fragment: str = "") -> None:
         self.browser.open(f"{PAGE}{fragment}")
@@ -181,6 +203,19 @@ class Browsed(Engine):
             with self.subTest(name):
                 self.open(f"#example={name}")
                 self.assertEqual(self.text("status"), words)
+
+    def test_a_schedule_of_told_members_that_is_opened_after_a_log_is_replayed(self) -> None:
+        self.open("#example=a_log/list")
+        self.browser.ask("""(() => {
+            const data = new DataTransfer(), area = document.getElementById("file");
+            data.items.add(new File(["copen 1 0 0\\n"], "schedule"));
+            area.files = data.files;
+            area.dispatchEvent(new Event("change"));
+        })()""")
+        end = time.monotonic() + PATIENCE
+        while "were taken" not in self.text("status"):
+            self.assertLess(time.monotonic(), end, self.text("status"))
+            time.sleep(0.05)
 
     def test_a_broken_link_and_an_unknown_example_are_said(self) -> None:
         self.open("#run=abc")

@@ -20,4 +20,4 @@ globalThis.Page = {
     return globalThis.runAllocator(program, words.split(" "), bytes(input ?? ""), stores);
   },
 };
-vm.runInThisContext(code).then(value => process.stdout.write(JSON.stringify(value)));
+Promise.resolve(vm.runInThisContext(code)).then(value => process.stdout.write(JSON.stringify(value)));

@@ -456,7 +456,7 @@ function guess(bytes) {
   const front = text_of(bytes.subarray(0, 2000));
   if (/^\s*\(\d+\.\d+\)/.test(front)) return front.includes("#") ? "candump" : "";
   if (/^[\x07TtrRzZVNF][^\n]*\r/.test(front)) return "slcan";
-  if (/^(open|tick|send|rx|ext|crash|fault|a(open|tick|rx|send|end)) /.test(front)) return "replay";
+  if (Facts.is_schedule(front)) return "replay";
   if (/^\s*(#|@ )/.test(front)) return "decode";
   return "";
 }

@@ -47,6 +47,9 @@ const Facts = (() => {
   /* A schedule and a report that are not of one run, or cannot be read. */
   class Mismatch extends Error {}
 
+  /* Whether a text, of which this is the front, is a schedule: it begins with the word of a row. */
+  const is_schedule = front => Object.keys(ROW_LENGTHS).includes(/^([a-z]+) /.exec(front)?.[1]);
+
   const thousands = value => String(value).replace(/\B(?=(\d{3})+(?!\d))/g, ",");
   const last_of = list => list[list.length - 1];
   const hex = bytes => bytes.map(byte => byte.toString(16).padStart(2, "0")).join("");
@@ -654,7 +657,7 @@ const Facts = (() => {
     ].join(", ") + ".";
   }
 
-  return {CAUSES, Mismatch, Run, facts, summary};
+  return {CAUSES, Mismatch, Run, facts, is_schedule, summary};
 })();
 
 if (typeof module !== "undefined") module.exports = Facts;

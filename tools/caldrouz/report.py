@@ -43,7 +43,7 @@ ROLES = {FOLLOWER: "follower", CANDIDATE: "candidate", LEADER: "leader"}
 
 OPENINGS = ("open", "copen")  # of a member that is told how many there are, and of one that is told who they are
 # By the name of a row: how many words it has, and which of them is its moment, if one is.
-_ROWS: Dict[str, Tuple[int, Optional[int]]] = {
+ROWS: Dict[str, Tuple[int, Optional[int]]] = {
     "open": (4, 2), "copen": (4, 2), "tick": (4, 2), "rx": (4, 3), "send": (2, None), "crash": (4, None),
     "fault": (3, None), "aopen": (6, 4), "atick": (4, 2), "arx": (5, 3), "asend": (2, None), "aend": (2, None),
     "ext": (3, None),
@@ -91,7 +91,7 @@ class Row(NamedTuple):
 def read_row(text: str) -> Row:
     words = text.split(" ")
     name = words[0]
-    length, place = _ROWS.get(name, (0, None))
+    length, place = ROWS.get(name, (0, None))
     if len(words) != length:
         raise NotARow(f"'{text}' is no row")
     try:
