@@ -25,8 +25,8 @@
  * Numbers. Every call takes every number. What a number does not fit is answered by a status, and changes nothing.
  *
  * Store. A node keeps its vote and its list in CALDROUZ_STORE_BYTES bytes behind a descriptor. The library calls
- *   pread(), pwrite() and fdatasync() on it: those of POSIX, or the caller's own (examples/c/lone_allocator.c and
- *   examples/c/own_store.c). A new store is all zeros. What was written before fdatasync() answered 0 has to survive a
+ *   pread(), pwrite() and fdatasync() on it: those of POSIX, or the caller's own (examples/c/array_store.c and
+ *   examples/c/fram_store.c). A new store is all zeros. What was written before fdatasync() answered 0 has to survive a
  *   loss of power. A store belongs to one member for ever: it is never deleted, copied or put back.
  */
 #ifndef CALDROUZ_H

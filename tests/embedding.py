@@ -6,8 +6,10 @@ import os
 import pathlib
 import re
 import shutil
+import socket
 import sys
 import tempfile
+import time
 import unittest
 from typing import Any, Dict, Iterator, List, Optional, Sequence, Set, Tuple
 
@@ -23,6 +25,10 @@ STRICT = ["-Wall", "-Wextra", "-Wpedantic", "-Wconversion", "-Wshadow", "-Werror
 SANITIZED = ["-g", "-O1", "-fsanitize=address,undefined", "-fno-sanitize-recover=all"]
 SIX_FUNCTIONS = {"pread", "pwrite", "fdatasync", "memcpy", "memmove", "memset"}
 MEMBERS = (1, 2, 3)
+STORE_BYTES = 8844
+NOT_OPENED = 12
+REST = 5.5  # seconds of a member whose store is not new
+PATIENCE = 30  # seconds that a device waits: a rest, and some elections
 C_EXAMPLES = EXAMPLES / "c"
 
 
@@ -179,11 +185,54 @@ class WorkedSchedules(unittest.TestCase):
         self.assertGreaterEqual(len(tried), 20)
 
 
+class Start(unittest.TestCase):
+    """How `socketcan_node` begins."""
+
+    program = ""
+
+    @classmethod
+    def setUpClass(cls) -> None:
+        cls.program = built(there("gcc", "clang")[0], C_EXAMPLES / "socketcan_node.c", flags=SANITIZED)
+
+    def test_a_store_is_made_by_new_alone_and_once(self) -> None:
+        folder = pathlib.Path(tempfile.mkdtemp(dir=Place.folder))
+        store = folder / "alloc-1.store"
+        ours, theirs = socket.socketpair(socket.AF_UNIX, socket.SOCK_SEQPACKET)
+        with ours, theirs:
+            for bus in (f"fd:{theirs.fileno()}", "fd:999"):
+                words = [self.program, bus, "1", "1,2,3", store]
+                ended = Ended(words, pass_fds=[theirs.fileno()], timeout=PATIENCE)
+                self.assertEqual((ended.status, store.exists()), (NOT_OPENED, False), bus)
+        self.assertEqual(Ended([self.program, "new", store]).status, 0)
+        self.assertEqual(store.read_bytes(), bytes(STORE_BYTES))
+        store.write_bytes(b"1" * STORE_BYTES)
+        self.assertEqual(Ended([self.program, "new", store]).status, NOT_OPENED)
+        self.assertEqual(store.read_bytes(), b"1" * STORE_BYTES)
+
+    def test_it_rests_where_its_store_is_not_new(self) -> None:
+        """A lone member speaks at once at its first start, and after 5.5 s at its second."""
+        folder = tempfile.mkdtemp(dir=Place.folder)
+        done(self.program, "new", "alloc-1.store", cwd=folder)
+        bus = packets.Bus(folder, lambda _, descriptor: [self.program, f"fd:{descriptor}", "1", "1", "alloc-1.store"])
+        waits = []
+        for _ in range(2):
+            bus.start(1)
+            begun, before = time.monotonic(), bus.frames
+            while bus.frames == before and time.monotonic() - begun < PATIENCE:
+                bus.turn()
+            waits.append(time.monotonic() - begun)
+            bus.rest(6)  # (it has elected itself by then, and stored that)
+            bus.kill(1)
+        self.assertLess(waits[0], REST)
+        self.assertGreaterEqual(waits[1], REST)
+        self.assertLess(waits[1], PATIENCE)
+
+
 class Cluster(unittest.TestCase):
     def served(self, bus: packets.Bus, number: int) -> int:
         """The node ID that a device is given."""
-        node = bus.serve(packets.Device(number), 20)
-        self.assertIsNotNone(node, f"device {number} was given none within 20 s")
+        node = bus.serve(packets.Device(number), PATIENCE)
+        self.assertIsNotNone(node, f"device {number} was given none within {PATIENCE} s")
         return node or 0
 
     def test_three_members_serve_through_kills(self) -> None:
@@ -198,6 +247,7 @@ class Cluster(unittest.TestCase):
 
         bus = packets.Bus(folder, command)
         for member in MEMBERS:
+            done(programs[0], "new", f"alloc-{member}.store", cwd=folder)
             bus.start(member)
         given: Dict[int, int] = {}
         for number in range(1, 7):
@@ -207,7 +257,7 @@ class Cluster(unittest.TestCase):
             elif number in (3, 5):
                 bus.start(number // 2)
         self.assertEqual(self.served(bus, 1), given[1])
-        bus.rest(2)
+        bus.rest(REST + 2)  # (the member that was started last takes part again)
         codes, said = bus.end()
         self.assertEqual(codes, {1: 0, 2: 0, 3: 0}, said)
         self.assertEqual(len(set(given.values())), 6, given)

@@ -1,11 +1,16 @@
 /* One allocator on a SocketCAN interface:
  *
+ *     socketcan_node new STORE                         once in the life of a member
  *     socketcan_node INTERFACE ID MEMBERS STORE
  *
- * MEMBERS are the node IDs of all members, as 1,2,3, the same on each of them. STORE is a file of 8,844 bytes, as that of
- * `allocator node`; a missing one is made. SIGTERM or SIGINT ends the program, which then writes its list to standard
- * error. Its status is 0; 1 for wrong words; 12 where the socket or the store cannot be opened; 13 where the socket
- * failed; 14 where the store failed or is damaged.
+ * STORE is a file of 8,844 bytes, as that of `allocator node`. The first form makes it, and fails where it is there
+ * already. The second one runs the allocator, and fails where the store is missing: a member that forgot what it told
+ * others would break the promise. MEMBERS are the node IDs of all members, as 1,2,3, the same on each of them. Where the
+ * store is not new, a member ran before, and the program rests for 5.5 s before its first turn. SIGTERM or SIGINT ends
+ * the program, which then writes its list to standard error.
+ *
+ * The status is 0; 1 for wrong words; 12 where the socket or the store cannot be opened, or the store cannot be made; 13
+ * where the socket failed; 14 where the store failed or is damaged.
  *
  * INTERFACE may be fd:N, a socket of packets that is open already and gives each packet back to its sender, for tests.
  */
@@ -33,6 +38,10 @@ enum { WRONG_WORDS = 1, NOT_OPENED = 12, BUS_FAILED = 13, STORE_FAILED = 14 };
 /* Milliseconds. A frame that was not on the bus by then may never come there: nobody acknowledges, or the controller
  * was started again. What waits behind it is let go. */
 enum { LONGEST_ON_ITS_WAY = 500 };
+
+/* Milliseconds from the last frame of a member to the opening of the next one with its store: its transfer IDs begin at
+ * 0 again, so no frame of before, and no answer to one, may be on its way any more. */
+enum { REST = 5500 };
 
 enum { MOST_MEMBERS = 5 };
 
@@ -90,36 +99,69 @@ static int open_bus(const char *name) {
     return fd;
 }
 
-/* a new store: all zeros, synced, and its name in the folder too */
+/* the folder of a file, opened to be synced */
+static int open_folder(const char *path) {
+    char name[4096] = ".";
+    const char *slash = strrchr(path, '/');
+    if (slash != NULL) {
+        const size_t length = slash == path ? 1 : (size_t)(slash - path);
+        if (length >= sizeof name) {
+            return -1;
+        }
+        memcpy(name, path, length);
+        name[length] = 0;
+    }
+    return open(name, O_RDONLY | O_DIRECTORY | O_CLOEXEC);
+}
+
+/* A new store: all zeros, synced, and its name in the folder too. Answers 0, or -1 where it is there already or cannot
+ * be made. */
 static int make_store(const char *path) {
     static const char zeros[CALDROUZ_STORE_BYTES];
-    int folder;
-    int fd = open(path, O_RDWR | O_CREAT | O_EXCL | O_CLOEXEC, 0644);
+    const int folder = open_folder(path);
+    const int fd = folder < 0 ? -1 : open(path, O_RDWR | O_CREAT | O_EXCL | O_CLOEXEC, 0644);
     if (fd < 0) {
         return -1;
     }
-    folder = open(".", O_RDONLY | O_DIRECTORY | O_CLOEXEC);
-    if (pwrite(fd, zeros, sizeof zeros, 0) != (ssize_t)sizeof zeros || fsync(fd) != 0 || folder < 0 ||
-        fsync(folder) != 0) {
+    if (pwrite(fd, zeros, sizeof zeros, 0) != (ssize_t)sizeof zeros || fsync(fd) != 0 || fsync(folder) != 0) {
         unlink(path);
         return -1;
     }
-    close(folder);
-    return fd;
+    return 0;
 }
 
-/* the lock keeps a second process from the same store */
+/* A store that was made before. The lock keeps a second process from the same one. */
 static int open_store(const char *path) {
     struct stat found;
-    int fd = open(path, O_RDWR | O_CLOEXEC);
-    if (fd < 0 && errno == ENOENT) {
-        fd = make_store(path);
-    }
+    const int fd = open(path, O_RDWR | O_CLOEXEC);
     if (fd < 0 || fstat(fd, &found) != 0 || found.st_size != CALDROUZ_STORE_BYTES ||
         flock(fd, LOCK_EX | LOCK_NB) != 0) {
         return -1;
     }
     return fd;
+}
+
+/* Whether a member ran with this store: what cannot be read is taken for that, and is told at its opening. */
+static int ran_before(int store) {
+    static char bytes[CALDROUZ_STORE_BYTES];
+    unsigned i;
+    if (pread(store, bytes, sizeof bytes, 0) != (ssize_t)sizeof bytes) {
+        return 1;
+    }
+    for (i = 0; i < sizeof bytes; i++) {
+        if (bytes[i] != 0) {
+            return 1;
+        }
+    }
+    return 0;
+}
+
+/* Rests so many milliseconds, or until a signal. What comes meanwhile waits in the socket, and is too old afterwards. */
+static void rest(uint64_t milliseconds) {
+    const uint64_t since = now_ms();
+    while (!is_ended && now_ms() - since < milliseconds) {
+        poll(NULL, 0, 10);
+    }
 }
 
 static int is_same(const struct can_frame *one, const struct can_frame *other) {
@@ -226,20 +268,33 @@ int main(int count, char **words) {
     unsigned size;
     uint32_t status;
     int store;
+    if (count == 3 && strcmp(words[1], "new") == 0) {
+        if (make_store(words[2]) != 0) {
+            fprintf(stderr, "%s is there already, or cannot be made\n", words[2]);
+            return NOT_OPENED;
+        }
+        return 0;
+    }
     if (count != 5) {
-        fprintf(stderr, "socketcan_node INTERFACE ID MEMBERS STORE\n");
+        fprintf(stderr, "socketcan_node new STORE\nsocketcan_node INTERFACE ID MEMBERS STORE\n");
         return WRONG_WORDS;
     }
     size = read_members(words[3], members);
     sigaction(SIGTERM, &action, NULL);
     sigaction(SIGINT, &action, NULL);
     bus.fd = open_bus(words[1]);
-    store = open_store(words[4]);
-    if (bus.fd < 0 || store < 0) {
+    store = bus.fd < 0 ? -1 : open_store(words[4]);
+    if (store < 0) {
         fprintf(stderr, "%s cannot be opened\n", bus.fd < 0 ? words[1] : words[4]);
         return NOT_OPENED;
     }
     caldrouz_ages_empty(&bus.ages, now_ms());
+    if (ran_before(store)) {
+        rest(REST);
+        if (is_ended) {
+            return 0;
+        }
+    }
     status = caldrouz_init(&node, (uint32_t)atoi(words[2]), size, store);
     if (status == CALDROUZ_DONE) {
         status = caldrouz_open(&node, now_ms(), random_word());
