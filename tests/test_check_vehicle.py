@@ -200,6 +200,18 @@ class Timings(unittest.TestCase):
         self.assertEqual(said.unanswered, {way: timing.Least(3000, 5)})
         self.assertEqual(said.answers, {way: timing.Late(2, 3)})
 
+    def test_a_member_that_answers_before_its_first_status_was_silent_until_then(self) -> None:
+        lines = [
+            "(10.000000) can0 1E015501#09000000000000C8",
+            "(10.500000) can0 1E1E0281#0100000080C0",
+            "(23.200000) can0 1E1E0281#0100000080C0",
+            "(24.000000) can0 1E015501#01000000000000C0",
+        ]
+        said = timing.Timing([1, 2])
+        for record in logs.read_lines(lines).frames:
+            said.take(record)
+        self.assertEqual(said.pauses, {1: [timing.Late(12500, 4)]})
+
 
 class Settings(unittest.TestCase):
     def test_settings_of_the_units(self) -> None:

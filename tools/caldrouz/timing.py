@@ -62,10 +62,10 @@ class Timing:
         self.answers: Dict[Way, Late] = {}  # of requests: the latest answer
         self.repeats: List[int] = []  # lines with a frame that came twice
         self.disorder: List[int] = []  # lines with a frame that does not go on where its transfer stands
-        self.pauses: Dict[int, List[Late]] = {}  # by member: how long nothing came before it began anew
+        self.pauses: Dict[int, List[Late]] = {}  # by member: for how long it was silent before it began anew
         self._used: Dict[Tuple[Way, int], Sent] = {}
         self._last: Dict[int, logs.Record] = {}  # by identifier: the last frame
-        self._heard: Dict[int, int] = {}  # by member: its last frame
+        self._since: Dict[int, List[int]] = {}  # by member: when its frames came, from its last NodeStatus on
         self._up: Dict[int, int] = {}
 
     def take(self, record: logs.Record) -> None:
@@ -73,9 +73,9 @@ class Timing:
         if heading.source not in self.members or heading.kind == wire.OTHER:
             return
         self._look_at_order(record)
+        self._since.setdefault(heading.source, []).append(stamp)
         if heading.kind == "stat" and len(record.frame.data) == table.FRAME_BYTES + 1:
             self._look_at_uptime(record)
-        self._heard[heading.source] = stamp
         if not tail.starts:
             return
         way = Way(heading.source, heading.kind, heading.destination)
@@ -117,7 +117,10 @@ class Timing:
     def _look_at_uptime(self, record: logs.Record) -> None:
         member, uptime = record.frame.heading.source, wire.number(record.frame.data)
         if uptime < self._up.get(member, 0):
-            # The first NodeStatus comes a second after the opening, and others may have come before it.
-            opened = record.stamp - 1000 * uptime
-            self.pauses.setdefault(member, []).append(Late(opened - self._heard[member], record.line))
+            # The first NodeStatus comes a second after the opening. Other frames of the new life may come before it, so
+            # the last one of the old life is that behind which it was silent for longest.
+            opened, came = record.stamp - 1000 * uptime, self._since[member]
+            pause = max(min(after, opened) - before for before, after in zip(came, came[1:]))
+            self.pauses.setdefault(member, []).append(Late(pause, record.line))
         self._up[member] = uptime
+        self._since[member] = [record.stamp]
