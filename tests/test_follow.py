@@ -7,7 +7,7 @@ import tempfile
 import unittest
 from typing import List, Sequence, Tuple
 
-from support import EXAMPLES, PROGRAM, TESTS, Ended, read_lines, run_tool, write_lines
+from support import EXAMPLES, PROGRAM, TESTS, Ended, read, read_lines, run_tool, write_lines
 
 from caldrouz import stores
 
@@ -65,7 +65,7 @@ class FollowCase(unittest.TestCase):
             else:
                 more += 1
         self.assertEqual((following, more), (None, unlogged))
-        self.said = found.errors
+        self.said, self.schedule = found.errors, found.written
         return rest
 
     def is_named(self, lines: Sequence[str], line: int, *besides: str) -> None:
@@ -85,6 +85,7 @@ class Explained(FollowCase):
             stored = [f"{place} {entry.node} {entry.unique_id}" for place, entry in enumerate(store.committed, 1)]
             at = rest.index(f"log {node} {len(stored)}")
             self.assertEqual(rest[at + 1 : at + 1 + len(stored)], stored, f"member {node}")
+        self.assertEqual(self.schedule, read(EXAMPLES / "a_real_bus/schedule"))
 
     def test_a_calm_bus(self) -> None:
         self.is_explained(recorded("calm"), unlogged=6)
