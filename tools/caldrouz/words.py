@@ -4,6 +4,7 @@ from __future__ import annotations
 import argparse
 import errno
 import os
+import re
 import sys
 from typing import Callable, List, NoReturn, Sequence, Tuple
 
@@ -23,10 +24,15 @@ class Ended(Exception):
 
 
 def parser(name: str, about: str, usage: str) -> argparse.ArgumentParser:
-    """A parser that shows a module's text, in which the exit codes come last."""
+    """A parser that shows a module's text, in which the exit codes come last. An installed tool goes by the name of its
+    command."""
+    command = os.environ.get("CALDROUZ_COMMAND", name)
+    usage = re.sub(rf"^( *){name}\b", rf"\1{command}", usage, flags=re.MULTILINE)
+    about = re.sub(rf"^{name} ", f"{command} ", about, flags=re.MULTILINE)
     what, begin, codes = about.partition("exit codes")
     form = argparse.RawDescriptionHelpFormatter
-    return argparse.ArgumentParser(prog=name, usage=usage, description=what, epilog=begin + codes, formatter_class=form)
+    end = begin + codes
+    return argparse.ArgumentParser(prog=command, usage=usage, description=what, epilog=end, formatter_class=form)
 
 
 def run(name: str, main: Callable[[], int]) -> NoReturn:
