@@ -41,7 +41,7 @@ extern "C" {
 
 /* the bytes of a store, and of a node */
 #define CALDROUZ_STORE_BYTES 8844
-#define CALDROUZ_NODE_BYTES 46464
+#define CALDROUZ_NODE_BYTES 46568
 
 /* Milliseconds. A frame that may have waited longer, in a queue of the caller or of the driver, before it is heard or
  * before it is sent, is dropped: by then its transfer ID may be in use again. */

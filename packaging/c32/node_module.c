@@ -6,7 +6,7 @@ typedef long ssize_t;
 #define IMPORT(name) __attribute__((import_module("host"), import_name(#name)))
 #define EXPORT(name) __attribute__((export_name(#name), used))
 
-enum { NODE_BYTES = 46464 };
+enum { NODE_BYTES = 46568 };
 
 IMPORT(pread) ssize_t host_pread(int fd, void *to, size_t count, long at);
 IMPORT(pwrite) ssize_t host_pwrite(int fd, const void *from, size_t count, long at);
