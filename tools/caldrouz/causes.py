@@ -162,16 +162,17 @@ def _room(scene: Scene, stores: Sequence[NamedStore]) -> Iterator[Cause]:
     longest = max((store for _, store in stores), key=lambda store: (store.commit, len(store.entries)), default=None)
     last = max([heard] + [len(store.entries) for _, store in stores])
     commit = max([call.commit for call in scene.calls.values()] + [store.commit for _, store in stores] + [0])
-    if last >= table.LOG_LIMIT and commit >= table.LOG_LIMIT:
+    most = table.LOG_LIMIT
+    if last >= most and commit >= most:
         yield Cause(
             "log-full",
-            f"The log is full ({table.LOG_LIMIT} entries): devices that are in it are answered, and no other gets an ID",
+            f"The log is full ({most} entries): devices that are in it are answered, and no other gets an ID",
             "export the pairs, drop those of devices that are gone, and begin anew with the same IDs",
         )
-    elif last >= table.LOG_LIMIT:
+    elif last >= most:
         yield Cause(
             "log-full",
-            f"The log is full ({table.LOG_LIMIT} entries), and {commit} of them are committed: no entry can be added that "
+            f"The log is full ({most} entries), and {commit} of them are committed: no entry can be added that "
             "would let the rest be committed, so no new device is ever served",
             "begin anew with the same IDs; tell the members their list, which does not use up places so",
         )
@@ -193,11 +194,11 @@ def _room(scene: Scene, stores: Sequence[NamedStore]) -> Iterator[Cause]:
             "look at the counts of the bridges and at the interfaces; a log has 127 places and gets none back",
             stops=False,
         )
-    left = min(free, table.LOG_LIMIT - last)
+    left = min(free, most - last)
     if 0 < left <= FEW_PLACES:
         yield Cause(
             "log-nearly-full",
-            f"The log has {last} of {table.LOG_LIMIT} entries, and {_times(free, 'node ID')} are free: "
+            f"The log has {last} of {most} entries, and {_times(free, 'node ID')} are free: "
             f"{_times(left, 'device')} more can be served, or fewer",
             "plan to begin anew with the same IDs",
             stops=False,
