@@ -151,7 +151,7 @@ module _ (laws : AnsweringLaws) (n a : ℕ) (low : 1 ≤ n) (high : n ≤ 125) (
         server = with_queue [] then_server;
         sessions = k.sessions;
         frames = frames ++ answer_frames;
-        serves = goes_on n log moment next accepted t serves number arrival message bytes refl asked.request (omega (arith, size, low_enough)) answers;
+        serves = goes_on n log moment next accepted t serves number arrival message refl asked.request bytes (omega (arith, size, low_enough)) answers;
         awaits = k.awaits;
         at = subst (λ (x : Asking). At n a (with_queue [] then_server) (Some (record { asking = x; sessions = k.sessions })) (frames ++ answer_frames) u)
             as_followed k.at;
@@ -180,7 +180,7 @@ module _ (laws : AnsweringLaws) (n a : ℕ) (low : 1 ≤ n) (high : n ≤ 125) (
 
       queued : then_server ≡ with_queue answer_frames then_server
       queued = λ i. record then_server {
-        queue = answers_it n log moment next accepted t serves number arrival message bytes refl asked.request (omega (arith, size, low_enough)) answers i;
+        queue = answers_it n log moment next accepted t serves number arrival message refl asked.request bytes (omega (arith, size, low_enough)) answers i;
       }
 
       as_followed : after_allocation 0 false (record { node = 0; first_part = false; uid = record { items = bytes } }) (asking_with uid preferred moment next_one None [])

@@ -25,18 +25,20 @@ use Rattle.alloc_spec.specs.Step.{after_pop}
 use Rattle.alloc_spec.specs.Transfers.{id_after, outgoing}
 use Rattle.alloc_spec_laws.proofs.Choices.{tell}
 use Rattle.cluster_progress.proofs.FollowUps.{same_number}
-use Rattle.cluster_recovery.specs.Calm.{Clocks, IsCalmRow, IsInTime, IsNext, NoneIsLate, OnItsWay, Pace, Traffic, queue_of, traffic_after}
+use Rattle.cluster_recovery.specs.Calm.{Clocks, HasSettled, IsCalmRow, IsInTime, IsNext, NoneIsLate, OnItsWay, Pace, Traffic, queue_of, traffic_after}
 use Rattle.cluster_recovery.proofs.CalmDevice.{asking_as, device_as, follows_up, gets, receives, same_uid, ticks_quietly, ignored_fine, judged_as}
 use Rattle.cluster_recovery.proofs.CalmGiving.{Gives as GivesPair}
 use Rattle.cluster_recovery.proofs.CalmHearing.{AwaitsBy, Came, coming, frames_of_it, gives_it, gives_nothing, one_came, then_awaits, whole_one, whole_is}
-use Rattle.cluster_recovery.proofs.CalmQueue.{AreAll, of_both}
-use Rattle.cluster_recovery.proofs.CalmRest.{status_number}
+use Rattle.cluster_recovery.proofs.CalmQueue.{of_both}
+use Rattle.cluster_recovery.proofs.Sending.{AreOf, frames_of_one}
+use Rattle.cluster_recovery.proofs.CalmRest.{FewWait}
+use Rattle.cluster_recovery.proofs.Leads.{status_number}
+use Rattle.cluster_recovery.proofs.Settled.{settled_by}
 use Rattle.cluster_recovery.proofs.CalmSide.{Carry, HasGot, Side, it, side_gets, side_kept, side_sends, side_ticks, status_apart, waits_on}
 use Rattle.cluster_recovery.proofs.CalmStages.{by_rows, device_steps, has_not_passed, known_of, right_within}
 use Rattle.cluster_recovery.proofs.Receiving.{GivesNone}
 use Rattle.cluster_spec.specs.Cluster.{Cluster, after_row, arrival_at, frame_at}
 use Rattle.cluster_spec.specs.Members.{next_frame}
-use Rattle.cluster_recovery.proofs.CalmOnBus.{all_queued}
 use Rattle.can_frame.specs.declared.step.Judged.TheVariants.{Fine, Torn}
 use Rattle.can_frame.specs.declared.step.Why.TheVariants.{NotWanted}
 use Rattle.allocatee.specs.Judging.{answer_judgement, arrival_judgement}
@@ -53,7 +55,7 @@ none_taken word Continues asking none = refl
 none_taken word (Drops why) asking none = refl
 
 -- a front of frames of one identifier
-front_all : (id : ℕ) (front rest : List Queued) → AreAll id (front ++ rest) → AreAll id front
+front_all : (id : ℕ) (front rest : List Queued) → AreOf id (front ++ rest) → AreOf id front
 front_all id [] rest are = tt
 front_all id (f ∷ front) rest are = (are.0, front_all id front rest are.1)
 
@@ -63,7 +65,7 @@ its_first id f fs e = let z : nat_eq f.id id ≡ true = ap (λ (k : ℕ). nat_eq
 not_its_first : (id other : ℕ) (f : Queued) (fs : List Queued) → f.id ≡ other → nat_eq other id ≡ false → of_identifier id (f ∷ fs) ≡ of_identifier id fs
 not_its_first id other f fs e apart = let z : nat_eq f.id id ≡ false = ap (λ (k : ℕ). nat_eq k id) e ∙ apart in rw (z) refl
 
-module _ (laws : CalmLaws) (n a : ℕ) (low : 1 ≤ n) (high : n ≤ 125) (uid : List ℕ) (preferred : ℕ) (few : preferred < 128) (log : List Entry) (Fits : ℕ → Type 0)
+module _ (laws : CalmLaws) (n a : ℕ) (low : 1 ≤ n) (high : n ≤ 125) (uid : List ℕ) (preferred : ℕ) (few : preferred < 128) (log : List Entry) (Fits : ℕ → List Entry → Type 0)
     (place : GivesPair Fits n log uid preferred) (start : ℕ) (clocks : Clocks) (pace : Pace) (quick : pace.period + 4 * pace.delay ≤ 100) where
   -- one of an Allocation that is on its way came to the bus by that moment, and none is late
   late_by : (last at : ℕ) (frames : List Queued) (ways : List OnItsWay) (fs : List Queued) → Carry frames ways fs → SinceBy laws n a low high uid preferred few log Fits place start clocks pace quick last ways fs
@@ -241,8 +243,8 @@ module _ (laws : CalmLaws) (n a : ℕ) (low : 1 ≤ n) (high : n ≤ 125) (uid :
     unfolding queued_frames
     its_frames = refl
 
-    front_its : AreAll (it n) p.front
-    front_its = front_all (it n) p.front p.rest (subst (AreAll (it n)) p.cut (all_queued n p.number p.next payload))
+    front_its : AreOf (it n) p.front
+    front_its = front_all (it n) p.front p.rest (subst (AreOf (it n)) p.cut (frames_of_one (outgoing n Alloc 0 p.next payload) p.number 0))
 
     on_way_left : (f : Queued) (fs : List Queued) → p.flying ≡ f ∷ fs → SinceBy laws n a low high uid preferred few log Fits place start clocks pace quick (p.asked_at + pace.delay) (drop 1 traffic.to_device) fs
     on_way_left f fs e = left traffic.to_device refl
@@ -384,9 +386,19 @@ module _ (laws : CalmLaws) (n a : ℕ) (low : 1 ≤ n) (high : n ≤ 125) (uid :
             }),
           )
 
+          -- the allocator has settled
+          settled_there : HasSettled n p.then_log (at + clocks.allocator) (after_row w row)
+          settled_there = let side = g.then_side in settled_by n p.then_log p.accepted (id_after p.next) p.server (at + clocks.allocator) (after_row w row) side.serves side.up
+              side.clock (status_by side.few) side.requests
+            where
+              status_by : FewWait (start + clocks.allocator) (suc p.stages) p.server → p.server.status_at ≤ at + clocks.allocator
+              status_by (inl z) = let s = p.side.since in let l = later in omega (arith, z.0, s, l)
+              status_by (inr z) = let s = p.side.since in let l = later in let c = g.then_side.clock in omega (arith, z.1, s, l, c)
+
           on_last : (i : ℕ) → j ≡ i → Outcome laws n a low high uid preferred few log Fits place start clocks pace quick i p.then_log p.accepted p.asked_at p.node p.bytes → Goal row
           on_last zero is outcome = inr (
             p.node,
+            p.then_log,
             outcome.1,
             record {
               device = record { asking = after_allocation word false (record { node = p.node; first_part = false; uid = record { items = uid } }) (asking_as uid preferred [] p.id here p.request None); sessions = then_sessions };
@@ -395,6 +407,7 @@ module _ (laws : CalmLaws) (n a : ℕ) (low : 1 ≤ n) (high : n ≤ 125) (uid :
               its_uid = same_uid uid preferred p.id here p.request None word p.node outcome.2 outcome.3;
               its_node = gets uid preferred p.id here p.request None word p.node outcome.2 outcome.3;
             },
+            settled_there,
           )
           on_last (suc zero) is outcome = on_follow zero is outcome (omega arith) (let v = place.whole in omega (arith, v)) (λ due moment timer ends since quiet. (timer, refl, ends, since, quiet))
           on_last (suc (suc zero)) is outcome = on_follow (suc zero) is outcome (omega arith) (let v = place.whole in omega (arith, v)) (λ due moment timer ends since quiet. (timer, refl, ends, since, quiet))

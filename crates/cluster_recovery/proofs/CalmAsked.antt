@@ -1,26 +1,23 @@
 -- A request waits in the device's queue, and goes out.
-use Rattle.std.proofs.Common.{◌≡◌, ℕ, ◌+◌, ◌*◌, ◌<◌, ◌≤◌, true, List, [], ◌∷◌, ◌++◌, length, length-append, inl, inr, refl, sym, ◌∙◌, ap, subst, arith, Option, None, Some}
-use Rattle.std.specs.Prelude.{is_some}
+use Rattle.std.proofs.Common.{◌≡◌, ℕ, ◌+◌, ◌*◌, ◌<◌, ◌≤◌, List, [], ◌∷◌, ◌++◌, length, length-append, inl, inr, refl, sym, ◌∙◌, ap, subst, arith, Option, None, Some}
 use Rattle.can_frame.specs.declared.entry.Entry.{Entry}
 use Rattle.replay_text.specs.declared.row.Row.{Row}
-use Rattle.replay_text.specs.declared.row.Row.TheVariants.{ARx, ASend, ATick, Send, Tick}
+use Rattle.replay_text.specs.declared.row.Row.TheVariants.{ASend}
 use Rattle.transfer_tx.specs.Queue.{Queued}
-use Rattle.allocatee.specs.Allocatee.{Device, after_reading, after_receiver_answer, step}
-use Rattle.allocatee.specs.Allocatee as device
-use Rattle.cluster_recovery.specs.Calm.{Clocks, IsCalmRow, IsInTime, IsNext, OnItsWay, Pace, Traffic, queue_at, traffic_after, waits_after}
-use Rattle.cluster_recovery.proofs.CalmDevice.{device_as, ticks_quietly}
+use Rattle.cluster_recovery.specs.Calm.{Clocks, IsCalmRow, IsInTime, OnItsWay, Pace, Traffic, queue_at, traffic_after, waits_after}
+use Rattle.cluster_recovery.proofs.CalmDevice.{device_as}
 use Rattle.cluster_recovery.proofs.CalmSide.{Carry, carry_more}
-use Rattle.cluster_recovery.proofs.CalmStages.{by_rows, common_gets, common_kept, common_sends, common_ticks, device_steps, has_not_passed}
+use Rattle.cluster_recovery.proofs.CalmStages.{by_rows, common_kept}
 use Rattle.cluster_recovery.proofs.Sending.{first_out, others_left}
 use Rattle.cluster_recovery.proofs.Asking.{its_own}
 use Rattle.cluster_recovery.proofs.Taking.{frame_is}
 use Rattle.cluster_spec.specs.Allocatees.{after_sending_from, next_from}
 use Rattle.cluster_spec.specs.Cluster.{Cluster, after_row, frame_at, in_list}
-use Rattle.cluster_spec.specs.Members.{next_frame}
 use Rattle.cluster_recovery.proofs.CalmGiving.{Gives as GivesPair}
-use Rattle.cluster_recovery.proofs.CalmPhases.{CalmLaws, HasAsked, Next, CommonOf, device_ignores, key, nothing_next, status_of_kind}
+use Rattle.cluster_recovery.proofs.CalmPending.{Pends, pends}
+use Rattle.cluster_recovery.proofs.CalmPhases.{CalmLaws, HasAsked, Next, CommonOf, key, nothing_next}
 
-module _ (laws : CalmLaws) (n a : ℕ) (low : 1 ≤ n) (high : n ≤ 125) (uid : List ℕ) (preferred : ℕ) (few : preferred < 128) (log : List Entry) (Fits : ℕ → Type 0)
+module _ (laws : CalmLaws) (n a : ℕ) (low : 1 ≤ n) (high : n ≤ 125) (uid : List ℕ) (preferred : ℕ) (few : preferred < 128) (log : List Entry) (Fits : ℕ → List Entry → Type 0)
     (place : GivesPair Fits n log uid preferred) (start : ℕ) (clocks : Clocks) (pace : Pace) (quick : pace.period + 4 * pace.delay ≤ 100) where
   module _ (j : ℕ) (two : j ≤ 2) (traffic : Traffic) (w : Cluster) (p : HasAsked laws n a low high uid preferred few log Fits place start clocks pace quick j traffic w) (at : ℕ) (in_time : IsInTime n a clocks pace traffic w at) where
     abbrev Goal : Row → Type 0
@@ -72,34 +69,10 @@ module _ (laws : CalmLaws) (n a : ℕ) (low : 1 ≤ n) (high : n ≤ 125) (uid :
       })),
     )
 
-    on_tick : (word : ℕ) → Goal (Tick n (at + clocks.allocator) word)
-    on_tick word = still (Tick n (at + clocks.allocator) word)
-        (common_ticks n a high uid place.whole preferred log start clocks pace (key laws n a low high uid preferred few log Fits place start clocks pace quick) j p.due p.sessions traffic w p.common at later word end)
-        p.moment p.there read_on p.nothing
-
-    on_send : is_some (next_frame (w.member n).status) ≡ true → Goal (Send n)
-    on_send some = still (Send n)
-        (common_sends n a high uid place.whole preferred log start clocks pace (key laws n a low high uid preferred few log Fits place start clocks pace quick) j p.due p.sessions traffic w p.common at later some)
-        p.moment p.there read_on p.nothing
-
-    on_frame : (k word : ℕ) → IsNext k traffic.to_device → Goal (ARx a k (at + clocks.device) word)
-    on_frame k word is =
-        let g = common_gets n a high uid place.whole preferred log start clocks pace (key laws n a low high uid preferred few log Fits place start clocks pace quick) j p.due p.sessions traffic w p.common at later k word is in
-        still (ARx a k (at + clocks.device) word) g.2 (at + clocks.device)
-        (device_ignores laws n a low high uid preferred few log Fits place start clocks pace quick w (p.frame ∷ []) p.id p.moment p.request None p.sessions k (at + clocks.device) word g.0.frame p.there g.0.frame_is_it
-        (status_of_kind laws n a low high uid preferred few log Fits place start clocks pace quick g.0.frame g.0.kind g.1) read_on)
-        (omega arith) p.nothing
-
-    on_read : (word : ℕ) → Goal (ATick a (at + clocks.device) word)
-    on_read word = still (ATick a (at + clocks.device) word)
-        (common_kept n a high uid place.whole preferred log start clocks pace (key laws n a low high uid preferred few log Fits place start clocks pace quick) j p.due p.sessions traffic w p.common at later
-        (ATick a (at + clocks.device) word) refl p.common.side.carry)
-        (at + clocks.device)
-        (device_steps w a (device.Tick (at + clocks.device) word) (device_as uid preferred (p.frame ∷ []) p.id p.moment p.request None p.sessions)
-        (device_as uid preferred (p.frame ∷ []) p.id (at + clocks.device) p.request None p.sessions) p.there
-        (ticks_quietly uid preferred p.id p.moment (at + clocks.device) read_on p.request p.sessions (w.rows + 1) word (p.frame ∷ []) None refl
-        (has_not_passed (at + clocks.device) p.request (let b = by in let q = p.quiet.0 in omega (arith, b, q, quick)) (inr p.quiet.1))))
-        (omega arith) p.nothing
+    pending : Pends laws n a low high uid preferred few log Fits place start clocks pace quick j p.due p.sessions traffic w p.common (p.frame ∷ []) p.id p.moment p.request p.there p.read at later end
+        (let b = by in let q = p.quiet.0 in omega (arith, b, q, quick)) p.quiet.1 Goal
+    pending = pends laws n a low high uid preferred few log Fits place start clocks pace quick j p.due p.sessions traffic w p.common (p.frame ∷ []) p.id p.moment p.request p.there p.read at later end
+        (let b = by in let q = p.quiet.0 in omega (arith, b, q, quick)) p.quiet.1 Goal (λ row common moment there read same frames. still row common moment there read (same ∙ p.nothing))
 
     out : next_from (w.allocatee a) ≡ Some p.frame
     out = ap next_from p.there ∙ first_out p.frame.id p.frame [] (refl, tt)
@@ -143,5 +116,5 @@ module _ (laws : CalmLaws) (n a : ℕ) (low : 1 ≤ n) (high : n ≤ 125) (uid :
 
     -- each row leaves a phase
     pub asking_goes_on : (row : Row) → IsCalmRow n a clocks pace traffic w at row → Goal row
-    asking_goes_on row calm = by_rows n a clocks pace traffic w at Goal on_tick (λ k is. absurd (nothing_next laws n a low high uid preferred few log Fits place start clocks pace quick k traffic.to_allocator p.nothing is)) on_send on_read on_frame
+    asking_goes_on row calm = by_rows n a clocks pace traffic w at Goal pending.tick (λ k is. absurd (nothing_next laws n a low high uid preferred few log Fits place start clocks pace quick k traffic.to_allocator p.nothing is)) pending.send pending.read pending.frame
         (λ some. on_out) row calm

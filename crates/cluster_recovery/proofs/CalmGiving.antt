@@ -4,7 +4,7 @@ use Rattle.std.specs.Prelude.{if◌then◌else◌, slice_index_or}
 use Rattle.std.proofs.lemmas.Bool.Decides.{leb_tells}
 use Rattle.alloc_exchange.specs.declared.heard.Heard.{Heard}
 use Rattle.alloc_exchange.specs.declared.heard.Heard.TheVariants.{Whole}
-use Rattle.alloc_exchange.specs.Exchange.{Accepted, answer}
+use Rattle.alloc_exchange.specs.Exchange.{Accepted, after, answer, last_moment}
 use Rattle.can_frame.specs.declared.entry.Entry.{Entry}
 use Rattle.can_frame.specs.declared.step.What.TheVariants.{Alloc}
 use Rattle.can_frame.specs.Cutting.{frame_count}
@@ -17,6 +17,7 @@ use Rattle.node_discovery.specs.History.{is_online}
 use Rattle.node_discovery.specs.Watch.{history}
 use Rattle.raft_core.specs.Times.{given_at}
 use Rattle.raft_model.specs.Moves.Move.{AnswerAgain}
+use Rattle.raft_core.specs.Taken.{proposal}
 use Rattle.raft_model.specs.Server.{Store}
 use Rattle.transfer_rx.specs.Reassembly.{Arrival}
 use Rattle.transfer_tx.specs.Queue.{Queued, queued_frames}
@@ -24,7 +25,7 @@ use Rattle.allocatee.proofs.Requests.{le_is}
 use Rattle.alloc_spec.specs.AllocatorState.{AllocatorState, is_zero, recorded_at, start_of, taken}
 use Rattle.alloc_spec.specs.Delivered.{StepResult, took}
 use Rattle.alloc_spec.specs.Ending.{end_phase}
-use Rattle.alloc_spec.specs.Exchange.{allocation_payload, answers_or_records, answers_request, gives_pair, hears_allocation, with_request}
+use Rattle.alloc_spec.specs.Exchange.{allocation_payload, answers_or_records, answers_request, gives_pair, hears_allocation, may_follow, with_request}
 use Rattle.alloc_spec.specs.Outbox.{counted_if}
 use Rattle.alloc_spec.specs.Step.{at_moment, step, with_end_phase}
 use Rattle.alloc_spec.specs.Step.Event.{Rx}
@@ -37,29 +38,29 @@ use Rattle.cluster_recovery.specs.Alone.{IsLeft}
 use Rattle.cluster_recovery.specs.Calm.{HasPlaceFor}
 use Rattle.cluster_recovery.proofs.CalmChoice.{finds_one, gives_left, may_record}
 use Rattle.cluster_recovery.proofs.CalmDevice.{asked}
-use Rattle.cluster_recovery.proofs.CalmRequests.{HasAnswered, entry_of_it, pair_waits, ready, serves_then}
+use Rattle.cluster_recovery.proofs.CalmRequests.{HasAnswered, after_moment, entry_of_it, pair_waits, ready, serves_then}
 use Rattle.cluster_recovery.proofs.CalmRest.{Serves, lists_itself, offline_later}
+use Rattle.cluster_recovery.proofs.Leads.{quiet_end}
 use Rattle.cluster_recovery.proofs.Choosing.{Chooses, StandsAt, not_zeros, recorded_first, same_node, stands}
 use Rattle.cluster_progress.proofs.Alone.{lt_is}
-use Rattle.cluster_recovery.proofs.Serving.{quiet_end}
 
 -- an Allocation has three frames at most
 pub few_frames : (count : ℕ) → count ≤ 17 → frame_count count ≤ 3
 few_frames count few = elim (leb_tells count 7) [ inl z ↦ rw (z.0) (omega arith) | inr z ↦ rw (z.0) (omega (arith, few)) ]
 
 -- the pair is given, whose node ID is one of these
-pub record HasGiven (Fits : ℕ → Type 0) (n : ℕ) (t : AllocatorState) (moment next number : ℕ) (uid : List ℕ) (u : AllocatorState) : Type 0 where
+pub record HasGiven (Fits : ℕ → List Entry → Type 0) (n : ℕ) (t : AllocatorState) (moment next number : ℕ) (uid : List ℕ) (u : AllocatorState) : Type 0 where
   pub node : ℕ
   pub least : 1 ≤ node
   pub most : node ≤ 125
-  pub fits : Fits node
   pub then_log : List Entry
+  pub fits : Fits node then_log
   pub then_accepted : List Accepted
   pub serves : Serves n then_log then_accepted (id_after next) u
   pub answered : HasAnswered n t moment next number node uid u
 
 -- whoever is at rest with this log gives such a pair for the whole unique ID
-pub record Gives (Fits : ℕ → Type 0) (n : ℕ) (log : List Entry) (uid : List ℕ) (preferred : ℕ) : Type 0 where
+pub record Gives (Fits : ℕ → List Entry → Type 0) (n : ℕ) (log : List Entry) (uid : List ℕ) (preferred : ℕ) : Type 0 where
   pub whole : length uid ≡ 16
   pub gives : (accepted : List Accepted) (next : ℕ) (t : AllocatorState) → Serves n log accepted next t → (number : ℕ) (arrival : Arrival) → t.now ≤ arrival.moment
       → IsRequest arrival (asked uid preferred false (take 6 (drop 12 uid)))
@@ -72,9 +73,12 @@ has_place queue node uid whole room = le_is (length queue + frame_count (suc (le
 
 -- ---- a new pair
 
--- a node ID that was left
+-- a node ID that was left, and the pair is behind the log
+abbrev pub FitsNew : (n : ℕ) (log : List Entry) (uid : List ℕ) → ℕ → List Entry → Type 0
+FitsNew n log uid node then_log = IsLeft n log node × ((term : ℕ) × (then_log ≡ log ++ proposal term uid node ∷ []))
+
 pub gives_new : ((ids : List Bool) (preferred : ℕ) → IsChoice ids preferred (chosen ids preferred)) → (n : ℕ) (log : List Entry) (uid : List ℕ) (preferred : ℕ)
-    → HasPlaceFor n log uid → Gives (IsLeft n log) n log uid preferred
+    → HasPlaceFor n log uid → Gives (FitsNew n log uid) n log uid preferred
 gives_new law n log uid preferred place = record {
   whole = place.whole;
   gives = λ accepted next t s number arrival later request whole room.
@@ -86,7 +90,7 @@ gives_new law n log uid preferred place = record {
         node = choice.node;
         least = choice.least;
         most = choice.most;
-        fits = gives_left n log accepted next t s arrival.moment preferred choice;
+        fits = (gives_left n log accepted next t s arrival.moment preferred choice, (t.raft_server.store.term, refl));
         then_log = log ++ entry_of_it n log accepted next t s number arrival message uid preferred choice.node later request whole may fits ∷ [];
         then_accepted = (step t number (Rx arrival)).step_state.allocator.accepted;
         serves = serves_then n log accepted next t s number arrival message uid preferred choice.node later request whole may fits;
@@ -157,13 +161,16 @@ module _ (n : ℕ) (log : List Entry) (accepted : List Accepted) (next : ℕ) (t
   abbrev then_t : AllocatorState
   then_t = (step t number (Rx arrival)).step_state.allocator
 
-  again_waits : HasAnswered n t arrival.moment next number node uid then_t
+  pub again_waits : HasAnswered n t arrival.moment next number node uid then_t
   again_waits = record {
     now = ap (λ (r : StepResult). r.step_state.allocator.now) exactly ∙ now_is;
     queue = ap (λ (r : StepResult). r.step_state.allocator.queue) exactly
         ∙ (ap (λ (b : Bool). if b then t.queue ++ queued_frames (outgoing t.me Alloc 0 t.ids.alloc (allocation_payload node uid)) number 0 else t.queue) room
         ∙ (λ i. t.queue ++ queued_frames (outgoing (s.me i) Alloc 0 (s.id i) (allocation_payload node uid)) number 0));
     status = ap (λ (r : StepResult). r.step_state.allocator.status_at) exactly;
+    requests = λ by. subst (λ (r : StepResult). last_moment r.step_state.allocator.accepted ≤ arrival.moment) (sym exactly)
+        (subst (λ (m : ℕ). last_moment (after t.accepted message m (may_follow come.allocator)) ≤ arrival.moment) (sym now_is)
+        (after_moment t.accepted message arrival.moment (may_follow come.allocator) by));
   }
 
   serves_again : Serves n log then_t.accepted (id_after next) then_t
@@ -182,9 +189,12 @@ module _ (n : ℕ) (log : List Entry) (accepted : List Accepted) (next : ℕ) (t
     told = ap (λ (r : StepResult). r.step_state.allocator.raft_server.memory.told) exactly ∙ (before.told ∙ s.told);
   }
 
--- the node ID that stands there
+-- the node ID that stands there, and the log is as it was
+abbrev pub FitsKnown : (log : List Entry) (given : ℕ) → ℕ → List Entry → Type 0
+FitsKnown log given node then_log = (node ≡ given) × (then_log ≡ log)
+
 pub gives_known : (n : ℕ) (log : List Entry) (uid : List ℕ) (preferred node : ℕ) → length uid ≡ 16 → HasPair log uid node → IsInjective log
-    → Gives (λ given. given ≡ node) n log uid preferred
+    → Gives (FitsKnown log node) n log uid preferred
 gives_known n log uid preferred node whole_uid p injective = record {
   whole = whole_uid;
   gives = λ accepted next t s number arrival later request whole room.
@@ -195,7 +205,7 @@ gives_known n log uid preferred node whole_uid p injective = record {
         node = node;
         least = subst (λ (k : ℕ). 1 ≤ k) p.its_node p.pair.least;
         most = subst (λ (k : ℕ). k ≤ 125) p.its_node p.pair.most;
-        fits = refl;
+        fits = (refl, refl);
         then_log = log;
         then_accepted = (step t number (Rx arrival)).step_state.allocator.accepted;
         serves = serves_again n log accepted next t s number arrival message uid preferred node there.place later request whole (not_zeros uid device)

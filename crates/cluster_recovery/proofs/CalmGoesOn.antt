@@ -92,12 +92,12 @@ one_less_left (f ∷ frames) some =
 
 -- ---- of a member and of a device
 
-member_next : (status : MemberStatus) → queue_of status ≢ [] → is_some (next_frame status) ≡ true
+pub member_next : (status : MemberStatus) → queue_of status ≢ [] → is_some (next_frame status) ≡ true
 member_next Down some = absurd (some refl)
 member_next (Up t) some = some_next t.queue some
 member_next (Failed failure) some = absurd (some refl)
 
-member_less : (status : MemberStatus) → queue_of status ≢ [] → suc (length (queue_of (after_sending status))) ≡ length (queue_of status)
+pub member_less : (status : MemberStatus) → queue_of status ≢ [] → suc (length (queue_of (after_sending status))) ≡ length (queue_of status)
 member_less Down some = absurd (some refl)
 member_less (Up t) some = one_less_left t.queue some
 member_less (Failed failure) some = absurd (some refl)
@@ -142,17 +142,18 @@ unfolding step
 receipt_keeps row w k moment word None = refl
 receipt_keeps row w k moment word (Some d) = after_heard word (answer_to d (arrival_at (frame_at w.frames k) moment)) (at_moment moment d.asking)
 
+-- frames do not wait too long behind a row that came in time
+pub waits_fine : (delay at since : ℕ) (before then_ : List Queued) → (before ≢ [] → at ≤ since + delay) → then_ ≢ [] → at ≤ waits_after at since before then_ + delay
+waits_fine delay at since [] then_ h some = omega arith
+waits_fine delay at since (f ∷ fs) [] h some = absurd (some refl)
+waits_fine delay at since (f ∷ fs) (g ∷ gs) h some = h (λ e. let l = ap length e in absurd (omega (arith, l)))
+
 -- ---- rows go on
 
 module _ (n a : ℕ) (clocks : Clocks) (pace : Pace) where
   -- at the moment of the last row no time is exceeded
   abbrev pub Fine : Traffic → Cluster → Type 0
   Fine traffic w = IsInTime n a clocks pace traffic w traffic.at
-
-  waits_fine : (at since : ℕ) (before then_ : List Queued) → (before ≢ [] → at ≤ since + pace.delay) → then_ ≢ [] → at ≤ waits_after at since before then_ + pace.delay
-  waits_fine at since [] then_ h some = omega arith
-  waits_fine at since (f ∷ fs) [] h some = absurd (some refl)
-  waits_fine at since (f ∷ fs) (g ∷ gs) h some = h (λ e. let l = ap length e in absurd (omega (arith, l)))
 
   late_drop : (at : ℕ) (ways : List OnItsWay) → NoneIsLate at pace.delay ways → NoneIsLate at pace.delay (drop 1 ways)
   late_drop at [] h = tt
@@ -209,8 +210,8 @@ module _ (n a : ℕ) (clocks : Clocks) (pace : Pace) where
   fine_after traffic w timed h = record {
     moments = omega arith;
     ticks = ticks_fine timed.at traffic.ticked timed.row h.ticks;
-    allocator_sends = waits_fine timed.at traffic.allocator_waits (queue_of (w.member n).status) (queue_of ((after_row w timed.row).member n).status) h.allocator_sends;
-    device_sends = waits_fine timed.at traffic.device_waits (queue_at (w.allocatee a)) (queue_at ((after_row w timed.row).allocatee a)) h.device_sends;
+    allocator_sends = waits_fine pace.delay timed.at traffic.allocator_waits (queue_of (w.member n).status) (queue_of ((after_row w timed.row).member n).status) h.allocator_sends;
+    device_sends = waits_fine pace.delay timed.at traffic.device_waits (queue_at (w.allocatee a)) (queue_at ((after_row w timed.row).allocatee a)) h.device_sends;
     allocator_hears = allocator_fine timed.at w timed.row traffic.to_allocator h.allocator_hears;
     device_hears = device_fine timed.at w timed.row traffic.to_device h.device_hears;
   }

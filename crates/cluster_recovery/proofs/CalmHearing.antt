@@ -24,8 +24,8 @@ use Rattle.transfer_rx.proofs.Earlier.{Parts, frame_parts}
 use Rattle.transfer_rx.proofs.Found.{session_of-filter}
 use Rattle.transfer_tx.specs.Queue.{Queued, marked}
 use Rattle.allocatee.specs.Accepted.{rows, setting}
-use Rattle.cluster_recovery.proofs.CalmQueue.{AreAll}
 use Rattle.cluster_recovery.proofs.Hearing.{HearingLaws}
+use Rattle.cluster_recovery.proofs.Sending.{AreOf, marked_of}
 use Rattle.cluster_recovery.proofs.Receiving.{AreOfKey, GivesNone, HasOnly, all_of_key, gives_none, has_blocks, keeps, only_run}
 
 -- a frame as it comes at a moment
@@ -130,7 +130,7 @@ module _ (laws : HearingLaws) (n : ℕ) (low_id : 1 ≤ n) (high_id : n ≤ 125)
   own_frame frame moment e = is_own setting wanted_of_it (coming frame moment) (wants frame.id e) refl
 
   -- and all that came
-  pub own_all : (low high : ℕ) (frames : List Queued) (xs : List Arrival) → AreAll number_of_it frames → Came low high frames xs → AreOfKey setting key_of_it xs
+  pub own_all : (low high : ℕ) (frames : List Queued) (xs : List Arrival) → AreOf number_of_it frames → Came low high frames xs → AreOfKey setting key_of_it xs
   own_all low high [] [] are came = tt
   own_all low high [] (x ∷ xs) are came = absurd came
   own_all low high (frame ∷ frames) [] are came = absurd came
@@ -140,10 +140,6 @@ module _ (laws : HearingLaws) (n : ℕ) (low_id : 1 ≤ n) (high_id : n ≤ 125)
   )
 
   -- ---- what the frames are
-
-  all_its : (number place : ℕ) (pieces : List Piece) → AreAll number_of_it (marked number_of_it number 0 place pieces)
-  all_its number place [] = tt
-  all_its number place (piece ∷ pieces) = (refl, all_its number (suc place) pieces)
 
   module _ (number id : ℕ) (small : id < 32) where
     read_all : (low high place : ℕ) (pieces : List Piece) (xs : List Arrival) → HaveId id pieces
@@ -187,8 +183,8 @@ module _ (laws : HearingLaws) (n : ℕ) (low_id : 1 ≤ n) (high_id : n ≤ 125)
       frames_of_it = marked number_of_it number 0 0 pieces_of_it
 
       -- they have its identifier
-      pub all_of_it : AreAll number_of_it frames_of_it
-      all_of_it = all_its number 0 pieces_of_it
+      pub all_of_it : AreOf number_of_it frames_of_it
+      all_of_it = marked_of number_of_it number 0 0 pieces_of_it
 
       parts : Parts id 0 pieces_of_it
       parts = frame_parts allocation.signature id payload
@@ -205,7 +201,7 @@ module _ (laws : HearingLaws) (n : ℕ) (low_id : 1 ≤ n) (high_id : n ≤ 125)
       module _ (low high last : ℕ) (soon : high ≤ low + 2000) (by : high ≤ last) (sessions : List Session) (awaits : AwaitsBy key_of_it last id sessions) where
         -- one that another comes behind gives nothing
         pub gives_nothing : (front : List Queued) (frame other : Queued) (more : List Queued) (heard : List Arrival) (moment : ℕ)
-            → frames_of_it ≡ front ++ frame ∷ (other ∷ more) → frame.id ≡ number_of_it → AreAll number_of_it front → Came low high front heard
+            → frames_of_it ≡ front ++ frame ∷ (other ∷ more) → frame.id ≡ number_of_it → AreOf number_of_it front → Came low high front heard
             → GivesNone (answer setting (run setting sessions heard) (coming frame moment))
         gives_nothing front frame other more heard moment cut own are came =
             gives_none setting (run setting sessions heard) (coming frame moment) key_of_it (own_frame frame moment own)
@@ -214,7 +210,7 @@ module _ (laws : HearingLaws) (n : ℕ) (low_id : 1 ≤ n) (high_id : n ≤ 125)
             (ap (λ (l : List Piece). marked number_of_it number 0 0 l) (sym parts.all) ∙ cut))
 
         module _ (front : List Queued) (frame : Queued) (heard : List Arrival) (moment : ℕ) (cut : frames_of_it ≡ front ++ frame ∷ [])
-            (own : frame.id ≡ number_of_it) (are : AreAll number_of_it front) (came : Came low high front heard) (after_it : low ≤ moment) (before : moment ≤ high) where
+            (own : frame.id ≡ number_of_it) (are : AreOf number_of_it front) (came : Came low high front heard) (after_it : low ≤ moment) (before : moment ≤ high) where
           abbrev last_one : Arrival
           last_one = coming frame moment
 

@@ -47,7 +47,7 @@ ids_kept w (ARx b k ms word) = refl
 ids_kept w (ASend b) = refl
 ids_kept w (AEnd b) = refl
 
-can_go : (o : Option Queued) → is_some o ≡ true → nothing_to_send o ≡ None
+pub can_go : (o : Option Queued) → is_some o ≡ true → nothing_to_send o ≡ None
 can_go None some = absurd (cc (some))
 can_go (Some frame) some = refl
 
@@ -80,7 +80,7 @@ module _ (n a : ℕ) (at_place : is_place a ≡ true) (w : Cluster) (ids : w.ids
       refuses_not : arrival_refusal_at (w.allocatee a) (arrival_at (frame_at w.frames k) ms) ≡ None
       refuses_not = (λ i. arrival_refusal_at (there i) (arrival_at (is i) ms)) ∙ ap cause_of_judgement fine
 
-module _ (laws : CalmLaws) (n a : ℕ) (low : 1 ≤ n) (high : n ≤ 125) (uid : List ℕ) (preferred : ℕ) (few : preferred < 128) (log : List Entry) (Fits : ℕ → Type 0)
+module _ (laws : CalmLaws) (n a : ℕ) (low : 1 ≤ n) (high : n ≤ 125) (uid : List ℕ) (preferred : ℕ) (few : preferred < 128) (log : List Entry) (Fits : ℕ → List Entry → Type 0)
     (place : GivesPair Fits n log uid preferred) (start : ℕ) (clocks : Clocks) (pace : Pace) (quick : pace.period + 4 * pace.delay ≤ 100) where
   module _ (at_place : is_place a ≡ true) (traffic : Traffic) (w : Cluster) (ids : w.ids ≡ n ∷ []) (at : ℕ) (in_time : IsInTime n a clocks pace traffic w at) where
     -- a NodeStatus may come to the device

@@ -1,18 +1,15 @@
 -- A request is on the bus, and comes to the allocator, which answers it.
 use Rattle.std.proofs.Common.{◌≡◌, ℕ, zero, suc, ◌+◌, ◌*◌, ◌<◌, ◌≤◌, true, false, List, [], ◌∷◌, ◌++◌, append_assoc, length, length-append, length-take, take, drop, inl, inr, refl, sym, ◌∙◌, ap, subst, arith, None, Some}
-use Rattle.std.specs.Prelude.{is_some, nat_eq}
+use Rattle.std.specs.Prelude.{nat_eq}
 use Rattle.std.proofs.lemmas.Bool.Decides.{leb_tells}
-use Rattle.alloc_exchange.specs.Exchange.{Accepted, after}
+use Rattle.alloc_exchange.specs.Exchange.{Accepted, after, last_moment}
 use Rattle.can_frame.specs.declared.entry.Entry.{Entry}
 use Rattle.can_frame.specs.declared.step.What.TheVariants.{Alloc}
-use Rattle.can_frame.specs.Cutting.{Piece, frame_count, frames_of}
-use Rattle.can_frame.specs.DataTypes.{allocation}
+use Rattle.can_frame.specs.Cutting.{frame_count}
 use Rattle.replay_text.specs.declared.row.Row.{Row}
-use Rattle.replay_text.specs.declared.row.Row.TheVariants.{ARx, ATick, Rx, Send, Tick}
-use Rattle.transfer_tx.specs.Queue.{Queued, marked, queued_frames}
+use Rattle.replay_text.specs.declared.row.Row.TheVariants.{Rx}
+use Rattle.transfer_tx.specs.Queue.{Queued, queued_frames}
 use Rattle.transfer_tx.specs.Run.{of_identifier}
-use Rattle.allocatee.specs.Allocatee.{Device, after_reading, after_receiver_answer, step}
-use Rattle.allocatee.specs.Allocatee as device
 use Rattle.alloc_spec.specs.AllocatorState.{AllocatorState}
 use Rattle.alloc_spec.specs.Exchange.{allocation_payload}
 use Rattle.alloc_spec.specs.Step.{after_pop, at_moment}
@@ -24,42 +21,34 @@ use Rattle.cluster_progress.specs.Requests.{IsRequest}
 use Rattle.cluster_progress.proofs.FollowUps.{same_number}
 use Rattle.allocatee.proofs.Requests.{le_is}
 use Rattle.cluster_recovery.specs.Calm.{Clocks, IsCalmRow, IsInTime, IsNext, NoneIsLate, OnItsWay, Pace, Traffic, queue_of, traffic_after}
-use Rattle.cluster_recovery.proofs.CalmDevice.{device_as, ticks_quietly}
-use Rattle.cluster_recovery.proofs.CalmQueue.{AreAll, of_both}
+use Rattle.cluster_recovery.proofs.CalmDevice.{device_as}
+use Rattle.cluster_recovery.proofs.CalmQueue.{of_both}
 use Rattle.cluster_recovery.proofs.CalmRequests.{HasAnswered, follow_up_waits, serves_on}
 use Rattle.cluster_recovery.proofs.CalmRest.{FewWait, Serves}
-use Rattle.cluster_recovery.proofs.CalmSide.{AreItsFrames, carry_more, it, its_both, room_now, side_sends, waits_before}
-use Rattle.cluster_recovery.proofs.CalmStages.{Right, by_rows, common_gets, common_kept, common_sends, common_ticks, device_steps, has_not_passed, known_of, request_of}
+use Rattle.cluster_recovery.proofs.CalmSide.{AreItsFrames, it, its_both, room_now, waits_before}
+use Rattle.cluster_recovery.proofs.CalmStages.{Right, by_rows, known_of, request_of}
 use Rattle.cluster_recovery.proofs.Members.{IsUp, steps_up}
 use Rattle.cluster_recovery.proofs.Scenes.{own_is}
+use Rattle.cluster_recovery.proofs.Sending.{AreOf, frames_of_one}
 use Rattle.cluster_spec.specs.Cluster.{Cluster, after_row, arrival_at, frame_at, receipt_of}
-use Rattle.cluster_spec.specs.Members.{member_after_step, next_frame}
+use Rattle.cluster_spec.specs.Members.{member_after_step}
 use Rattle.cluster_recovery.proofs.CalmGiving.{Gives as GivesPair, few_frames}
-use Rattle.cluster_recovery.proofs.CalmPhases.{CalmLaws, IsOnBus, Next, Outcome, SinceBy, CommonOf, device_ignores, its_request, key, nothing_sent, status_of_kind}
+use Rattle.cluster_recovery.proofs.CalmPending.{Pends, pends}
+use Rattle.cluster_recovery.proofs.CalmPhases.{CalmLaws, IsOnBus, Next, Outcome, SinceBy, CommonOf, its_request, nothing_sent}
 
-all_of : (id : ℕ) (frames : List Queued) → AreAll id frames → of_identifier id frames ≡ frames
+all_of : (id : ℕ) (frames : List Queued) → AreOf id frames → of_identifier id frames ≡ frames
 all_of id [] are = refl
 all_of id (f ∷ fs) are = let z : nat_eq f.id id ≡ true = ap (λ (k : ℕ). nat_eq k id) are.0 ∙ same_number id in
     rw (z) (ap (λ (l : List Queued). f ∷ l) (all_of id fs are.1))
 
-all_its_own : (n : ℕ) (frames : List Queued) → AreAll (it n) frames → AreItsFrames n frames
+all_its_own : (n : ℕ) (frames : List Queued) → AreOf (it n) frames → AreItsFrames n frames
 all_its_own n [] are = tt
 all_its_own n (f ∷ fs) are = (inl are.0, all_its_own n fs are.1)
-
--- the frames of an Allocation have its identifier
-all_marked : (id number place : ℕ) (pieces : List Piece) → AreAll id (marked id number 0 place pieces)
-all_marked id number place [] = tt
-all_marked id number place (piece ∷ pieces) = (refl, all_marked id number (suc place) pieces)
-
--- and those that are queued
-pub all_queued : (n number next : ℕ) (payload : List ℕ) → AreAll (it n) (queued_frames (outgoing n Alloc 0 next payload) number 0)
-unfolding queued_frames
-all_queued n number next payload = all_marked (it n) number 0 (frames_of allocation.signature next payload)
 
 some_frame : (count : ℕ) → 1 ≤ frame_count count
 some_frame count = elim (leb_tells count 7) [ inl z ↦ rw (z.0) (omega arith) | inr z ↦ rw (z.0) (omega (arith, z.1)) ]
 
-module _ (laws : CalmLaws) (n a : ℕ) (low : 1 ≤ n) (high : n ≤ 125) (uid : List ℕ) (preferred : ℕ) (few : preferred < 128) (log : List Entry) (Fits : ℕ → Type 0)
+module _ (laws : CalmLaws) (n a : ℕ) (low : 1 ≤ n) (high : n ≤ 125) (uid : List ℕ) (preferred : ℕ) (few : preferred < 128) (log : List Entry) (Fits : ℕ → List Entry → Type 0)
     (place : GivesPair Fits n log uid preferred) (start : ℕ) (clocks : Clocks) (pace : Pace) (quick : pace.period + 4 * pace.delay ≤ 100) where
   none_since : (last : ℕ) (frames : List Queued) (ways : List OnItsWay) (fs : List Queued) → of_identifier (it n) fs ≡ [] → SinceBy laws n a low high uid preferred few log Fits place start clocks pace quick last ways fs
   none_since last frames [] fs none = tt
@@ -122,39 +111,11 @@ module _ (laws : CalmLaws) (n a : ℕ) (low : 1 ≤ n) (high : n ≤ 125) (uid :
       }))),
     )
 
-    on_tick : (word : ℕ) → Goal (Tick n (at + clocks.allocator) word)
-    on_tick word = still (Tick n (at + clocks.allocator) word)
-        (common_ticks n a high uid place.whole preferred log start clocks pace (key laws n a low high uid preferred few log Fits place start clocks pace quick) j p.due p.sessions traffic w p.common at later word end)
-        p.moment p.there read_on p.way_is p.number.1 p.frame_is_it
-
-    on_send : is_some (next_frame (w.member n).status) ≡ true → Goal (Send n)
-    on_send some =
-        let s = side_sends n a start high clocks log p.common.accepted p.common.next p.common.stages [] p.common.server p.common.flying traffic w p.common.side at later some in
-        let m = carry_more w.frames (p.way ∷ []) (p.frame ∷ []) s.0 (p.number.0, p.number.1, p.frame_is_it, tt) in
-        still (Send n)
-        (common_sends n a high uid place.whole preferred log start clocks pace (key laws n a low high uid preferred few log Fits place start clocks pace quick) j p.due p.sessions traffic w p.common at later some)
-        p.moment p.there read_on p.way_is
-        (subst (λ (l : List Queued). p.way.number ≤ length l) (sym s.1.frames) m.1)
-        (ap (λ (l : List Queued). frame_at l p.way.number) s.1.frames ∙ m.2)
-
-    on_frame : (k word : ℕ) → IsNext k traffic.to_device → Goal (ARx a k (at + clocks.device) word)
-    on_frame k word is =
-        let g = common_gets n a high uid place.whole preferred log start clocks pace (key laws n a low high uid preferred few log Fits place start clocks pace quick) j p.due p.sessions traffic w p.common at later k word is in
-        still (ARx a k (at + clocks.device) word) g.2 (at + clocks.device)
-        (device_ignores laws n a low high uid preferred few log Fits place start clocks pace quick w [] p.id p.moment p.request None p.sessions k (at + clocks.device) word g.0.frame p.there g.0.frame_is_it
-        (status_of_kind laws n a low high uid preferred few log Fits place start clocks pace quick g.0.frame g.0.kind g.1) read_on)
-        (omega arith) p.way_is p.number.1 p.frame_is_it
-
-    on_read : (word : ℕ) → Goal (ATick a (at + clocks.device) word)
-    on_read word = still (ATick a (at + clocks.device) word)
-        (common_kept n a high uid place.whole preferred log start clocks pace (key laws n a low high uid preferred few log Fits place start clocks pace quick) j p.due p.sessions traffic w p.common at later
-        (ATick a (at + clocks.device) word) refl p.common.side.carry)
-        (at + clocks.device)
-        (device_steps w a (device.Tick (at + clocks.device) word) (device_as uid preferred [] p.id p.moment p.request None p.sessions)
-        (device_as uid preferred [] p.id (at + clocks.device) p.request None p.sessions) p.there
-        (ticks_quietly uid preferred p.id p.moment (at + clocks.device) read_on p.request p.sessions (w.rows + 1) word [] None refl
-        (has_not_passed (at + clocks.device) p.request (let b = by in let q = p.quiet.0 in omega (arith, b, q, quick)) (inr p.quiet.1))))
-        (omega arith) p.way_is p.number.1 p.frame_is_it
+    pending : Pends laws n a low high uid preferred few log Fits place start clocks pace quick j p.due p.sessions traffic w p.common [] p.id p.moment p.request p.there p.read at later end
+        (let b = by in let q = p.quiet.0 in omega (arith, b, q, quick)) p.quiet.1 Goal
+    pending = pends laws n a low high uid preferred few log Fits place start clocks pace quick j p.due p.sessions traffic w p.common [] p.id p.moment p.request p.there p.read at later end
+        (let b = by in let q = p.quiet.0 in omega (arith, b, q, quick)) p.quiet.1 Goal
+        (λ row common moment there read same frames. let f = frames p.way.number p.number.0 p.number.1 in still row common moment there read (same ∙ p.way_is) f.0 (f.1 ∙ p.frame_is_it))
 
     -- ---- it comes to the allocator
 
@@ -207,6 +168,7 @@ module _ (laws : CalmLaws) (n a : ℕ) (low : 1 ≤ n) (high : n ≤ 125) (uid :
           flying_its = c.side.flying_its;
           queue_its = subst (AreItsFrames n) (sym has.queue) (its_both n c.server.queue answer_frames c.side.queue_its (all_its_own n answer_frames all_its));
           clock = let e = has.now in omega (arith, e);
+          requests = requests_then;
           since = let s = c.side.since in let l = later in omega (arith, s, l);
           waits = waits_before at traffic.allocator_waits (queue_of (w.member n).status) (queue_of ((after_row w (Rx n k moment_then)).member n).status)
               (let v = c.side.waits in let l = later in omega (arith, v, l));
@@ -248,8 +210,12 @@ module _ (laws : CalmLaws) (n a : ℕ) (low : 1 ≤ n) (high : n ≤ 125) (uid :
         answer_frames : List Queued
         answer_frames = queued_frames (outgoing n Alloc 0 c.next (allocation_payload node bytes)) (w.rows + 1) 0
 
-        all_its : AreAll (it n) answer_frames
-        all_its = all_queued n (w.rows + 1) c.next (allocation_payload node bytes)
+        requests_then : last_moment accepted ≤ moment_then
+        requests_then = subst (λ (l : List Accepted). last_moment l ≤ moment_then) serves.accepts
+            (has.requests (subst (λ (l : List Accepted). last_moment l ≤ moment_then) (sym c.side.serves.accepts) (let r = c.side.requests in let l = later in omega (arith, r, l))))
+
+        all_its : AreOf (it n) answer_frames
+        all_its = frames_of_one (outgoing n Alloc 0 c.next (allocation_payload node bytes)) (w.rows + 1) 0
 
         at_it : frame_at w.frames k ≡ p.frame
         at_it = let e : IsNext k (p.way ∷ []) = subst (IsNext k) p.way_is is in ap (λ (m : ℕ). frame_at w.frames m) e ∙ p.frame_is_it
@@ -310,5 +276,5 @@ module _ (laws : CalmLaws) (n a : ℕ) (low : 1 ≤ n) (high : n ≤ 125) (uid :
 
     -- each row leaves a phase
     pub on_bus_goes_on : (row : Row) → IsCalmRow n a clocks pace traffic w at row → Goal row
-    on_bus_goes_on row calm = by_rows n a clocks pace traffic w at Goal on_tick on_request on_send on_read on_frame
+    on_bus_goes_on row calm = by_rows n a clocks pace traffic w at Goal pending.tick on_request pending.send pending.read pending.frame
         (λ some. absurd (nothing_sent laws n a low high uid preferred few log Fits place start clocks pace quick w (device_as uid preferred [] p.id p.moment p.request None p.sessions) p.there refl some)) row calm

@@ -35,12 +35,12 @@ use Rattle.cluster_agreement.proofs.Idents.{ident_ok}
 use Rattle.cluster_agreement.specs.Allocatees.{Holds}
 use Rattle.cluster_progress.specs.Devices.{RequestsAreRequests, comes_at}
 use Rattle.cluster_progress.specs.Requests.{IsRequest}
-use Rattle.cluster_recovery.specs.Calm.{Clocks, IsCalmRow, IsInTime, IsNext, OnItsWay, Pace, Timed, Traffic, queue_at, traffic_after, waits_after}
+use Rattle.cluster_recovery.specs.Calm.{Clocks, HasSettled, IsCalmRow, IsInTime, IsNext, OnItsWay, Pace, Timed, Traffic, queue_at, traffic_after, waits_after}
 use Rattle.cluster_recovery.proofs.CalmDevice.{asked, asks_first, asks_on, device_as, ignores, request_frames, six_at_most, ticks_quietly}
 use Rattle.cluster_recovery.proofs.Asking.{first_place}
 use Rattle.cluster_recovery.proofs.CalmGiving.{Gives as GivesPair}
 use Rattle.cluster_recovery.proofs.CalmHearing.{AwaitsBy, Came, key_of_it}
-use Rattle.cluster_recovery.proofs.CalmRest.{status_number}
+use Rattle.cluster_recovery.proofs.Leads.{status_number}
 use Rattle.cluster_recovery.proofs.CalmSide.{Side, it}
 use Rattle.cluster_recovery.proofs.CalmStages.{Common, Right, by_rows, common_gets, common_kept, common_sends, common_ticks, device_steps, has_not_passed, has_now_passed, is_first, known_of, request_of}
 use Rattle.cluster_recovery.proofs.Hearing.{HearingLaws}
@@ -60,7 +60,7 @@ pub record CalmLaws : Type 0 where
   pub count : (what : Outgoing) (number re : ℕ) → length (queued_frames what number re) ≡ frame_count (length what.payload.items)
   pub requests : RequestsAreRequests
 
-module _ (laws : CalmLaws) (n a : ℕ) (low : 1 ≤ n) (high : n ≤ 125) (uid : List ℕ) (preferred : ℕ) (few : preferred < 128) (log : List Entry) (Fits : ℕ → Type 0)
+module _ (laws : CalmLaws) (n a : ℕ) (low : 1 ≤ n) (high : n ≤ 125) (uid : List ℕ) (preferred : ℕ) (few : preferred < 128) (log : List Entry) (Fits : ℕ → List Entry → Type 0)
     (place : GivesPair Fits n log uid preferred) (start : ℕ) (clocks : Clocks) (pace : Pace) (quick : pace.period + 4 * pace.delay ≤ 100) where
   -- the identifier of its Allocations is one
   pub its : IsIdentifier (ident_of n Alloc 0)
@@ -151,7 +151,7 @@ module _ (laws : CalmLaws) (n a : ℕ) (low : 1 ≤ n) (high : n ≤ 125) (uid :
 
   -- what comes behind the answer
   abbrev pub Outcome : ℕ → (then_log : List Entry) (accepted : List Accepted) (asked_at node : ℕ) (bytes : List ℕ) → Type 0
-  Outcome zero then_log accepted asked_at node bytes = (bytes ≡ uid) × Fits node × (1 ≤ node) × (node ≤ 125)
+  Outcome zero then_log accepted asked_at node bytes = (bytes ≡ uid) × Fits node then_log × (1 ≤ node) × (node ≤ 125)
   Outcome (suc j) then_log accepted asked_at node bytes = (bytes ≡ take (known_of j) uid) × (then_log ≡ log) × (node ≡ 0)
       × Right uid place.whole preferred j accepted (asked_at + clocks.allocator) (asked_at + clocks.allocator + 500)
 
@@ -177,7 +177,7 @@ module _ (laws : CalmLaws) (n a : ℕ) (low : 1 ≤ n) (high : n ≤ 125) (uid :
     pub side : Side n a start high clocks then_log accepted (id_after next) (suc stages) rest server flying traffic w
     pub outcome : Outcome j then_log accepted asked_at node bytes
     pub next_small : next < 32
-    pub few_stages : stages + j ≤ 2
+    pub few_stages : stages + j ≤ 3
     pub node_small : node < 128
     pub short : length bytes ≤ 16
     pub id : ℕ
@@ -206,13 +206,13 @@ module _ (laws : CalmLaws) (n a : ℕ) (low : 1 ≤ n) (high : n ≤ 125) (uid :
   abbrev pub Phase : Traffic → Cluster → Type 0
   Phase traffic w = (j : ℕ) × (j ≤ 2) × (IsWaiting j traffic w ⊎ (HasAsked j traffic w ⊎ (IsOnBus j traffic w ⊎ IsAnswering j traffic w)))
 
-  -- the device holds such a node ID
-  abbrev pub Served : Cluster → Type 0
-  Served w = (node : ℕ) × Fits node × Holds w a uid node
+  -- the device holds such a node ID, and the allocator has settled with its pair
+  abbrev pub Served : (moment : ℕ) → Cluster → Type 0
+  Served moment w = (node : ℕ) × (then_log : List Entry) × Fits node then_log × Holds w a uid node × HasSettled n then_log (moment + clocks.allocator) w
 
   -- what a row leaves
   abbrev pub Next : Traffic → Cluster → Timed → Type 0
-  Next traffic w timed = Phase (traffic_after n a traffic w timed) (after_row w timed.row) ⊎ Served (after_row w timed.row)
+  Next traffic w timed = Phase (traffic_after n a traffic w timed) (after_row w timed.row) ⊎ Served timed.at (after_row w timed.row)
 
   -- ---- small facts
 

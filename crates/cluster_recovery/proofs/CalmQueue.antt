@@ -1,6 +1,6 @@
 -- Frames that wait, go out, and are on their way, by their identifier.
 use Rattle.std.proofs.Common.{◌≡◌, ℕ, List, [], ◌∷◌, ◌++◌, append-nil, append_assoc, sym, ◌∙◌, ap, Option, Some}
-use Rattle.std.specs.Prelude.{⊤, nat_eq, option_to_list}
+use Rattle.std.specs.Prelude.{nat_eq, option_to_list}
 use Rattle.std.proofs.lemmas.List.Elements.{filter-append}
 use Rattle.transfer_tx.specs.Queue.{Queued, left_behind, next_out}
 use Rattle.transfer_tx.specs.Run.{of_identifier}
@@ -22,8 +22,3 @@ goes_out id way queue frame out =
     popped : of_identifier id (frame ∷ left_behind queue) ≡ of_identifier id queue
     popped = ap (λ (o : Option Queued). of_identifier id ((option_to_list o ++ []) ++ left_behind queue)) (sym out)
         ∙ (in_order id queue (Pops ∷ []) ∙ ap (of_identifier id) (append-nil queue))
-
--- the frames are all of this identifier
-abbrev pub AreAll : ℕ → List Queued → Type 0
-AreAll id [] = ⊤
-AreAll id (frame ∷ frames) = (frame.id ≡ id) × AreAll id frames

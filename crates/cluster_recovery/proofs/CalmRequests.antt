@@ -1,10 +1,10 @@
 -- What an allocator that is alone does with a request, whatever waits in its queue.
 use Rattle.std.proofs.Common.{◌≡◌, ℕ, ◌+◌, ◌<◌, ◌≤◌, Bool, true, false, List, [], ◌∷◌, ◌++◌, length, length-append, inl, inr, refl, sym, ◌∙◌, ap, subst, arith, None}
-use Rattle.std.specs.Prelude.{◌||◌, if◌then◌else◌, nat_eq, slice_index_or}
+use Rattle.std.specs.Prelude.{◌&&◌, ◌||◌, if◌then◌else◌, nat_eq, nat_lt, slice_index_or}
 use Rattle.std.proofs.Math.Seq.{get_or-append_seam}
 use Rattle.alloc_exchange.specs.declared.heard.Heard.{Heard}
 use Rattle.alloc_exchange.specs.declared.heard.Heard.TheVariants.{FollowUp, Whole}
-use Rattle.alloc_exchange.specs.Exchange.{Accepted, after, answer}
+use Rattle.alloc_exchange.specs.Exchange.{Accepted, after, answer, has_length, is_expected, is_whole, last_moment, left_over, recent_requests, with_request as with_one_more}
 use Rattle.can_frame.specs.declared.entry.Entry.{Entry}
 use Rattle.can_frame.specs.declared.step.What.TheVariants.{Alloc}
 use Rattle.can_frame.specs.Log.{blank}
@@ -32,7 +32,7 @@ use Rattle.alloc_spec.specs.Step.Event.{Rx}
 use Rattle.alloc_spec.specs.StepState.{StepState, with_moves, with_transfer}
 use Rattle.alloc_spec.specs.Transfers.{has_room, id_after, outgoing}
 use Rattle.alloc_spec.specs.Outbox.{counted_if}
-use Rattle.alloc_spec_laws.proofs.Choices.{tell}
+use Rattle.alloc_spec_laws.proofs.Choices.{either, tell}
 use Rattle.cluster_progress.specs.Requests.{IsRequest, moment_at}
 use Rattle.cluster_progress.specs.Serving.{FollowsUp, IsReady, MayRecord}
 use Rattle.cluster_progress.proofs.Alone.{last_entry, lt_is, one_longer, to_the_end}
@@ -40,7 +40,7 @@ use Rattle.cluster_progress.proofs.Begins.{IsAsBefore}
 use Rattle.cluster_progress.proofs.FollowUps.{begun, gives, may, same_follow, step_is, when_come}
 use Rattle.cluster_progress.proofs.Records.{records_there, when_recorded}
 use Rattle.cluster_recovery.proofs.CalmRest.{Serves, lists_itself, offline_later}
-use Rattle.cluster_recovery.proofs.Serving.{quiet_end}
+use Rattle.cluster_recovery.proofs.Leads.{calls_nobody, quiet_end}
 
 -- it is ready for requests
 pub ready : (n : ℕ) (log : List Entry) (accepted : List Accepted) (next : ℕ) (t : AllocatorState) → Serves n log accepted next t → IsReady t
@@ -50,11 +50,27 @@ all_told : (n : ℕ) (log : List Entry) (accepted : List Accepted) (next : ℕ) 
     → t.raft_server.memory.told ≡ t.raft_server.store.commit
 all_told n log accepted next t s = s.told ∙ sym s.committed
 
+-- no request was accepted later than now, behind one more
+left_moment : (accepted : List Accepted) (message : Allocation) (now : ℕ) (may : Bool) → last_moment (left_over (with_one_more accepted message now) may) ≤ now
+left_moment accepted message now may = either (λ (l : List Accepted). last_moment l ≤ now) (is_whole (with_one_more accepted message now)) [] (if may then with_one_more accepted message now else [])
+    (λ e. omega arith)
+    (λ e. either (λ (l : List Accepted). last_moment l ≤ now) may (with_one_more accepted message now) [] (λ f. omega arith) (λ f. omega arith))
+
+recent_moment : (accepted : List Accepted) (now : ℕ) → last_moment accepted ≤ now → last_moment (recent_requests accepted now) ≤ now
+recent_moment accepted now by = either (λ (l : List Accepted). last_moment l ≤ now) (nat_lt (last_moment accepted + 500) now) [] accepted (λ e. omega arith) (λ e. by)
+
+pub after_moment : (accepted : List Accepted) (message : Allocation) (now : ℕ) (may : Bool) → last_moment accepted ≤ now → last_moment (after accepted message now may) ≤ now
+unfolding after
+after_moment accepted message now may by = let recent : List Accepted = recent_requests accepted now in
+    either (λ (l : List Accepted). last_moment l ≤ now) (has_length message && is_expected recent message) (left_over (with_one_more recent message now) may) recent
+    (λ e. left_moment recent message now may) (λ e. recent_moment accepted now by)
+
 -- what the answer to a request leaves: the frames of an Allocation behind those that wait
 pub record HasAnswered (n : ℕ) (t : AllocatorState) (moment next number node : ℕ) (bytes : List ℕ) (u : AllocatorState) : Type 0 where
   pub now : u.now ≡ moment
   pub queue : u.queue ≡ t.queue ++ queued_frames (outgoing n Alloc 0 next (allocation_payload node bytes)) number 0
   pub status : u.status_at ≡ t.status_at
+  pub requests : last_moment t.accepted ≤ moment → last_moment u.accepted ≤ moment
 
 -- ---- a follow-up
 
@@ -106,6 +122,8 @@ module _ (n : ℕ) (log : List Entry) (accepted : List Accepted) (next : ℕ) (t
         ∙ (ap (λ (b : Bool). if b then t.queue ++ queued_frames (outgoing t.me Alloc 0 t.ids.alloc (allocation_payload 0 bytes)) number 0 else t.queue) room
         ∙ (λ i. t.queue ++ queued_frames (outgoing (s.me i) Alloc 0 (s.id i) (allocation_payload 0 bytes)) number 0));
     status = ap (λ (r : StepResult). r.step_state.allocator.status_at) exactly;
+    requests = λ by. subst (λ (l : List Accepted). last_moment l ≤ arrival.moment) (sym gives_it.accepted)
+        (subst (λ (m : ℕ). last_moment (after t.accepted message m true) ≤ arrival.moment) (sym now_is) (after_moment t.accepted message arrival.moment true by));
   }
 
   -- and it is at rest again, but for them
@@ -166,12 +184,9 @@ module _ (number : ℕ) (g : StepState) (front : List Entry) (entry : Entry) (h 
       next_one : slice_index_or g.allocator.raft_server.store.log g.allocator.raft_server.memory.told (blank 0) ≡ entry
       next_one = rw (h.log) (rw (h.told) (get_or-append_seam front entry [] (blank 0)))
 
-  calls_nobody : (k : StepState) → members_of k.allocator ≡ k.allocator.me ∷ [] → call_phase number k ≡ k
-  calls_nobody k alone = rw (alone) refl
-
   finishes : end_phase number g ≡ told_one
   finishes = ap (λ (k : StepState). call_phase number (tell_phase number k)) commits
-      ∙ (ap (λ (k : StepState). call_phase number k) tells ∙ calls_nobody told_one h.alone)
+      ∙ (ap (λ (k : StepState). call_phase number k) tells ∙ calls_nobody number told_one h.alone)
 
 module _ (n : ℕ) (log : List Entry) (accepted : List Accepted) (next : ℕ) (t : AllocatorState) (s : Serves n log accepted next t)
     (number : ℕ) (arrival : Arrival) (message : Allocation) (uid : List ℕ) (preferred node : ℕ) (later : t.now ≤ arrival.moment)
@@ -223,6 +238,9 @@ module _ (n : ℕ) (log : List Entry) (accepted : List Accepted) (next : ℕ) (t
         ∙ (ap (λ (b : Bool). if b then t.queue ++ queued_frames (outgoing t.me Alloc 0 t.ids.alloc (allocation_payload node uid)) number 0 else t.queue) room
         ∙ (λ i. t.queue ++ queued_frames (outgoing (s.me i) Alloc 0 (s.id i) (allocation_payload node uid)) number 0));
     status = ap (λ (r : StepResult). r.step_state.allocator.status_at) exactly_so;
+    requests = λ by. subst (λ (r : StepResult). last_moment r.step_state.allocator.accepted ≤ arrival.moment) (sym exactly_so)
+        (subst (λ (m : ℕ). last_moment (after t.accepted message m (may_follow (when_come t number arrival).allocator)) ≤ arrival.moment) (sym at_is)
+        (after_moment t.accepted message arrival.moment (may_follow (when_come t number arrival).allocator) by));
   }
 
   -- and it is at rest again, but for them

@@ -7,8 +7,6 @@ use Rattle.std.proofs.lemmas.List.FromFn.{get_or-map-range_with_len}
 use Rattle.alloc_exchange.specs.Exchange.{Accepted}
 use Rattle.can_frame.specs.declared.entry.Entry.{Entry}
 use Rattle.can_frame.specs.declared.step.What.TheVariants.{Stat}
-use Rattle.can_frame.specs.Cutting.{Piece, frame_bytes, tail_at}
-use Rattle.can_frame.specs.Identifier.{identifier_number}
 use Rattle.cluster_discovery.specs.Members.{Event as Heard_, Heard, Sent, Start, counts, is_due, is_on_list, members, members_with_all, owes}
 use Rattle.dsdl_codec.specs.NodeStatus.{node_status_bytes}
 use Rattle.node_discovery.specs.History.{identity, is_nameless, is_online, is_silent, is_within, last_status}
@@ -19,8 +17,7 @@ use Rattle.raft_model.specs.Moves.{Move}
 use Rattle.raft_model.specs.Moves.Elections.{is_leader}
 use Rattle.raft_model.specs.Server.{Store}
 use Rattle.raft_model.specs.Server.Role.{Leader}
-use Rattle.transfer_tx.specs.Queue.{Queued, marked, queued_frames}
-use Rattle.allocatee.proofs.Requests.{one_piece}
+use Rattle.transfer_tx.specs.Queue.{Queued, queued_frames}
 use Rattle.alloc_spec.specs.AllocatorState.{AllocatorState, is_known, is_recorded, knows_all, known, may_propose, members_of, start_of, status_of}
 use Rattle.alloc_spec.specs.Ending.{end_phase}
 use Rattle.alloc_spec.specs.Step.{all_nodes, at_moment, begin_phase, step}
@@ -33,8 +30,7 @@ use Rattle.alloc_spec_laws.proofs.Choices.{lt_tells, tell}
 use Rattle.allocatee.proofs.Requests.{le_is}
 use Rattle.cluster_progress.proofs.Begins.{IsAsBefore, expired}
 use Rattle.cluster_progress.proofs.LeadsOn.{no_election}
-use Rattle.cluster_recovery.proofs.Leads.{and_false, none_found, same_either}
-use Rattle.cluster_recovery.proofs.Serving.{quiet_end}
+use Rattle.cluster_recovery.proofs.Leads.{and_false, none_found, quiet_end, same_either, status_frame, status_number}
 
 -- ---- who is alone
 
@@ -88,15 +84,42 @@ pub record Serves (n : ℕ) (log : List Entry) (accepted : List Accepted) (next 
   pub committed : t.raft_server.store.commit ≡ length log
   pub told : t.raft_server.memory.told ≡ length log
 
+-- whatever waits in its queue
+pub whatever_waits : (n : ℕ) (log : List Entry) (accepted : List Accepted) (next : ℕ) (t : AllocatorState) (queue : List Queued) → Serves n log accepted next t
+    → Serves n log accepted next (record t { queue = queue })
+whatever_waits n log accepted next t queue s = record {
+  me = s.me;
+  size = s.size;
+  offline = s.offline;
+  discovery = s.discovery;
+  accepts = s.accepts;
+  id = s.id;
+  role = s.role;
+  log_is = s.log_is;
+  committed = s.committed;
+  told = s.told;
+}
+
 -- an allocator that is alone lists itself alone
 pub lists_itself : (t : AllocatorState) → t.size ≡ 1 → members_of t ≡ t.me ∷ []
 lists_itself t size = ap (λ (k : ℕ). members (record { me = t.me; size = k; moment = t.opened_at }) t.heard) size ∙ lists_alone t.me t.opened_at t.heard
 
--- So few frames wait, since it told few NodeStatus since the moment `start`, an interval apart, and this many stages were
--- answered since.
+-- So few frames wait: three for each of so many stages, and a NodeStatus for each second since the moment `start`.
 abbrev pub FewWait : (start stages : ℕ) → AllocatorState → Type 0
 FewWait start stages t = ((t.status_at < start) × (1000 * length t.queue ≤ 3000 * stages))
     ⊎ ((start ≤ t.status_at) × (t.status_at ≤ max t.now start) × (1000 * length t.queue + start ≤ 3000 * stages + 1000 + t.status_at))
+
+-- who is alone, and owes no Discovery, tells none
+pub discovers_nobody : (t : AllocatorState) → t.size ≡ 1 → owes (start_of t) t.heard ≡ false → (number moment : ℕ)
+    → discovery_phase number (begin_phase number moment t) ≡ begin_phase number moment t
+discovers_nobody t size nothing number moment =
+    ap (λ (b : Bool). if b then tells_members number (begin_phase number moment t) else begin_phase number moment t) not_due
+  where
+    complete : knows_all t ≡ true
+    complete = (λ i. nat_eq (length (lists_itself t size i)) (size i))
+
+    not_due : is_due (start_of t) t.heard (max t.now moment) ≡ false
+    not_due = rw (nothing) (rw (complete) refl)
 
 -- ---- nodes that are not online are neither recorded nor asked
 
@@ -126,10 +149,6 @@ module _ (t : AllocatorState) (now : ℕ) (off : (node : ℕ) → is_known t nod
 
 -- ---- a NodeStatus is one frame
 
--- the identifier of its NodeStatus
-abbrev pub status_number : ℕ → ℕ
-status_number n = identifier_number (ident_of n Stat 0)
-
 -- what a step of a tick may put into the queue: nothing, or a NodeStatus
 pub record Tells (n now : ℕ) (t u : AllocatorState) : Type 0 where
   pub frame : Queued
@@ -138,14 +157,10 @@ pub record Tells (n now : ℕ) (t u : AllocatorState) : Type 0 where
   pub late : t.status_at + 1000 ≤ now
   pub at : u.status_at ≡ now
 
-status_frame : (n number id : ℕ) (bytes : List ℕ) → length bytes ≡ 7
-    → (frame : Queued) × (frame.id ≡ status_number n) × (queued_frames (record { ident = ident_of n Stat 0; signature = signature_of Stat; id = id; payload = record { items = bytes } }) number 0 ≡ frame ∷ [])
-unfolding queued_frames
-status_frame n number id bytes size = (
-  record { id = status_number n; bytes = frame_bytes (record { bytes = bytes; tail = tail_at id 0 true }); mark = record { step = number; re = 0; place = 0 } },
-  refl,
-  ap (λ (pieces : List Piece). marked (status_number n) number 0 0 pieces) (one_piece (signature_of Stat) id bytes (omega (arith, size))),
-)
+-- offered frames do not shorten a queue
+pub longer : (fits : Bool) (queue frames : List Queued) → length queue ≤ length (queued_if fits queue frames)
+longer true queue frames = let e = length-append queue frames in omega (arith, e)
+longer false queue frames = omega arith
 
 same_alloc : (fits : Bool) (ids : Ids) → (counted_if fits Stat 0 ids).alloc ≡ ids.alloc
 same_alloc true ids = refl
@@ -227,14 +242,8 @@ module _ (n : ℕ) (log : List Entry) (accepted : List Accepted) (next : ℕ) (t
     off = off_now;
   }
 
-  not_due : is_due (start_of t) t.heard (max t.now moment) ≡ false
-  not_due = rw (s.discovery) (rw (complete) refl)
-    where
-      complete : nat_eq (length (members (start_of t) t.heard)) t.size ≡ true
-      complete = (λ i. nat_eq (length (lists_itself t s.size i)) (s.size i))
-
   discovers : discovery_phase number g ≡ g
-  discovers = ap (λ (b : Bool). if b then tells_members number g else g) not_due
+  discovers = discovers_nobody t s.size s.discovery number moment
 
   -- the step, for each way in which the NodeStatus goes
   ticked : (h : StepState) → status_phase number g ≡ h → Idle h → (step t number (Tick moment word)).step_state ≡ ended (elected h)
@@ -261,13 +270,42 @@ module _ (n : ℕ) (log : List Entry) (accepted : List Accepted) (next : ℕ) (t
     told = ap (λ (x : _). x.memory.told) server ∙ (before.told ∙ s.told);
   }
 
+  abbrev told : StepState
+  told = tells_status number g
+
+  told_idle : Idle told
+  told_idle = record { alone = idle.alone; role = idle.role; committed = idle.committed; told = idle.told; off = idle.off }
+
+  abbrev bytes : List ℕ
+  bytes = node_status_bytes (status_of g.allocator)
+
+  told_serves : Serves n log accepted next (ended (elected told)).allocator
+  told_serves = serves_after told refl refl refl refl refl refl (same_alloc (has_room t.queue bytes) t.ids) refl
+
+  untold_serves : Serves n log accepted next (ended (elected g)).allocator
+  untold_serves = serves_after g refl refl refl refl refl refl refl refl
+
+  -- a tick leaves it so, whether its NodeStatus finds room or not
+  pub record StillServes (u : AllocatorState) : Type 0 where
+    pub serves : Serves n log accepted next u
+    pub now : u.now ≡ moment
+    pub status : (u.status_at ≡ t.status_at) ⊎ (u.status_at ≡ moment)
+    pub queue : length t.queue ≤ length u.queue
+
+  pub ticks_on : StillServes (step t number (Tick moment word)).step_state.allocator
+  ticks_on = elim (leb_tells 1000 (max t.now moment - t.status_at)) [
+    | inl z ↦ subst (λ (k : StepState). StillServes k.allocator) (sym (ticked told (ap (λ (b : Bool). if b then tells_status number g else g) z.0) told_idle))
+        (record { serves = told_serves; now = now_is; status = inr now_is; queue = longer (has_room t.queue bytes) t.queue _ })
+    | inr z ↦ subst (λ (k : StepState). StillServes k.allocator) (sym (ticked g (ap (λ (b : Bool). if b then tells_status number g else g) z.0) idle))
+        (record { serves = untold_serves; now = now_is; status = inl refl; queue = omega arith })
+  ]
+
   -- a tick leaves it at rest
   pub ticks : length t.queue + 1 ≤ 32 → HasTicked (step t number (Tick moment word)).step_state.allocator
   ticks room = elim (leb_tells 1000 (max t.now moment - t.status_at)) [
-    | inl z ↦ subst (λ (k : StepState). HasTicked k.allocator) (sym (ticked told (ap (λ (b : Bool). if b then tells_status number g else g) z.0)
-        (record { alone = idle.alone; role = idle.role; committed = idle.committed; told = idle.told; off = idle.off })))
+    | inl z ↦ subst (λ (k : StepState). HasTicked k.allocator) (sym (ticked told (ap (λ (b : Bool). if b then tells_status number g else g) z.0) told_idle))
         (record {
-          serves = serves_after told refl refl refl refl refl refl (same_alloc (has_room t.queue bytes) t.ids) refl;
+          serves = told_serves;
           now = now_is;
           queue = inr (record {
             frame = made.0;
@@ -279,15 +317,9 @@ module _ (n : ℕ) (log : List Entry) (accepted : List Accepted) (next : ℕ) (t
           });
         })
     | inr z ↦ subst (λ (k : StepState). HasTicked k.allocator) (sym (ticked g (ap (λ (b : Bool). if b then tells_status number g else g) z.0) idle))
-        (record { serves = serves_after g refl refl refl refl refl refl refl refl; now = now_is; queue = inl (refl, refl) })
+        (record { serves = untold_serves; now = now_is; queue = inl (refl, refl) })
   ]
     where
-      told : StepState
-      told = tells_status number g
-
-      bytes : List ℕ
-      bytes = node_status_bytes (status_of g.allocator)
-
       made : (frame : Queued) × (frame.id ≡ status_number n) × (queued_frames (record { ident = ident_of n Stat 0; signature = signature_of Stat; id = t.ids.stat; payload = record { items = bytes } }) number 0 ≡ frame ∷ [])
       made = status_frame n number t.ids.stat bytes refl
 

@@ -12,7 +12,7 @@ use Rattle.allocatee.specs.Allocatee.{Device}
 use Rattle.alloc_spec.specs.AllocatorState.{AllocatorState, start_of}
 use Rattle.cluster_progress.specs.Serving.{with_queue}
 use Rattle.cluster_recovery.specs.Alone.{found}
-use Rattle.cluster_recovery.specs.Calm.{HasComeToRest}
+use Rattle.cluster_recovery.specs.Calm.{HasComeToRest, queue_of}
 use Rattle.cluster_recovery.proofs.Goes.{CanGo, and_then, so}
 use Rattle.cluster_recovery.proofs.Leading.{HasComeToLead, Laws, comes_to_lead}
 use Rattle.cluster_recovery.proofs.Reached.{IsReached}
@@ -31,20 +31,22 @@ module _ (n a : ℕ) (laws : Laws (n ∷ [])) where
         log = l.stored.log;
         grown = l.settled.log;
         rests = record {
-          server = with_queue [] l.server;
-          runs = at.up.status;
-          faults = at.up.quiet.faults;
-          disk = at.up.quiet.calls;
-          leads = l.fresh.role;
-          log_is = l.fresh.log;
-          committed = l.fresh.committed;
-          told = l.fresh.told;
-          sent = refl;
-          clock = let e = l.fresh.now in omega (arith, e);
-          status = let e = l.fresh.status_at in omega (arith, e);
-          requests = let e = ap (λ (accepted : List Accepted). last_moment accepted) l.fresh.accepted in omega (arith, e);
-          known = λ other e. ap (λ (watch : List Watched). is_online (history other watch) l.server.now) l.fresh.watch;
-          discovery = ap (λ (heard : List Heard_). owes (start_of l.server) heard) l.fresh.heard;
+          settled = record {
+            server = with_queue [] l.server;
+            runs = at.up.status;
+            faults = at.up.quiet.faults;
+            disk = at.up.quiet.calls;
+            leads = l.fresh.role;
+            log_is = l.fresh.log;
+            committed = l.fresh.committed;
+            told = l.fresh.told;
+            clock = let e = l.fresh.now in omega (arith, e);
+            status = let e = l.fresh.status_at in omega (arith, e);
+            requests = let e = ap (λ (accepted : List Accepted). last_moment accepted) l.fresh.accepted in omega (arith, e);
+            known = λ other e. ap (λ (watch : List Watched). is_online (history other watch) l.server.now) l.fresh.watch;
+            discovery = ap (λ (heard : List Heard_). owes (start_of l.server) heard) l.fresh.heard;
+          };
+          sent = ap queue_of at.up.status;
         };
       })
     where

@@ -1,64 +1,61 @@
 -- On a calm bus the device is served in time.
-use Rattle.std.proofs.Common.{true, ◌≡◌, ◌⊎◌, ℕ, ◌+◌, ◌*◌, ◌<◌, ◌≤◌, List, [], ◌∷◌, length, inl, inr, refl, sym, ◌∙◌, ap, subst, arith, None, Some}
-use Rattle.std.specs.Prelude.{◌||◌}
+use Rattle.std.proofs.Common.{true, ◌≡◌, ◌⊎◌, ℕ, ◌+◌, ◌*◌, ◌<◌, ◌≤◌, Bool, List, [], ◌∷◌, length, inl, inr, refl, ◌∙◌, ap, subst, arith, None, Some, false}
+use Rattle.std.specs.Prelude.{nat_eq}
 use Rattle.can_frame.specs.declared.entry.Entry.{Entry}
-use Rattle.cluster_discovery.specs.Members.{is_on_list}
+use Rattle.can_frame.specs.Log.{HasPair}
+use Rattle.id_selector.specs.Choice.{IsChoice, chosen}
 use Rattle.raft_model.specs.Lists.{In}
-use Rattle.raft_model.specs.Server.{RaftServer}
-use Rattle.can_frame.specs.Log.{IsInjective}
 use Rattle.replay_text.specs.declared.row.Row.TheVariants.{AOpen}
+use Rattle.transfer_tx.specs.Queue.{Queued}
 use Rattle.transfer_tx.specs.Run.{of_identifier}
 use Rattle.allocatee.specs.Allocatee.{opening}
 use Rattle.allocatee.specs.Asking.{request_wait, timer_from}
-use Rattle.alloc_spec.specs.AllocatorState.{AllocatorState, is_recorded}
+use Rattle.alloc_spec.specs.AllocatorState.{AllocatorState}
 use Rattle.alloc_spec_laws.proofs.Choices.{lt_tells}
-use Rattle.cluster_agreement.specs.Shows.{ShowsMember, ShowsUp}
-use Rattle.cluster_recovery.specs.Calm.{AreCalm, Clocks, HappensBy, IsAtRest, IsCalmRow, IsInTime, Pace, Timed, Traffic, end_of, no_traffic, rows_in, traffic_after}
+use Rattle.cluster_agreement.specs.Allocatees.{Holds}
+use Rattle.cluster_recovery.specs.Calm.{AreCalm, Clocks, HappensBy, HappensToDevice, HasPlaceFor, HasServed, HasSettled, IsReady, IsCalmRow, IsInTime, Pace, Timed, Traffic, end_of, no_traffic, queue_of, traffic_after}
 use Rattle.cluster_recovery.proofs.Asking.{its_own}
 use Rattle.cluster_recovery.proofs.CalmAnswering.{answering_end, answering_goes_on}
 use Rattle.cluster_recovery.proofs.CalmAsked as asked
-use Rattle.cluster_recovery.proofs.CalmGiving.{Gives as GivesPair}
+use Rattle.cluster_recovery.proofs.CalmGiving.{FitsKnown, FitsNew, Gives as GivesPair, gives_known, gives_new}
+use Rattle.cluster_recovery.proofs.Fronts.{happens_behind, so_happens}
+use Rattle.cluster_recovery.proofs.Settled.{log_is_injective, serves_it, shows_it}
 use Rattle.cluster_recovery.proofs.CalmHearing.{awaits_any}
 use Rattle.cluster_recovery.proofs.CalmLawful.{ids_kept, is_lawful}
 use Rattle.cluster_recovery.proofs.CalmOnBus as on_bus
 use Rattle.cluster_recovery.proofs.CalmPhases.{CalmLaws, Phase, Served, key, wait_end, waiting_goes_on}
-use Rattle.cluster_recovery.proofs.CalmRest.{FewWait, Serves, lists_itself}
-use Rattle.cluster_recovery.proofs.CalmSide.{AreItsFrames, it}
+use Rattle.cluster_recovery.proofs.CalmRest.{FewWait}
+use Rattle.cluster_recovery.proofs.Leads.{status_number}
+use Rattle.cluster_recovery.proofs.CalmSide.{AreItsFrames, it, status_apart}
 use Rattle.cluster_recovery.proofs.CalmStages.{right_at_first}
 use Rattle.cluster_recovery.proofs.Reached.{IsShown}
 use Rattle.cluster_spec.specs.Allocatees.{is_place}
 use Rattle.cluster_spec.specs.Lawful.{cause}
-use Rattle.cluster_spec.specs.Cluster.{Cluster, after_row, after_rows}
-use Rattle.cluster_spec.specs.Members.{MemberStatus}
+use Rattle.cluster_spec.specs.Cluster.{Cluster, after_row}
 
--- what the allocator at rest is in the run that the world shows
-shows_it : (n : ℕ) (log : List Entry) (now : ℕ) (w : Cluster) (shown : IsShown w) → w.ids ≡ n ∷ [] → (rests : IsAtRest n log now w)
-    → ShowsUp shown.made w.ids w.frames shown.run n rests.server (w.member n).disk
-shows_it n log now w shown ids rests =
-    subst (λ (status : MemberStatus). ShowsMember shown.choice shown.made w.ids w.frames shown.run n status (w.member n).disk) rests.runs
-    (shown.shows.lives n (subst (λ (l : List ℕ). In n l) (sym ids) (inl refl)))
+-- frames of NodeStatus are its frames, and none of an Allocation
+its_statuses : (n : ℕ) (queue : List Queued) → ((frame : Queued) → In frame queue → frame.id ≡ status_number n) → AreItsFrames n queue
+its_statuses n [] statuses = tt
+its_statuses n (frame ∷ queue) statuses = (inr (statuses frame (inl refl)), its_statuses n queue (λ other i. statuses other (inr i)))
 
--- no node ID stands in its log for two unique IDs
-pub log_is_injective : (n : ℕ) (log : List Entry) (now : ℕ) (w : Cluster) → IsShown w → w.ids ≡ n ∷ [] → IsAtRest n log now w → IsInjective log
-log_is_injective n log now w shown ids rests =
-    subst IsInjective (ap (λ (x : RaftServer). x.store.log) (shows_it n log now w shown ids rests).runs.raft_server ∙ rests.log_is) (shown.invariants.stores n).injective
+none_of_it : (n : ℕ) → n ≤ 125 → (queue : List Queued) → ((frame : Queued) → In frame queue → frame.id ≡ status_number n) → of_identifier (it n) queue ≡ []
+none_of_it n high [] statuses = refl
+none_of_it n high (frame ∷ queue) statuses =
+    let z : nat_eq frame.id (it n) ≡ false = ap (λ (k : ℕ). nat_eq k (it n)) (statuses frame (inl refl)) ∙ status_apart n high in
+    rw (z) (none_of_it n high queue (λ other i. statuses other (inr i)))
 
--- and what follows from it
-pub so_happens : (start last : ℕ) (w : Cluster) (whole : List Timed) (P Q : Cluster → Type 0) → ((v : Cluster) → P v → Q v) → HappensBy start last w whole P → HappensBy start last w whole Q
-so_happens start last w whole P Q f h = record { front = h.front; rest = h.rest; split = h.split; soon = h.soon; lawful = h.lawful; happens = f (after_rows w (rows_in h.front)) h.happens }
-
-module _ (laws : CalmLaws) (n a : ℕ) (low : 1 ≤ n) (high : n ≤ 125) (uid : List ℕ) (preferred : ℕ) (few : preferred < 128) (log : List Entry) (Fits : ℕ → Type 0)
+module _ (laws : CalmLaws) (n a : ℕ) (low : 1 ≤ n) (high : n ≤ 125) (uid : List ℕ) (preferred : ℕ) (few : preferred < 128) (log : List Entry) (Fits : ℕ → List Entry → Type 0)
     (place : GivesPair Fits n log uid preferred) (start : ℕ) (clocks : Clocks) (pace : Pace) (quick : pace.period + 4 * pace.delay ≤ 100) where
   abbrev PhaseOf : Traffic → Cluster → Type 0
   PhaseOf traffic w = Phase laws n a low high uid preferred few log Fits place start clocks pace quick traffic w
 
-  abbrev ServedBy : Cluster → Type 0
-  ServedBy w = Served laws n a low high uid preferred few log Fits place start clocks pace quick w
+  abbrev ServedBy : ℕ → Cluster → Type 0
+  ServedBy moment w = Served laws n a low high uid preferred few log Fits place start clocks pace quick moment w
 
   -- each row leaves a phase, or the device is served
   goes_on : (traffic : Traffic) (w : Cluster) (timed : Timed) → PhaseOf traffic w → IsInTime n a clocks pace traffic w timed.at
       → IsCalmRow n a clocks pace traffic w timed.at timed.row
-      → (timed.at ≤ start + 2100) × (PhaseOf (traffic_after n a traffic w timed) (after_row w timed.row) ⊎ ServedBy (after_row w timed.row))
+      → (timed.at ≤ start + 2100) × (PhaseOf (traffic_after n a traffic w timed) (after_row w timed.row) ⊎ ServedBy timed.at (after_row w timed.row))
   goes_on traffic w timed (j, two, inl p) in_time calm = (
     wait_end laws n a low high uid preferred few log Fits place start clocks pace quick j two traffic w p timed.at in_time,
     waiting_goes_on laws n a low high uid preferred few log Fits place start clocks pace quick j two traffic w p timed.at in_time timed.row calm,
@@ -77,17 +74,10 @@ module _ (laws : CalmLaws) (n a : ℕ) (low : 1 ≤ n) (high : n ≤ 125) (uid :
   )
 
   then_happens : (traffic : Traffic) (w : Cluster) (timed : Timed) (rest : List Timed) → timed.at ≤ start + 2100 → cause w timed.row ≡ None
-      → PhaseOf (traffic_after n a traffic w timed) (after_row w timed.row) ⊎ ServedBy (after_row w timed.row)
+      → PhaseOf (traffic_after n a traffic w timed) (after_row w timed.row) ⊎ ServedBy timed.at (after_row w timed.row)
       → (PhaseOf (traffic_after n a traffic w timed) (after_row w timed.row) → HappensBy timed.at (start + 2100) (after_row w timed.row) rest ServedBy)
       → HappensBy traffic.at (start + 2100) w (timed ∷ rest) ServedBy
-  then_happens traffic w timed rest by lawful (inl phase) later = let h = later phase in record {
-    front = timed ∷ h.front;
-    rest = h.rest;
-    split = ap (λ (l : List Timed). timed ∷ l) h.split;
-    soon = h.soon;
-    lawful = (lawful, h.lawful);
-    happens = h.happens;
-  }
+  then_happens traffic w timed rest by lawful (inl phase) later = happens_behind traffic.at (start + 2100) w timed rest ServedBy lawful (later phase)
   then_happens traffic w timed rest by lawful (inr served) later = record { front = timed ∷ []; rest = rest; split = refl; soon = by; lawful = (lawful, tt); happens = served }
 
   happens_by : is_place a ≡ true → (traffic : Traffic) (w : Cluster) (whole : List Timed) → w.ids ≡ n ∷ [] → PhaseOf traffic w → traffic.at ≤ start + 2100 → AreCalm n a clocks pace traffic w whole
@@ -100,34 +90,23 @@ module _ (laws : CalmLaws) (n a : ℕ) (low : 1 ≤ n) (high : n ≤ 125) (uid :
 
   -- ---- the device comes
 
-  module _ (word : ℕ) (w : Cluster) (shown : IsShown w) (ids : w.ids ≡ n ∷ []) (rests : IsAtRest n log (start + clocks.allocator) w) where
+  module _ (word : ℕ) (w : Cluster) (shown : IsShown w) (ids : w.ids ≡ n ∷ []) (rests : IsReady n log (start + clocks.allocator) w) where
+    abbrev h : HasSettled n log (start + clocks.allocator) w
+    h = rests.settled
+
     abbrev t : AllocatorState
-    t = rests.server
+    t = h.server
 
-    is : ShowsUp shown.made w.ids w.frames shown.run n t (w.member n).disk
-    is = shows_it n log (start + clocks.allocator) w shown ids rests
+    queue_is : queue_of (w.member n).status ≡ t.queue
+    queue_is = ap queue_of h.runs
 
-    size : t.size ≡ 1
-    size = is.runs.size ∙ ap length ids
+    statuses : (frame : Queued) → In frame t.queue → frame.id ≡ status_number n
+    statuses = subst (λ (q : List Queued). (frame : Queued) → In frame q → frame.id ≡ status_number n) queue_is rests.statuses
 
-    serves : Serves n log t.accepted t.ids.alloc t
-    serves = record {
-      me = is.runs.me;
-      size = size;
-      offline = λ other e. rests.known other ((λ i. is_on_list ((lists_itself t size ∙ ap (λ (k : ℕ). k ∷ []) is.runs.me) i) other || is_recorded (rests.log_is i) other) ∙ e);
-      discovery = rests.discovery;
-      accepts = refl;
-      id = refl;
-      role = rests.leads;
-      log_is = rests.log_is;
-      committed = rests.committed;
-      told = rests.told;
-    }
-
-    few_wait : FewWait (start + clocks.allocator) 0 t
-    few_wait = let e = ap length rests.sent in elim (lt_tells t.status_at (start + clocks.allocator)) [
-      | inl z ↦ inl (z.1, omega (arith, e))
-      | inr z ↦ inr (z.1, let s = rests.status in omega (arith, s), omega (arith, e, z.1))
+    few_wait : FewWait (start + clocks.allocator) 1 t
+    few_wait = let e = rests.few in let l = ap length queue_is in elim (lt_tells t.status_at (start + clocks.allocator)) [
+      | inl z ↦ inl (z.1, omega (arith, e, l))
+      | inr z ↦ inr (z.1, let s = h.status in omega (arith, s), omega (arith, e, l, z.1))
     ]
 
     abbrev come : Cluster
@@ -143,29 +122,30 @@ module _ (laws : CalmLaws) (n a : ℕ) (low : 1 ≤ n) (high : n ≤ 125) (uid :
         common = record {
           accepted = t.accepted;
           next = t.ids.alloc;
-          stages = 0;
+          stages = 1;
           server = t;
           flying = [];
           side = record {
-            serves = serves;
+            serves = serves_it n log (start + clocks.allocator) w shown ids h;
             few = few_wait;
-            rest_is = ap (of_identifier (it n)) rests.sent;
-            up = record { status = rests.runs; quiet = record { faults = rests.faults; calls = rests.disk } };
+            rest_is = none_of_it n high t.queue statuses;
+            up = record { status = h.runs; quiet = record { faults = h.faults; calls = h.disk } };
             carry = tt;
             flying_its = tt;
-            queue_its = subst (AreItsFrames n) (sym rests.sent) tt;
-            clock = rests.clock;
+            queue_its = its_statuses n t.queue statuses;
+            clock = h.clock;
+            requests = h.requests;
             since = omega arith;
             waits = omega arith;
             ticked = omega arith;
           };
-          small = is.runs.sound.ids.alloc;
+          small = (shows_it n log (start + clocks.allocator) w shown ids h).runs.sound.ids.alloc;
           few_stages = omega arith;
           early = omega arith;
           soon = omega arith;
           awaits = awaits_any (key laws n a low high uid preferred few log Fits place start clocks pace quick) (start + 2100 + clocks.device) t.ids.alloc;
           right = right_at_first uid place.whole preferred t.accepted (start + clocks.allocator) (start + request_wait word + clocks.allocator)
-              (start + request_wait word + pace.period + 2 * pace.delay + clocks.allocator) rests.requests (omega arith);
+              (start + request_wait word + pace.period + 2 * pace.delay + clocks.allocator) h.requests (omega arith);
         };
         id = 0;
         moment = start + clocks.device;
@@ -184,3 +164,30 @@ module _ (laws : CalmLaws) (n a : ℕ) (low : 1 ≤ n) (high : n ≤ 125) (uid :
     pub is_served_in_time : is_place a ≡ true → (whole : List Timed) → AreCalm n a clocks pace (no_traffic start) come whole → start + 2100 < end_of start whole
         → HappensBy start (start + 2100) come whole ServedBy
     is_served_in_time at_place whole calm long = happens_by at_place (no_traffic start) come whole ids waits (omega arith) calm long
+
+-- ---- whatever it prefers, and whenever it comes
+
+-- a device whose unique ID is new
+pub serves_new : (laws : CalmLaws) → ((ids : List Bool) (preferred : ℕ) → IsChoice ids preferred (chosen ids preferred)) → (n : ℕ) → 1 ≤ n → n ≤ 125
+    → (w : Cluster) → IsShown w → w.ids ≡ n ∷ [] → (log : List Entry) (start : ℕ) (clocks : Clocks) → IsReady n log (start + clocks.allocator) w
+    → (uid : List ℕ) → HasPlaceFor n log uid → HappensToDevice n w start clocks uid (HasServed n log uid)
+serves_new laws choice n low high w shown ids log start clocks rests uid place = λ a preferred word pace whole at_place few quick calm long.
+    let pair = gives_new choice n log uid preferred place in
+    so_happens start (start + 2100) (after_row w (AOpen a uid preferred (start + clocks.device) word)) whole
+    (ServedBy laws n a low high uid preferred few log (FitsNew n log uid) pair start clocks pace quick)
+    (λ moment. HasServed n log uid a (moment + clocks.allocator))
+    (λ moment v h. (h.0, h.2.0, h.3, (h.2.1.0, subst (λ (l : List Entry). HasSettled n l (moment + clocks.allocator) v) h.2.1.1 h.4)))
+    (is_served_in_time laws n a low high uid preferred few log (FitsNew n log uid) pair start clocks pace quick word w shown ids rests at_place whole calm long)
+
+-- a device whose unique ID stands in the log
+pub serves_known : (laws : CalmLaws) (n : ℕ) → 1 ≤ n → n ≤ 125
+    → (w : Cluster) → IsShown w → w.ids ≡ n ∷ [] → (log : List Entry) (start : ℕ) (clocks : Clocks) → IsReady n log (start + clocks.allocator) w
+    → (uid : List ℕ) (node : ℕ) → length uid ≡ 16 → HasPair log uid node
+    → HappensToDevice n w start clocks uid (λ a now later. Holds later a uid node × HasSettled n log now later)
+serves_known laws n low high w shown ids log start clocks rests uid node sixteen pair = λ a preferred word pace whole at_place few quick calm long.
+    let known = gives_known n log uid preferred node sixteen pair (log_is_injective n log (start + clocks.allocator) w shown ids rests.settled) in
+    so_happens start (start + 2100) (after_row w (AOpen a uid preferred (start + clocks.device) word)) whole
+    (ServedBy laws n a low high uid preferred few log (FitsKnown log node) known start clocks pace quick)
+    (λ moment later. Holds later a uid node × HasSettled n log (moment + clocks.allocator) later)
+    (λ moment v h. (subst (λ (k : ℕ). Holds v a uid k) h.2.0 h.3, subst (λ (l : List Entry). HasSettled n l (moment + clocks.allocator) v) h.2.1 h.4))
+    (is_served_in_time laws n a low high uid preferred few log (FitsKnown log node) known start clocks pace quick word w shown ids rests at_place whole calm long)

@@ -4,7 +4,7 @@ use Rattle.std.specs.Prelude.{⊤, ◌-◌, drop, find, is_some, nat_eq, option_
 use Rattle.std.specs.List.{position_or_len}
 use Rattle.std.proofs.lemmas.List.{get_or_append_left}
 use Rattle.std.proofs.lemmas.Bool.Decides.{eqb_tells}
-use Rattle.alloc_exchange.specs.Exchange.{Accepted}
+use Rattle.alloc_exchange.specs.Exchange.{Accepted, last_moment}
 use Rattle.can_frame.specs.declared.entry.Entry.{Entry}
 use Rattle.can_frame.specs.declared.step.What.TheVariants.{Alloc}
 use Rattle.can_frame.specs.Identifier.{identifier_number}
@@ -21,7 +21,8 @@ use Rattle.alloc_spec.specs.Transfers.{ident_of}
 use Rattle.alloc_spec_laws.proofs.Choices.{tell}
 use Rattle.cluster_recovery.specs.Calm.{Clocks, IsNext, OnItsWay, Traffic, queue_of, ticked_after, traffic_after, waits_after}
 use Rattle.cluster_recovery.proofs.CalmQueue.{goes_out, of_both}
-use Rattle.cluster_recovery.proofs.CalmRest.{FewWait, HasTicked, Serves, Tells, few_after, status_number, ticks}
+use Rattle.cluster_recovery.proofs.CalmRest.{FewWait, HasTicked, Serves, Tells, few_after, ticks, whatever_waits}
+use Rattle.cluster_recovery.proofs.Leads.{status_number}
 use Rattle.cluster_recovery.proofs.Members.{IsUp, steps_up}
 use Rattle.cluster_recovery.proofs.Scenes.{own_is}
 use Rattle.cluster_recovery.proofs.Taking.{frame_is}
@@ -98,7 +99,7 @@ its_out : (n : ℕ) (queue : List Queued) (g : Queued) → AreItsFrames n queue 
 unfolding next_out left_behind
 its_out n queue g are e = (its_found n (is_least queue) queue g are e, its_removed n queue (position_or_len (is_least queue) queue) are)
 
-fewer_left : (queue : List Queued) → length (left_behind queue) ≤ length queue
+pub fewer_left : (queue : List Queued) → length (left_behind queue) ≤ length queue
 unfolding left_behind
 fewer_left queue = fewer_removed queue (position_or_len (is_least queue) queue)
 
@@ -150,6 +151,7 @@ module _ (n a start : ℕ) (high : n ≤ 125) (clocks : Clocks) where
     pub flying_its : AreItsFrames n flying
     pub queue_its : AreItsFrames n t.queue
     pub clock : t.now ≤ traffic.at + clocks.allocator
+    pub requests : last_moment accepted ≤ traffic.at + clocks.allocator
     pub since : start ≤ traffic.at
     pub waits : traffic.allocator_waits ≤ traffic.at
     pub ticked : traffic.ticked ≤ traffic.at
@@ -168,6 +170,7 @@ module _ (n a start : ℕ) (high : n ≤ 125) (clocks : Clocks) where
       flying_its = side.flying_its;
       queue_its = side.queue_its;
       clock = omega (arith, side.clock, later);
+      requests = omega (arith, side.requests, later);
       since = omega (arith, side.since, later);
       waits = waits_before at traffic.allocator_waits (queue_of (w.member n).status) (queue_of ((after_row w row).member n).status) (omega (arith, side.waits, later));
       ticked = ticked_before at traffic.ticked row (omega (arith, side.ticked, later));
@@ -176,14 +179,14 @@ module _ (n a start : ℕ) (high : n ≤ 125) (clocks : Clocks) where
     -- ---- a tick
 
     -- its queue has room for an answer
-    pub room_now : at ≤ start + 2100 → stages ≤ 3 → length t.queue + 4 ≤ 32
+    pub room_now : at ≤ start + 2100 → stages ≤ 4 → length t.queue + 4 ≤ 32
     room_now by few_stages = elim side.few [
       | inl z ↦ omega (arith, z.1, few_stages)
       | inr z ↦ omega (arith, z.1, z.2, few_stages, by, later, side.clock)
     ]
 
     -- a tick leaves it so
-    pub side_ticks : (word : ℕ) → at ≤ start + 2100 → stages ≤ 3
+    pub side_ticks : (word : ℕ) → at ≤ start + 2100 → stages ≤ 4
         → (u : AllocatorState) × Side log accepted next stages rest u flying (traffic_after n a traffic w (record { at = at; row = Tick n (at + clocks.allocator) word }))
         (after_row w (Tick n (at + clocks.allocator) word))
         × (of_identifier (it n) u.queue ≡ of_identifier (it n) t.queue) × (t.queue ≢ [] → u.queue ≢ [])
@@ -232,6 +235,7 @@ module _ (n a start : ℕ) (high : n ≤ 125) (clocks : Clocks) where
           flying_its = side.flying_its;
           queue_its = its_of h.queue;
           clock = omega (arith, h.now);
+          requests = omega (arith, side.requests, later);
           since = omega (arith, side.since, later);
           waits = waits_before at traffic.allocator_waits (queue_of (w.member n).status)
               (queue_of ((after_row w (Tick n (at + clocks.allocator) word)).member n).status) (omega (arith, side.waits, later));
@@ -262,18 +266,7 @@ module _ (n a start : ℕ) (high : n ≤ 125) (clocks : Clocks) where
             out = e;
             frames = frames;
             then_side = record {
-              serves = record {
-                me = side.serves.me;
-                size = side.serves.size;
-                offline = side.serves.offline;
-                discovery = side.serves.discovery;
-                accepts = side.serves.accepts;
-                id = side.serves.id;
-                role = side.serves.role;
-                log_is = side.serves.log_is;
-                committed = side.serves.committed;
-                told = side.serves.told;
-              };
+              serves = whatever_waits n log accepted next t (left_behind t.queue) side.serves;
               few = fewer side.few;
               rest_is = goes_out (it n) flying t.queue g e ∙ side.rest_is;
               up = subst (IsUp (after_pop t)) (sym (own_is w n sent)) (record { status = ap after_sending side.up.status; quiet = side.up.quiet });
@@ -282,6 +275,7 @@ module _ (n a start : ℕ) (high : n ≤ 125) (clocks : Clocks) where
               flying_its = its_both n flying (g ∷ []) side.flying_its ((its_out n t.queue g side.queue_its e).0, tt);
               queue_its = (its_out n t.queue g side.queue_its e).1;
               clock = omega (arith, side.clock, later);
+              requests = omega (arith, side.requests, later);
               since = omega (arith, side.since, later);
               waits = waits_before at traffic.allocator_waits (queue_of (w.member n).status)
                   (queue_of ((after_row w (Send n)).member n).status) (omega (arith, side.waits, later));
@@ -342,6 +336,7 @@ module _ (n a start : ℕ) (high : n ≤ 125) (clocks : Clocks) where
                 flying_its = its.1;
                 queue_its = side.queue_its;
                 clock = omega (arith, side.clock, later);
+                requests = omega (arith, side.requests, later);
                 since = omega (arith, side.since, later);
                 waits = waits_before at traffic.allocator_waits (queue_of (w.member n).status)
                     (queue_of ((after_row w (ARx a k (at + clocks.device) word)).member n).status) (omega (arith, side.waits, later));

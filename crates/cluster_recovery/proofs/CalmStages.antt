@@ -152,7 +152,7 @@ module _ (n a : ℕ) (high : n ≤ 125) (uid : List ℕ) (whole : length uid ≡
     pub flying : List Queued
     pub side : Side n a start high clocks log accepted next stages [] server flying traffic w
     pub small : next < 32
-    pub few_stages : stages + j ≤ 2
+    pub few_stages : stages + j ≤ 3
     pub early : start + 600 ≤ due
     pub soon : due + 500 * j ≤ start + 2000
     pub awaits : AwaitsBy key (start + 2100 + clocks.device) next sessions

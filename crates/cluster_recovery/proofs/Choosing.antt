@@ -1,32 +1,23 @@
 -- An allocator that leads alone may record a new unique ID, and gives it one of the node IDs that are left.
-use Rattle.std.proofs.Common.{◌≡◌, ◌≢◌, ◌⊎◌, ℕ, zero, suc, ◌+◌, ◌<◌, ◌≤◌, Bool, true, false, List, [], ◌∷◌, ◌++◌, length, max, inl, inr, refl, sym, ◌∙◌, ap, subst, arith, Option, None, Some}
-use Rattle.std.specs.Prelude.{◌&&◌, ◌||◌, nat_eq, nat_lt, slice_index_or}
+use Rattle.std.proofs.Common.{◌≡◌, ◌≢◌, ◌⊎◌, ℕ, zero, suc, ◌+◌, ◌<◌, ◌≤◌, Bool, true, false, List, [], ◌∷◌, ◌++◌, length, inl, inr, refl, sym, ◌∙◌, ap, subst, arith, Option, None, Some}
+use Rattle.std.specs.Prelude.{◌||◌, nat_eq, slice_index_or}
 use Rattle.std.specs.List.{list_any, position_or_len}
 use Rattle.std.specs.Str.{bytes_eq}
 use Rattle.std.proofs.Math.Seq.{get_or-append_seam}
 use Rattle.std.proofs.lemmas.Bool.Decides.{eqb_tells}
 use Rattle.std.proofs.lemmas.List.{get_or_append_left}
-use Rattle.std.proofs.lemmas.List.FromFn.{get_or-map-range_with_len}
 use Rattle.std.proofs.lemmas.Slice.Eq.{bytes_eq-Decides}
-use Rattle.alloc_exchange.specs.Exchange.{Accepted}
 use Rattle.can_frame.specs.declared.entry.Entry.{Entry}
-use Rattle.can_frame.specs.Log.{HasNodeId, HasPair, HasUid, IsBlank, IsInjective, IsPair, blank, log_limit}
+use Rattle.can_frame.specs.Log.{HasNodeId, HasPair, HasUid, IsBlank, IsInjective, IsPair, blank}
 use Rattle.can_frame.specs.Zeros.{zeros}
 use Rattle.id_selector.specs.Choice.{IsChoice, chosen}
-use Rattle.node_discovery.specs.History.{is_online}
-use Rattle.node_discovery.specs.Watch.{Watched, devices, history, is_unknown, some_unknown}
-use Rattle.raft_model.specs.Moves.Elections.{is_leader}
-use Rattle.alloc_spec.specs.AllocatorState.{AllocatorState, is_recorded, is_taken, is_zero, known, members_of, recorded_at, taken}
-use Rattle.alloc_spec.specs.Step.{at_moment}
+use Rattle.alloc_spec.specs.AllocatorState.{is_recorded, is_zero, recorded_at}
 use Rattle.alloc_spec_laws.proofs.Choices.{lt_tells, tell}
-use Rattle.cluster_discovery.specs.Members.{is_on_list}
 use Rattle.cluster_progress.specs.ComingBack.{HasGrown}
-use Rattle.cluster_progress.specs.Serving.{MayRecord}
 use Rattle.cluster_progress.proofs.Alone.{lt_is, one_longer}
 use Rattle.cluster_recovery.specs.Alone.{IsLeft}
 use Rattle.cluster_progress.proofs.FollowUps.{same_number}
 use Rattle.cluster_recovery.proofs.Members.{or_true}
-use Rattle.cluster_recovery.proofs.Serving.{IsServing, is_alone}
 
 -- ---- what has no place in a log
 
@@ -188,11 +179,6 @@ pub none_any : (test : ℕ → Bool) (nodes : List ℕ) → ((node : ℕ) → te
 none_any test [] none = refl
 none_any test (node ∷ nodes) none = rw (none node) (none_any test nodes none)
 
-none_unknown : (watch : List Watched) (known_ones : List Bool) (now : ℕ) → watch ≡ [] → some_unknown watch known_ones now ≡ false
-unfolding some_unknown
-none_unknown watch known_ones now e = none_any (λ node. is_unknown watch known_ones node now) devices
-    (λ node. ap (λ (w : List Watched). is_unknown w known_ones node now) e)
-
 -- who chooses gives an ID of 1 to 125, where one is free
 pub record Chooses (ids : List Bool) (preferred : ℕ) : Type 0 where
   pub node : ℕ
@@ -209,47 +195,3 @@ chooses law ids preferred free least most is_free_one = by (chosen ids preferred
     by None e none = absurd (cc (none free least most, is_free_one))
     by (Some node) e (inl best) = record { node = node; least = best.free.least; most = best.free.most; free = best.free.free; chosen_is = e }
     by (Some node) e (inr second) = record { node = node; least = second.next.free.least; most = second.next.free.most; free = second.next.free.free; chosen_is = e }
-
-module _ (n : ℕ) (log : List Entry) (moment next : ℕ) (accepted : List Accepted) (t : AllocatorState) (s : IsServing n log moment next accepted t) where
-  -- who leads alone, and heard of no node, goes by its log and its own node ID
-  judged : (node : ℕ) → is_taken (at_moment moment t) node ≡ ((is_on_list (n ∷ []) node || is_recorded log node) || is_online [] (max t.now moment))
-  judged node = λ i. (is_on_list (alone i) node || is_recorded (s.log_is i) node) || is_online (history node (s.watch i)) (max t.now moment)
-    where
-      alone : members_of (at_moment moment t) ≡ n ∷ []
-      alone = is_alone n log moment next accepted t s ∙ ap (λ (m : ℕ). m ∷ []) s.me
-
-  not_taken : (node : ℕ) → IsLeft n log node → is_taken (at_moment moment t) node ≡ false
-  not_taken node left = judged node ∙ rw (other) (rw (not_recorded log node left.free) refl)
-    where
-      other : nat_eq n node ≡ false
-      other = elim (eqb_tells n node) [ inl z ↦ absurd (left.other (sym z.1)) | inr z ↦ z.0 ]
-
-  pub finds_one : ((ids : List Bool) (preferred : ℕ) → IsChoice ids preferred (chosen ids preferred)) → (preferred node : ℕ) → IsLeft n log node
-      → Chooses (taken (at_moment moment t)) preferred
-  finds_one law preferred node left = chooses law (taken (at_moment moment t)) preferred node left.least left.most
-      (get_or-map-range_with_len (is_taken (at_moment moment t)) 0 128 node node true (omega (arith, left.most)) (omega arith) ∙ not_taken node left)
-
-  pub gives_left : (preferred : ℕ) (c : Chooses (taken (at_moment moment t)) preferred) → IsLeft n log c.node
-  gives_left preferred c = record {
-    least = c.least;
-    most = c.most;
-    other = λ e. let own : nat_eq n c.node ≡ true = ap (λ (k : ℕ). nat_eq n k) e ∙ same_number n in
-        absurd (cc (own, left_false (nat_eq n c.node) false (left_false (is_on_list (n ∷ []) c.node) (is_recorded log c.node) known)));
-    free = λ h. absurd (cc (recorded log c.node h.place h.within h.same, right_false (is_on_list (n ∷ []) c.node) (is_recorded log c.node) known));
-  }
-    where
-      untaken : is_taken (at_moment moment t) c.node ≡ false
-      untaken = sym (get_or-map-range_with_len (is_taken (at_moment moment t)) 0 128 c.node c.node true (omega (arith, c.most)) (omega arith)) ∙ c.free
-
-      known : (is_on_list (n ∷ []) c.node || is_recorded log c.node) ≡ false
-      known = left_false (is_on_list (n ∷ []) c.node || is_recorded log c.node) (is_online [] (max t.now moment)) (sym (judged c.node) ∙ untaken)
-
-  pub may_record : (preferred : ℕ) (uid : List ℕ) → uid ≢ zeros → (HasUid log uid → ⊥) → length log < log_limit
-      → (c : Chooses (taken (at_moment moment t)) preferred) → MayRecord t moment preferred uid c.node
-  may_record preferred uid device new room c = record {
-    device = not_zeros uid device;
-    new = ap (λ (l : List Entry). recorded_at l uid) s.log_is ∙ not_first log uid new;
-    may = (λ i. is_leader (s.role i) && nat_lt (length (s.log_is i)) 127) ∙ lt_is (length log) log_limit room;
-    all_known = none_unknown t.watch (known t) moment s.watch;
-    choice = c.chosen_is;
-  }

@@ -1,14 +1,16 @@
 -- Whatever happened, an allocator that is alone comes to lead.
-use Rattle.std.proofs.Common.{◌≡◌, ℕ, ◌+◌, ◌<◌, List, [], ◌∷◌, length, inl, refl, sym, ◌∙◌, ap, subst, arith, true, Option}
+use Rattle.std.proofs.Common.{◌≡◌, ℕ, ◌+◌, ◌<◌, Bool, List, [], ◌∷◌, length, inl, refl, sym, ◌∙◌, ap, subst, arith, true, Option}
 use Rattle.can_frame.specs.Log.{log_limit}
 use Rattle.kv_store.specs.KeyDisk.{KeyDisk}
 use Rattle.raft_core.specs.StoredPuts.{store_of}
 use Rattle.raft_log.specs.KeyDisk.{is_open_on, opening_on}
 use Rattle.raft_log.specs.Stored.{Stored}
-use Rattle.raft_model.specs.Invariants.{SoundStore}
+use Rattle.raft_model.specs.Invariants.{Invariants, SoundStore}
 use Rattle.raft_model.specs.Lists.{In}
 use Rattle.raft_model.specs.Moves.Elections.{term_limit}
+use Rattle.raft_model.specs.Runs.{InEveryRun, initial_world}
 use Rattle.raft_model.specs.Server.{Store}
+use Rattle.replay_text.specs.declared.row.Row.{Row}
 use Rattle.transfer_tx.specs.Queue.{Queued}
 use Rattle.allocatee.specs.Allocatee.{Device}
 use Rattle.alloc_spec.specs.AllocatorState.{AllocatorState}
@@ -16,19 +18,35 @@ use Rattle.alloc_spec.specs.Rules.{opening_by, rules_by}
 use Rattle.alloc_spec.specs.Step.{step}
 use Rattle.alloc_spec.specs.Step.Event.{Tick}
 use Rattle.cluster_progress.specs.ComingBack.{HasGrown}
-use Rattle.cluster_spec.specs.Cluster.{Cluster}
+use Rattle.cluster_agreement.specs.Continues.{Continues}
+use Rattle.cluster_agreement.proofs.StopsAndOpenings.{DiskLaws, opened_store}
+use Rattle.cluster_spec.specs.Choices.{AgreesWithDisk}
+use Rattle.cluster_spec.specs.Cluster.{AreMembers, Cluster, cluster, world_of}
+use Rattle.cluster_spec.specs.Lawful.{DoNoHarm}
+use Rattle.cluster_spec.specs.Refinement.{events, transfers_of_rows}
 use Rattle.cluster_spec.specs.Members.{is_running}
 use Rattle.cluster_recovery.specs.Alone.{IsBackWith, found}
 use Rattle.cluster_recovery.proofs.Goes.{CanGo, and_then, so}
 use Rattle.cluster_recovery.proofs.Leads.{IsFreshLeader, IsSettled, fresh, settles_all}
 use Rattle.cluster_recovery.proofs.Members.{IsDown}
-use Rattle.cluster_recovery.proofs.Reached.{IsReached, IsShown, finds_own, reached, stopped_sound}
+use Rattle.cluster_recovery.proofs.Reached.{IsReached, IsShown, finds_own, laws_say, reached, stopped_sound}
 use Rattle.cluster_recovery.proofs.Scenes.{At, DownAt, opens, stops, stops_now, ticks}
 
 -- what the laws below say
 pub record Laws (ids : List ℕ) : Type 0 where
   pub keeps_store : (disk : KeyDisk Stored) → is_open_on disk ≡ true → store_of (opening_on disk).store ≡ store_of disk.store
   pub shown : (w : Cluster) → IsReached ids w → IsShown w
+
+-- and of each allocator that is alone
+pub laws_alone : DiskLaws
+    → ((ids : List ℕ) (rows : List Row) → AreMembers ids → DoNoHarm (cluster ids) rows → (choice : ℕ → Bool) × AgreesWithDisk choice (cluster ids) rows)
+    → ((choice : ℕ → Bool) (ids : List ℕ) (rows : List Row) → AreMembers ids → DoNoHarm (cluster ids) rows → AgreesWithDisk choice (cluster ids) rows
+    → Continues choice (transfers_of_rows (cluster ids) rows []) (world_of ids rows) (initial_world ids) (events choice (cluster ids) rows))
+    → InEveryRun Invariants → (n : ℕ) → AreMembers (n ∷ []) → Laws (n ∷ [])
+laws_alone disk fit shows sound n members = record {
+  keeps_store = opened_store disk;
+  shown = laws_say (n ∷ []) (λ rows h. fit (n ∷ []) rows members h) (λ choice rows h fits. shows choice (n ∷ []) rows members h fits) sound;
+}
 
 module _ (n a : ℕ) (laws : Laws (n ∷ [])) where
   -- ---- it opens, and its tick comes after its wait

@@ -19,7 +19,7 @@ use Rattle.raft_model.specs.Moves.Move.{CommitTo, ProposeEntry, TimeOut}
 use Rattle.raft_model.specs.Server.{RaftServer, Store, memory_when_opened}
 use Rattle.raft_model.specs.Server.Role.{Leader}
 use Rattle.transfer_tx.specs.Queue.{Queued, marked, queued_frames}
-use Rattle.alloc_spec.specs.AllocatorState.{AllocatorState, is_known, known, may_propose, status_of}
+use Rattle.alloc_spec.specs.AllocatorState.{AllocatorState, is_known, known, may_propose, members_of, status_of}
 use Rattle.can_frame.specs.declared.step.Seen.TheVariants.{Ticked}
 use Rattle.alloc_spec.specs.Delivered.{StepResult}
 use Rattle.alloc_spec.specs.Ending.{call_phase, commit_phase, end_phase, has_to_tell, tell_phase, tells_next}
@@ -28,7 +28,7 @@ use Rattle.alloc_spec.specs.Step.{all_nodes, at_moment, begin_phase, step, with_
 use Rattle.alloc_spec.specs.Step.Event.{Tick}
 use Rattle.alloc_spec.specs.StepState.{StepState, initial_state, with_moves}
 use Rattle.alloc_spec.specs.Tick.{asks, candidate, clock_phase, election_moves, election_phase, is_candidate, query_phase, record_phase, records_node, status_phase, tells_status}
-use Rattle.alloc_spec.specs.Transfers.{Offer, frames_of, ident_of, signature_of}
+use Rattle.alloc_spec.specs.Transfers.{ident_of, signature_of}
 use Rattle.cluster_progress.specs.ComingBack.{HasGrown}
 use Rattle.cluster_progress.proofs.Alone.{last_entry, lt_is, one_longer, to_the_end}
 use Rattle.cluster_progress.proofs.Ends.{IsKept, rest_keeps}
@@ -38,7 +38,7 @@ use Rattle.alloc_spec_laws.proofs.Choices.{lt_tells}
 
 -- ---- nothing is given up, recorded or asked where nothing happened
 
-none_overdue : (times : Times) (now : ℕ) (nodes : List ℕ) → ((node : ℕ) → times.sending node ≡ None) → overdue times now nodes ≡ []
+pub none_overdue : (times : Times) (now : ℕ) (nodes : List ℕ) → ((node : ℕ) → times.sending node ≡ None) → overdue times now nodes ≡ []
 none_overdue times now [] none = refl
 none_overdue times now (node ∷ nodes) none = rw (none node) (none_overdue times now nodes none)
 
@@ -59,7 +59,7 @@ no_candidate t e = none_found (is_candidate t) devices (λ node.
     ap (λ (w : List Watched). not (is_known t node) && (is_some (identity (history node w) t.now) || is_silent t.counting (history node w) t.now)) e
     ∙ and_false (not (is_known t node)))
 
-records_nothing : (number : ℕ) (g : StepState) → g.allocator.watch ≡ [] → record_phase number g ≡ g
+pub records_nothing : (number : ℕ) (g : StepState) → g.allocator.watch ≡ [] → record_phase number g ≡ g
 records_nothing number g e =
     ap (λ (c : Option ℕ). if may_propose g.allocator then records_node number c g else g) (no_candidate g.allocator e)
     ∙ same_either (may_propose g.allocator) g
@@ -69,11 +69,47 @@ unfolding next_query
 no_query watch known now e = none_found (λ node. is_due watch known node now) devices (λ node.
     ap (λ (w : List Watched). is_due w known node now) e)
 
-asks_nothing : (number : ℕ) (g : StepState) → g.allocator.watch ≡ [] → query_phase number g ≡ g
+pub asks_nothing : (number : ℕ) (g : StepState) → g.allocator.watch ≡ [] → query_phase number g ≡ g
 asks_nothing number g e =
     ap (λ (o : Option ℕ). if is_leader g.allocator.raft_server.memory.role then asks number o g else g)
     (no_query g.allocator.watch (known g.allocator) g.allocator.now e)
     ∙ same_either (is_leader g.allocator.raft_server.memory.role) g
+
+-- ---- a NodeStatus is one frame
+
+-- the identifier of its NodeStatus
+abbrev pub status_number : ℕ → ℕ
+status_number n = identifier_number (ident_of n Stat 0)
+
+pub status_frame : (n number id : ℕ) (bytes : List ℕ) → length bytes ≡ 7
+    → (frame : Queued) × (frame.id ≡ status_number n) × (queued_frames (record { ident = ident_of n Stat 0; signature = signature_of Stat; id = id; payload = record { items = bytes } }) number 0 ≡ frame ∷ [])
+unfolding queued_frames
+status_frame n number id bytes size = (
+  record { id = status_number n; bytes = frame_bytes (record { bytes = bytes; tail = tail_at id 0 true }); mark = record { step = number; re = 0; place = 0 } },
+  refl,
+  ap (λ (pieces : List Piece). marked (status_number n) number 0 0 pieces) (one_piece (signature_of Stat) id bytes (omega (arith, size))),
+)
+
+-- who is alone calls nobody
+pub calls_nobody : (number : ℕ) (k : StepState) → members_of k.allocator ≡ k.allocator.me ∷ [] → call_phase number k ≡ k
+calls_nobody number k alone = rw (alone) refl
+
+-- the end of a step in which nothing is to be committed, told or called
+pub quiet_end : (number : ℕ) (g : StepState) → g.allocator.raft_server.store.commit ≡ length g.allocator.raft_server.store.log
+    → g.allocator.raft_server.memory.told ≡ g.allocator.raft_server.store.commit → members_of g.allocator ≡ g.allocator.me ∷ []
+    → end_phase number g ≡ with_moves number (given_at g.allocator.now) [] g
+quiet_end number g committed told alone =
+    ap (λ (k : StepState). call_phase number (tell_phase number k)) (commits_nothing number g committed)
+    ∙ (ap (λ (b : Bool). call_phase number (if b then tells_next number k else k)) none ∙ rw (alone) refl)
+  where
+    k : StepState
+    k = with_moves number (given_at g.allocator.now) [] g
+
+    none : has_to_tell g.allocator.raft_server ≡ false
+    none = elim (lt_tells g.allocator.raft_server.memory.told g.allocator.raft_server.store.commit) [
+      | inl z ↦ absurd (omega (arith, z.1, told))
+      | inr z ↦ ap (λ (b : Bool). is_leader g.allocator.raft_server.memory.role && b) z.0 ∙ and_false (is_leader g.allocator.raft_server.memory.role)
+    ]
 
 -- ---- the tick
 
@@ -253,31 +289,9 @@ pub record IsFreshLeader (n : ℕ) (store : Store) (moment : ℕ) (t : Allocator
   pub status : Queued
   pub waiting : t.queue ≡ status ∷ []
 
-abbrev status_offer : (n : ℕ) (store : Store) (moment number : ℕ) → Offer
-status_offer n store moment number = record {
-  what = Stat;
-  to = 0;
-  id = 0;
-  payload = node_status_bytes (status_of (begun n store moment number).allocator);
-  re = 0;
-  says = None;
-  fitted = true;
-}
-
--- a NodeStatus is one frame
-status_frame : (n : ℕ) (store : Store) (moment number : ℕ)
-    → (frame : Queued) × (frames_of (record { step = number; by = n; offer = status_offer n store moment number }) ≡ frame ∷ [])
-unfolding queued_frames
-status_frame n store moment number =
-    let offer = status_offer n store moment number in (
-      record {
-        id = identifier_number (ident_of n Stat 0);
-        bytes = frame_bytes (record { bytes = offer.payload; tail = tail_at 0 0 true });
-        mark = record { step = number; re = 0; place = 0 };
-      },
-      ap (λ (pieces : List Piece). marked (identifier_number (ident_of n Stat 0)) number 0 0 pieces)
-          (one_piece (signature_of Stat) 0 offer.payload (omega arith)),
-    )
+-- the bytes of its NodeStatus
+abbrev status_bytes : (n : ℕ) (store : Store) (moment number : ℕ) → List ℕ
+status_bytes n store moment number = node_status_bytes (status_of (begun n store moment number).allocator)
 
 pub fresh : (n : ℕ) (store : Store) (moment number : ℕ) → store.commit ≡ length store.log → store.term < term_limit
     → IsFreshLeader n store (moment + 2000) (step (opened n store moment number) number (Tick (moment + 2000) 0)).step_state.allocator
@@ -296,6 +310,6 @@ fresh n store moment number committed low =
       committed = committed;
       told = committed;
       status_at = refl;
-      status = (status_frame n store moment number).0;
-      waiting = (status_frame n store moment number).1;
+      status = (status_frame n number 0 (status_bytes n store moment number) refl).0;
+      waiting = (status_frame n number 0 (status_bytes n store moment number) refl).2;
     })

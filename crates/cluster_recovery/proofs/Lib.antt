@@ -23,6 +23,7 @@ pub mod CalmChoice
 pub mod CalmSide
 pub mod CalmStages
 pub mod CalmPhases
+pub mod CalmPending
 pub mod CalmAsked
 pub mod CalmOnBus
 pub mod CalmAnswering
@@ -31,3 +32,11 @@ pub mod CalmGiving
 pub mod CalmGoesOn
 pub mod CalmLawful
 pub mod CalmRested
+pub mod Starting
+pub mod Recovering
+pub mod Recovered
+pub mod QuietGoesOn
+pub mod QuietRows
+pub mod Settled
+pub mod StaysSettled
+pub mod Fronts

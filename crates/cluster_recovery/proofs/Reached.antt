@@ -9,6 +9,7 @@ use Rattle.replay_text.specs.declared.row.Row.{Row}
 use Rattle.alloc_spec.specs.AllocatorState.{AllocatorState}
 use Rattle.alloc_spec.specs.Transfers.{SentTransfer}
 use Rattle.cluster_agreement.specs.Continues.{Continues}
+use Rattle.cluster_agreement.specs.Said.{IsRunWritable}
 use Rattle.cluster_agreement.specs.Shows.{Shows, ShowsDown, ShowsMember, ShowsUp}
 use Rattle.cluster_agreement.proofs.StopsAndOpenings.{firm_finds}
 use Rattle.cluster_spec.specs.Cluster.{Cluster, after_row, after_rows, cluster, world_of}
@@ -31,7 +32,7 @@ harmless_both w [] [] a b = tt
 harmless_both w [] (row ∷ rest) a b = (inl b.0, harmless_both (after_row w row) [] rest tt b.1)
 harmless_both w (row ∷ first) rest a b = (a.0, harmless_both (after_row w row) first rest a.1 b)
 
-reaches : (ids : List ℕ) (w : Cluster) (rows : List Row) → IsReached ids w → Lawful w rows → IsReached ids (after_rows w rows)
+pub reaches : (ids : List ℕ) (w : Cluster) (rows : List Row) → IsReached ids w → Lawful w rows → IsReached ids (after_rows w rows)
 reaches ids w rows r lawful = record {
   rows = r.rows ++ rows;
   harmless = harmless_both (cluster ids) r.rows rows r.harmless (subst (λ (v : Cluster). Lawful v rows) r.is lawful);
@@ -57,13 +58,18 @@ pub record IsShown (w : Cluster) : Type 0 where
   pub run : World
   pub shows : Shows choice made w run
   pub invariants : Invariants run
+  pub writable : IsRunWritable w.ids run
 
--- what a member that is stopped found is sound
-pub stopped_sound : (w : Cluster) (n : ℕ) (store : Store) → In n w.ids → IsShown w → IsDown store (w.member n) → SoundStore store
-stopped_sound w n store listed s down = subst SoundStore (is.stored ∙ down.found) (s.invariants.stores n)
+-- the run has what a member that is stopped found
+pub stopped_store : (w : Cluster) (n : ℕ) (store : Store) → In n w.ids → (s : IsShown w) → IsDown store (w.member n) → (s.run.server n).store ≡ store
+stopped_store w n store listed s down = is.stored ∙ down.found
   where
     is : ShowsDown s.run n (w.member n).disk
     is = subst (λ (status : MemberStatus). ShowsMember s.choice s.made w.ids w.frames s.run n status (w.member n).disk) down.status (s.shows.lives n listed)
+
+-- it is sound
+pub stopped_sound : (w : Cluster) (n : ℕ) (store : Store) → In n w.ids → IsShown w → IsDown store (w.member n) → SoundStore store
+stopped_sound w n store listed s down = subst SoundStore (stopped_store w n store listed s down) (s.invariants.stores n)
 
 -- one that runs would find what its server has stored
 pub finds_own : (w : Cluster) (n : ℕ) (t : AllocatorState) → In n w.ids → IsShown w → (w.member n).status ≡ Up t
@@ -102,4 +108,5 @@ laws_say ids fit shows sound w r =
       run = run (initial_world ids) (events fits.0 (cluster ids) r.rows);
       shows = shown.shows;
       invariants = sound ids (events fits.0 (cluster ids) r.rows) shown.lawful;
+      writable = shown.writable;
     })

@@ -24,7 +24,7 @@ abbrev pub AreOf : ℕ → List Queued → Type 0
 AreOf id [] = ⊤
 AreOf id (frame ∷ frames) = (frame.id ≡ id) × AreOf id frames
 
-marked_of : (id step re place : ℕ) (pieces : List Piece) → AreOf id (marked id step re place pieces)
+pub marked_of : (id step re place : ℕ) (pieces : List Piece) → AreOf id (marked id step re place pieces)
 marked_of id step re place [] = tt
 marked_of id step re place (piece ∷ pieces) = (refl, marked_of id step re (suc place) pieces)
 

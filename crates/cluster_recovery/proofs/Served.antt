@@ -16,12 +16,11 @@ use Rattle.transfer_tx.specs.Queue.{Queued, queued_frames}
 use Rattle.allocatee.specs.Accepted.{setting}
 use Rattle.allocatee.specs.Allocatee.{Device, opening}
 use Rattle.alloc_spec.specs.AllocatorState.{AllocatorState, taken}
-use Rattle.alloc_spec.specs.Step.{Event, at_moment, step}
+use Rattle.alloc_spec.specs.Step.{at_moment, step}
 use Rattle.alloc_spec.specs.Step.Event.{Rx}
 use Rattle.alloc_spec.specs.Exchange.{allocation_payload}
 use Rattle.alloc_spec.specs.Transfers.{outgoing}
 use Rattle.can_frame.specs.declared.step.What.TheVariants.{Alloc}
-use Rattle.alloc_spec_laws.specs.Waiting.{all_frames_put}
 use Rattle.raft_model.specs.Moves.Elections.{term_limit}
 use Rattle.cluster_progress.specs.Devices.{RequestsAreRequests, comes_at}
 use Rattle.cluster_progress.specs.Serving.{AsksInTime, with_queue}
@@ -32,7 +31,8 @@ use Rattle.cluster_spec.specs.Cluster.{Cluster}
 use Rattle.cluster_recovery.specs.Alone.{IsLeft, MayBeServed, found}
 use Rattle.cluster_recovery.proofs.Answering.{AnsweringLaws, HasFollowed, IsGiven, follows, gives_pair}
 use Rattle.cluster_recovery.proofs.Asking.{Asked, HasAsked, asks, asks_first, asks_more, comes, leaves}
-use Rattle.cluster_recovery.proofs.Choosing.{Chooses, StandsAt, finds_one, gives_left, grown_length, grown_pair, may_record, not_zeros, recorded_first, same_node, stands, still_injective, still_left, still_new, was_left}
+use Rattle.cluster_recovery.proofs.CalmChoice.{finds_one, gives_left, may_record}
+use Rattle.cluster_recovery.proofs.Choosing.{Chooses, StandsAt, grown_length, grown_pair, not_zeros, recorded_first, same_node, stands, still_injective, still_left, still_new, was_left}
 use Rattle.cluster_recovery.proofs.Goes.{CanGo, and_then, so}
 use Rattle.cluster_recovery.proofs.Hearing.{its_key}
 use Rattle.cluster_recovery.proofs.Leading.{HasComeToLead, Laws, comes_to_lead}
@@ -74,8 +74,6 @@ module _ (uid : List ℕ) (whole : length uid ≡ 16) where
 pub record ServedLaws : Type 0 where
   pub answering : AnsweringLaws
   pub requests : RequestsAreRequests
-  pub queue : (t : AllocatorState) (number : ℕ) (event : Event)
-      → (step t number event).step_state.allocator.queue ≡ t.queue ++ all_frames_put number t.me (step t number event).step_state.offers
   pub blanks : (log : List Entry) (entry : Entry) → IsBlank entry → IsInjective log → IsInjective (log ++ entry ∷ [])
   pub choice : (ids : List Bool) (preferred : ℕ) → IsChoice ids preferred (chosen ids preferred)
 
@@ -139,14 +137,14 @@ module _ (laws : ServedLaws) (n a : ℕ) (low : 1 ≤ n) (high : n ≤ 125) (pla
   -- a new unique ID: one that is left
   pub new_pair : uid ≢ zeros → (HasUid log uid → ⊥) → (node : ℕ) → IsLeft n log node → length log < log_limit → GivesPair (IsLeft n log)
   new_pair device new node left room t number frame serves asked =
-      let choice : Chooses (taken (at_moment moment t)) preferred = finds_one n log moment 2 accepted_two t serves laws.choice preferred node left in
+      let choice : Chooses (taken (at_moment moment t)) preferred = finds_one n log accepted_two 2 t serves.serves moment laws.choice preferred node left in
       record {
         node = choice.node;
         least = choice.least;
         most = choice.most;
-        fits = gives_left n log moment 2 accepted_two t serves preferred choice;
-        waits = pair_waits laws.queue n log moment 2 accepted_two t serves number (comes_at frame moment) third uid preferred choice.node refl asked.request
-            (omega (arith, whole)) third_says (may_record n log moment 2 accepted_two t serves preferred uid device new room choice);
+        fits = gives_left n log accepted_two 2 t serves.serves moment preferred choice;
+        waits = pair_waits n log moment 2 accepted_two t serves number (comes_at frame moment) third refl asked.request uid preferred choice.node
+            (omega (arith, whole)) third_says (may_record n log accepted_two 2 t serves.serves moment preferred uid serves.now device new room choice);
       }
 
   -- one that stands in the log: the node ID that it has there
@@ -156,8 +154,8 @@ module _ (laws : ServedLaws) (n a : ℕ) (low : 1 ≤ n) (high : n ≤ 125) (pla
     least = subst (λ (k : ℕ). 1 ≤ k) p.its_node p.pair.least;
     most = subst (λ (k : ℕ). k ≤ 125) p.its_node p.pair.most;
     fits = refl;
-    waits = pair_waits_again laws.queue n log moment 2 accepted_two t serves number (comes_at frame moment) third uid preferred node there.place refl asked.request
-        (omega (arith, whole)) third_says (not_zeros uid device) (recorded_first log uid there) there.inside there.its_uid
+    waits = pair_waits_again n log moment 2 accepted_two t serves number (comes_at frame moment) third refl asked.request uid preferred node
+        (omega (arith, whole)) third_says there.place (not_zeros uid device) (recorded_first log uid there) there.inside there.its_uid
         (same_node log uid there.place p.place injective device there.inside p.within there.its_uid p.its_uid ∙ p.its_node);
   }
     where

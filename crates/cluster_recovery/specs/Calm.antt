@@ -2,12 +2,16 @@
 use Rattle.std.specs.Prelude.{⊤, ◌≡◌, ◌≢◌, ℕ, ◌+◌, ◌*◌, ◌<◌, ◌≤◌, false, true, is_some, List, [], ◌∷◌, ◌++◌, length, drop, Option, None, Some}
 use Rattle.alloc_exchange.specs.Exchange.{last_moment}
 use Rattle.can_frame.specs.declared.entry.Entry.{Entry}
+use Rattle.can_frame.specs.declared.step.What.TheVariants.{Stat}
+use Rattle.can_frame.specs.Identifier.{identifier_number}
 use Rattle.can_frame.specs.Log.{HasPair, HasUid, log_limit}
 use Rattle.can_frame.specs.Zeros.{zeros}
 use Rattle.cluster_discovery.specs.Members.{owes}
 use Rattle.disk_model.specs.Memory.{nothing_set}
 use Rattle.node_discovery.specs.History.{is_online}
 use Rattle.node_discovery.specs.Watch.{history}
+use Rattle.raft_core.specs.Taken.{proposal}
+use Rattle.raft_model.specs.Lists.{In}
 use Rattle.raft_model.specs.Moves.Elections.{term_limit}
 use Rattle.raft_model.specs.Server.Role.{Leader}
 use Rattle.replay_text.specs.declared.row.Row.{Row}
@@ -15,6 +19,7 @@ use Rattle.replay_text.specs.declared.row.Row.TheVariants.{AOpen, ARx, ASend, AT
 use Rattle.allocatee.specs.Allocatee.{Device}
 use Rattle.transfer_tx.specs.Queue.{Queued}
 use Rattle.alloc_spec.specs.AllocatorState.{AllocatorState, is_known, start_of}
+use Rattle.alloc_spec.specs.Transfers.{ident_of}
 use Rattle.cluster_agreement.specs.Allocatees.{Holds}
 use Rattle.cluster_progress.specs.ComingBack.{HasGrown}
 use Rattle.cluster_recovery.specs.Alone.{CanGoOn, IsLeft, found}
@@ -38,8 +43,9 @@ abbrev pub end_of : ℕ → List Timed → ℕ
 end_of start [] = start
 end_of start (timed ∷ rest) = end_of timed.at rest
 
--- In milliseconds: the device reads its clock at least once in each `period`; of the allocator that is not asked. A
--- queue in which frames wait is empty within `delay`, and a frame takes at most `delay` from the bus to its receiver.
+-- In milliseconds: in calm the device reads its clock at least once in each `period`, and of the allocator that is not
+-- asked; on a quiet bus, on which no device is, the allocator does. A queue in which frames wait is empty within
+-- `delay`, and a frame takes at most `delay` from the bus to its receiver.
 pub record Pace : Type 0 where
   pub period : ℕ
   pub delay : ℕ
@@ -175,10 +181,14 @@ CalmGoesOn = (n a start more : ℕ) (clocks : Clocks) (pace : Pace) (w : Cluster
 
 -- ---- the allocator, when the device comes
 
--- The allocator leads, has committed and told its whole log, which is this one, and has nothing to send. No call of its
--- disk is set to fail. Its clock has not fallen: nothing that it keeps the moment of is later than now. No node is
--- online that it does not know, and it owes no Discovery.
-pub record IsAtRest (n : ℕ) (log : List Entry) (now : ℕ) (w : Cluster) : Type 0 where
+-- no frame waits in the queue of allocator n
+abbrev pub NothingWaits : ℕ → Cluster → Type 0
+NothingWaits n w = queue_of (w.member n).status ≡ []
+
+-- The allocator leads, has committed and told its whole log, which is this one. No call of its disk is set to fail. Its
+-- clock has not fallen: nothing that it keeps the moment of is later than now. No node is online that it does not know,
+-- and it owes no Discovery.
+pub record HasSettled (n : ℕ) (log : List Entry) (now : ℕ) (w : Cluster) : Type 0 where
   pub server : AllocatorState
   pub runs : (w.member n).status ≡ Up server
   pub faults : ℕ
@@ -187,14 +197,25 @@ pub record IsAtRest (n : ℕ) (log : List Entry) (now : ℕ) (w : Cluster) : Typ
   pub log_is : server.raft_server.store.log ≡ log
   pub committed : server.raft_server.store.commit ≡ length log
   pub told : server.raft_server.memory.told ≡ length log
-  pub sent : server.queue ≡ []
   pub clock : server.now ≤ now
   pub status : server.status_at ≤ now
   pub requests : last_moment server.accepted ≤ now
   pub known : (other : ℕ) → is_known server other ≡ false → is_online (history other server.watch) server.now ≡ false
   pub discovery : owes (start_of server) server.heard ≡ false
 
--- it is at rest with this log, or with a blank more
+-- the allocator has settled, and has nothing to send
+pub record IsAtRest (n : ℕ) (log : List Entry) (now : ℕ) (w : Cluster) : Type 0 where
+  pub settled : HasSettled n log now w
+  pub sent : NothingWaits n w
+
+-- the allocator has settled, and nothing waits in its queue but its NodeStatus, three frames at most
+pub record IsReady (n : ℕ) (log : List Entry) (now : ℕ) (w : Cluster) : Type 0 where
+  pub settled : HasSettled n log now w
+  pub statuses : (frame : Queued) → In frame (queue_of (w.member n).status) →
+      frame.id ≡ identifier_number (ident_of n Stat 0)
+  pub few : length (queue_of (w.member n).status) ≤ 3
+
+-- the allocator is at rest with this log, or with a blank more
 pub record HasComeToRest (n : ℕ) (before : List Entry) (now : ℕ) (w : Cluster) : Type 0 where
   pub log : List Entry
   pub grown : HasGrown before log
@@ -217,32 +238,43 @@ pub record HasPlaceFor (n : ℕ) (log : List Entry) (uid : List ℕ) : Type 0 wh
 
 -- ---- the device is served
 
--- some front of these rows ends by this moment, its rows are lawful, and of the world after it this holds
-pub record HappensBy (start last : ℕ) (w : Cluster) (whole : List Timed) (Happens : Cluster → Type 0) : Type 0 where
+-- some front of these rows ends by this moment, its rows are lawful, and of its end and the world then this holds
+pub record HappensBy (start last : ℕ) (w : Cluster) (whole : List Timed) (Happens : ℕ → Cluster → Type 0) : Type 0 where
   pub front : List Timed
   pub rest : List Timed
   pub split : whole ≡ front ++ rest
   pub soon : end_of start front ≤ last
   pub lawful : Lawful w (rows_in front)
-  pub happens : Happens (after_rows w (rows_in front))
+  pub happens : Happens (end_of start front) (after_rows w (rows_in front))
 
--- A device comes, at the moment `start`, to an allocator at rest. In each calm continuation, at a pace of which a
--- period and four delays take 100 ms at most, this happens within 2,100 ms, or the calm is over by then. The device's
--- own timers take 1,000 and twice 400 ms at most, and each stage of the exchange a period and four delays more.
-abbrev pub HappensInCalm : ℕ → List Row → List Entry → List ℕ → (ℕ → Cluster → Type 0) → Type 0
-HappensInCalm n rows log uid Happens = (a preferred word start : ℕ) (clocks : Clocks) (pace : Pace)
-    (whole : List Timed) → is_place a ≡ true → preferred < 128 → pace.period + 4 * pace.delay ≤ 100 →
-    IsAtRest n log (start + clocks.allocator) (world_of (n ∷ []) rows) →
-    let w = after_row (world_of (n ∷ []) rows) (AOpen a uid preferred (start + clocks.device) word) in
+-- A device comes to this world, at the moment `start`. In each calm continuation, at a pace of which a period and four
+-- delays take 100 ms at most, this happens within 2,100 ms, or the calm is over by then. It is said of the device, of
+-- what the allocator's clock reads then, and of the world. The device's own timers take 1,000 and twice 400 ms at most,
+-- and each stage of the exchange a period and four delays more.
+abbrev pub HappensToDevice : ℕ → Cluster → (start : ℕ) → Clocks → List ℕ → (ℕ → ℕ → Cluster → Type 0) → Type 0
+HappensToDevice n before start clocks uid Happens = (a preferred word : ℕ) (pace : Pace) (whole : List Timed) →
+    is_place a ≡ true → preferred < 128 → pace.period + 4 * pace.delay ≤ 100 →
+    let w = after_row before (AOpen a uid preferred (start + clocks.device) word) in
     AreCalm n a clocks pace (no_traffic start) w whole → start + 2100 < end_of start whole →
-    HappensBy start (start + 2100) w whole (Happens a)
+    HappensBy start (start + 2100) w whole (λ moment. Happens a (moment + clocks.allocator))
 
--- the device's unique ID is new: it holds a node ID that was left
+-- this happens to a device that comes to the allocator while it is ready with this log
+abbrev pub HappensInCalm : ℕ → List Row → List Entry → List ℕ → (ℕ → ℕ → Cluster → Type 0) → Type 0
+HappensInCalm n rows log uid Happens = (start : ℕ) (clocks : Clocks) →
+    IsReady n log (start + clocks.allocator) (world_of (n ∷ []) rows) →
+    HappensToDevice n (world_of (n ∷ []) rows) start clocks uid Happens
+
+-- the device holds a node ID that was left, and the allocator has settled with this pair behind its log
+abbrev pub HasServed : ℕ → List Entry → List ℕ → (a now : ℕ) → Cluster → Type 0
+HasServed n log uid a now w = (node : ℕ) × IsLeft n log node × Holds w a uid node
+    × ((term : ℕ) × HasSettled n (log ++ proposal term uid node ∷ []) now w)
+
+-- the device's unique ID is new: it is served
 abbrev pub ServesInTime : ℕ → List Row → Type 0
 ServesInTime n rows = (uid : List ℕ) (log : List Entry) → HasPlaceFor n log uid →
-    HappensInCalm n rows log uid (λ a later. (node : ℕ) × IsLeft n log node × Holds later a uid node)
+    HappensInCalm n rows log uid (HasServed n log uid)
 
--- its unique ID stands in the log: it holds the node ID that it has there
+-- the device's unique ID stands in the log: it holds the node ID that it has there, and the allocator has settled
 abbrev pub TellsInTime : ℕ → List Row → Type 0
 TellsInTime n rows = (uid : List ℕ) (log : List Entry) (node : ℕ) → length uid ≡ 16 → HasPair log uid node →
-    HappensInCalm n rows log uid (λ a later. Holds later a uid node)
+    HappensInCalm n rows log uid (λ a now later. Holds later a uid node × HasSettled n log now later)

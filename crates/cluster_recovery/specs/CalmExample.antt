@@ -1,11 +1,12 @@
--- Rows that meet the premises of calm: an allocator that is alone leads, and a device comes and hears a NodeStatus.
+-- Rows that meet the premises of calm: an allocator that is alone leads, and a device comes and hears a NodeStatus; and
+-- rows that meet those of a quiet bus.
 use Rattle.std.specs.Prelude.{ℕ, false, List, [], ◌∷◌, replicate}
 use Rattle.replay_text.specs.declared.row.Row.{Row}
 use Rattle.replay_text.specs.declared.row.Row.TheVariants.{AOpen, ARx, ATick, Open, Send, Tick}
 use Rattle.cluster_recovery.specs.Calm.{Clocks, Pace, Timed}
 use Rattle.cluster_spec.specs.Cluster.{Cluster, after_row, world_of}
 
--- it opens, leads at its tick after its wait, and its NodeStatus goes out
+-- the allocator opens, leads at its tick after its wait, and its NodeStatus goes out
 abbrev pub first_rows : List Row
 first_rows = Open 1 false 0 0 ∷ Tick 1 2000 0 ∷ Send 1 ∷ []
 
@@ -29,4 +30,17 @@ calm_rows = record { at = 3000; row = Tick 1 3000 0 }
     ∷ record { at = 3005; row = Send 1 }
     ∷ record { at = 3009; row = ARx 1 2 3049 0 }
     ∷ record { at = 3010; row = ATick 1 3050 0 }
+    ∷ []
+
+-- ---- rows of a quiet bus: an allocator that never ran is opened at the moment 0
+
+abbrev pub quiet_pace : Pace
+quiet_pace = record { period = 2000; delay = 10 }
+
+-- the allocator leads at its first tick, and its NodeStatus goes out; it tells another one at its second tick
+abbrev pub quiet_rows : List Timed
+quiet_rows = record { at = 2000; row = Tick 1 2000 0 }
+    ∷ record { at = 2005; row = Send 1 }
+    ∷ record { at = 4000; row = Tick 1 4000 0 }
+    ∷ record { at = 4008; row = Send 1 }
     ∷ []

@@ -1,4 +1,5 @@
 pub mod Alone
 pub mod Calm
 pub mod CalmExample
+pub mod CalmRecovery
 pub mod Recovery

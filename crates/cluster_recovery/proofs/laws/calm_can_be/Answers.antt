@@ -35,23 +35,26 @@ up_is Down e = absurd (cc (e))
 up_is (Up server) e = refl
 up_is (Failed failure) e = absurd (cc (e))
 
-pub returns-clause-rest : goal.returns-clause-rest
+pub returns-clause-ready : goal.returns-clause-ready
 unfolding step all_nodes next_query queued_frames next_out left_behind frames_of
-returns-clause-rest c = record {
-  server = server_in ((world_of (1 ∷ []) first_rows).member 1).status;
-  runs = up_is ((world_of (1 ∷ []) first_rows).member 1).status refl;
-  faults = 0;
-  disk = refl;
-  leads = refl;
-  log_is = refl;
-  committed = refl;
-  told = refl;
-  sent = refl;
-  clock = omega arith;
-  status = omega arith;
-  requests = omega arith;
-  known = λ other e. refl;
-  discovery = refl;
+returns-clause-ready c = record {
+  settled = record {
+    server = server_in ((world_of (1 ∷ []) first_rows).member 1).status;
+    runs = up_is ((world_of (1 ∷ []) first_rows).member 1).status refl;
+    faults = 0;
+    disk = refl;
+    leads = refl;
+    log_is = refl;
+    committed = refl;
+    told = refl;
+    clock = omega arith;
+    status = omega arith;
+    requests = omega arith;
+    known = λ other e. refl;
+    discovery = refl;
+  };
+  statuses = λ frame i. absurd i;
+  few = omega arith;
 }
 
 pub returns-clause-place : goal.returns-clause-place

@@ -1,25 +1,19 @@
 use Rattle.std.proofs.Common.{ℕ, [], ◌∷◌, inl, refl}
-use Rattle.cluster_agreement.proofs.StopsAndOpenings.{DiskLaws, opened_store}
 use Rattle.cluster_agreement.specs.Allocatees.{Holds}
 use Rattle.cluster_recovery.specs.Alone.{IsLeft, found}
-use Rattle.cluster_recovery.proofs.Leading.{Laws}
-use Rattle.cluster_recovery.proofs.Reached.{goes_on, laws_say}
+use Rattle.cluster_recovery.proofs.Leading.{Laws, laws_alone}
+use Rattle.cluster_recovery.proofs.Reached.{goes_on}
 use Rattle.cluster_recovery.proofs.Served.{ServedLaws, is_served, is_told_again}
 use Rattle.cluster_recovery.proofs.laws.who_is_alone_serves_devices.Goals as goal
 use Rattle.cluster_spec.specs.Cluster.{AreMembers, cluster, world_of}
 
 pub returns : goal.returns
 returns c =
-    let disk : DiskLaws = record {
+    let laws : (n : ℕ) → AreMembers (n ∷ []) → Laws (n ∷ []) = laws_alone (record {
       done = λ key_disk puts e. (c.the_disk_by_states.ensures.done key_disk puts e).0;
       found_again = c.the_disk_by_states.ensures.found_again;
       keeps_store = c.an_opening_keeps_the_store.ensures;
-    } in
-    let laws : (n : ℕ) → AreMembers (n ∷ []) → Laws (n ∷ []) = λ n members. record {
-      keeps_store = opened_store disk;
-      shown = laws_say (n ∷ []) (λ list h. c.a_choice_fits.ensures (n ∷ []) list members h)
-          (λ choice list h fits. c.rows_are_shown.ensures choice (n ∷ []) list members h fits) c.law_every_run.ensures.invariants;
-    } in
+    }) c.a_choice_fits.ensures c.rows_are_shown.ensures c.law_every_run.ensures.invariants in
     let served : ServedLaws = record {
       answering = record {
         hearing = record {
@@ -32,7 +26,6 @@ returns c =
         read = c.allocations_both_ways.ensures.read_again;
         count = c.frames_by_place.ensures.count;
       };
-      queue = c.queue_of_a_step.ensures;
       blanks = λ log entry blank injective. (c.logs_stay_injective.ensures.blank log entry blank).1 injective;
       requests = c.requests_of_devices_are_requests.ensures;
       choice = c.chosen_is_the_choice.ensures.is;
