@@ -4,13 +4,13 @@ use Rattle.replay_text.specs.declared.row.Row.{Row}
 use Rattle.replay_text.specs.declared.told.Told.{Told}
 use Rattle.replay_text.specs.Lines.{BeginsWith, BeginsWithNoRow, ReadsRows}
 use Rattle.cluster_spec.specs.Cluster.{Cluster, after_rows, after_row}
-use Rattle.cluster_spec.specs.Lawful.{Lawful, cause}
+use Rattle.cluster_spec.specs.Lawful.{AreLawful, cause}
 use Rattle.cluster_spec.specs.OwnLogs.{GivesOnce, KeepsItsWord, OffersItsOwn}
 use Rattle.cluster_spec.specs.Report.{row_lines, line_of_row}
 use Rattle.replay_text.specs.ReportLine.{text_of_line, report_line_of}
 use Rattle.cluster_spec.specs.declared.unlawful.Unlawful.{Unlawful}
 use Rattle.allocator_app.specs.Input.{FindsRow}
-use Rattle.allocator_app.specs.Report.{ReadsUpTo, ReadsKeepingPromise, IsBadRow, IsBeyond, IsRefused}
+use Rattle.allocator_app.specs.Report.{ReadsUpTo, ReadsKeepingWord, IsBadRow, IsBeyond, IsRefused}
 
 -- ---- lists of rows, one behind the other
 
@@ -18,9 +18,9 @@ ReadsRows-append : (a b : List Row) (x y z : List ℕ) → ReadsRows a x y → R
 ReadsRows-append [] b x y z p q = subst (λ v. ReadsRows b v z) (sym p) q
 ReadsRows-append (row ∷ a) b x y z p q = (p.0, p.1, ReadsRows-append a b p.0 y z p.2 q)
 
-Lawful-append : (w : Cluster) (a b : List Row) → Lawful w a → Lawful (after_rows w a) b → Lawful w (a ++ b)
-Lawful-append w [] b p q = q
-Lawful-append w (row ∷ a) b p q = (p.0, Lawful-append (after_row w row) a b p.1 q)
+AreLawful-append : (w : Cluster) (a b : List Row) → AreLawful w a → AreLawful (after_rows w a) b → AreLawful w (a ++ b)
+AreLawful-append w [] b p q = q
+AreLawful-append w (row ∷ a) b p q = (p.0, AreLawful-append (after_row w row) a b p.1 q)
 
 lines-append : (w : Cluster) (a b : List Row) → row_lines w (a ++ b) ≡ row_lines w a ++ row_lines (after_rows w a) b
 lines-append w [] b = refl
@@ -33,7 +33,7 @@ after-append w [] b = refl
 after-append w (row ∷ a) b = after-append (after_row w row) a b
 
 pub comes-nil : (w : Cluster) (bytes : List ℕ) → ReadsUpTo w bytes [] w bytes
-comes-nil w bytes = record { rows = []; reads = refl; lawful = tt; told = refl; leaves = refl }
+comes-nil w bytes = record { rows = []; reads = refl; lawful = tt; lines_are = refl; leaves = refl }
 
 pub comes-one : (w : Cluster) (row : Row) (bytes rest : List ℕ) → BeginsWith row bytes rest → cause w row ≡ None →
     ReadsUpTo w bytes (text_of_line (w.rows + 1) (line_of_row w row)) (after_row w row) rest
@@ -41,7 +41,7 @@ comes-one w row bytes rest begins lawful = record {
   rows = row ∷ [];
   reads = (rest, begins, refl);
   lawful = (lawful, tt);
-  told = sym (append-nil (text_of_line (w.rows + 1) (line_of_row w row)));
+  lines_are = sym (append-nil (text_of_line (w.rows + 1) (line_of_row w row)));
   leaves = refl;
 }
 
@@ -49,8 +49,8 @@ pub comes-join : (u v w : Cluster) (x y z l m : List ℕ) → ReadsUpTo u x l v 
 comes-join u v w x y z l m p q = record {
   rows = p.rows ++ q.rows;
   reads = ReadsRows-append p.rows q.rows x y z p.reads q.reads;
-  lawful = Lawful-append u p.rows q.rows p.lawful (subst (λ s. Lawful s q.rows) p.leaves q.lawful);
-  told = ap (λ k. l ++ k) q.told ∙ ap (λ k. k ++ row_lines v q.rows) p.told ∙ ap (λ s. row_lines u p.rows ++ row_lines s q.rows) p.leaves
+  lawful = AreLawful-append u p.rows q.rows p.lawful (subst (λ s. AreLawful s q.rows) p.leaves q.lawful);
+  lines_are = ap (λ k. l ++ k) q.lines_are ∙ ap (λ k. k ++ row_lines v q.rows) p.lines_are ∙ ap (λ s. row_lines u p.rows ++ row_lines s q.rows) p.leaves
       ∙ sym (lines-append u p.rows q.rows);
   leaves = q.leaves ∙ ap (λ s. after_rows s q.rows) p.leaves ∙ sym (after-append u p.rows q.rows);
 }
@@ -61,16 +61,16 @@ Kept-append : (w : Cluster) (a b : List Row) → KeepsItsWord w a → KeepsItsWo
 Kept-append w [] b p q = q
 Kept-append w (row ∷ a) b p q = (p.0, p.1, Kept-append (after_row w row) a b p.2 q)
 
-pub goes-nil : (w : Cluster) (bytes : List ℕ) → GivesOnce w → ReadsKeepingPromise w bytes [] w bytes
+pub goes-nil : (w : Cluster) (bytes : List ℕ) → GivesOnce w → ReadsKeepingWord w bytes [] w bytes
 unfolding comes-nil
 goes-nil w bytes once = record { comes = comes-nil w bytes; kept = once }
 
 pub goes-one : (w : Cluster) (row : Row) (bytes rest : List ℕ) → BeginsWith row bytes rest → cause w row ≡ None → GivesOnce w → OffersItsOwn w row →
-    GivesOnce (after_row w row) → ReadsKeepingPromise w bytes (text_of_line (w.rows + 1) (line_of_row w row)) (after_row w row) rest
+    GivesOnce (after_row w row) → ReadsKeepingWord w bytes (text_of_line (w.rows + 1) (line_of_row w row)) (after_row w row) rest
 unfolding comes-one
 goes-one w row bytes rest begins lawful once own then = record { comes = comes-one w row bytes rest begins lawful; kept = (once, own, then) }
 
-pub goes-join : (u v w : Cluster) (x y z l m : List ℕ) → ReadsKeepingPromise u x l v y → ReadsKeepingPromise v y m w z → ReadsKeepingPromise u x (l ++ m) w z
+pub goes-join : (u v w : Cluster) (x y z l m : List ℕ) → ReadsKeepingWord u x l v y → ReadsKeepingWord v y m w z → ReadsKeepingWord u x (l ++ m) w z
 unfolding comes-join
 goes-join u v w x y z l m p q = record {
   comes = comes-join u v w x y z l m p.comes q.comes;
@@ -79,14 +79,14 @@ goes-join u v w x y z l m p q = record {
 
 -- one row more is taken
 pub goes-more : (first w : Cluster) (row : Row) (t : Told) (waiting before behind lines line : List ℕ) (n : ℕ) →
-    ((more : List ℕ) → ReadsKeepingPromise first (waiting ++ more) lines w (before ++ more)) → FindsRow row before behind →
+    ((more : List ℕ) → ReadsKeepingWord first (waiting ++ more) lines w (before ++ more)) → FindsRow row before behind →
     cause w row ≡ None → report_line_of t ≡ line_of_row w row → GivesOnce w → OffersItsOwn w row → GivesOnce (after_row w row) → n ≡ w.rows + 1 → line ≡ text_of_line n (report_line_of t) →
-    (more : List ℕ) → ReadsKeepingPromise first (waiting ++ more) (lines ++ line) (after_row w row) (behind ++ more)
+    (more : List ℕ) → ReadsKeepingWord first (waiting ++ more) (lines ++ line) (after_row w row) (behind ++ more)
 goes-more first w row t waiting before behind lines line n came found lawful tells once own then count is_line more =
     let one = goes-one w row (before ++ more) (behind ++ more) (found.begins more) lawful once own then in
     let told_so = is_line ∙ ap (text_of_line n) tells ∙ ap (λ k. text_of_line k (line_of_row w row)) count in
     goes-join first w (after_row w row) (waiting ++ more) (before ++ more) (behind ++ more) lines line (came more)
-    (subst (λ l. ReadsKeepingPromise w (before ++ more) l (after_row w row) (behind ++ more)) (sym told_so) one)
+    (subst (λ l. ReadsKeepingWord w (before ++ more) l (after_row w row) (behind ++ more)) (sym told_so) one)
 
 -- ---- the row that is not taken
 

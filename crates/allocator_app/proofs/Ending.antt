@@ -5,7 +5,7 @@ use Rattle.replay_text.specs.declared.row.Row.{Row}
 use Rattle.replay_text.specs.Lines.{ReadsRows}
 use Rattle.replay_text.specs.Schedule.{Reads}
 use Rattle.cluster_spec.specs.Cluster.{AreMembers, Cluster, after_rows, cluster}
-use Rattle.cluster_spec.specs.Lawful.{Lawful}
+use Rattle.cluster_spec.specs.Lawful.{AreLawful}
 use Rattle.cluster_spec.specs.Report.{end_lines, row_lines}
 use Rattle.allocator_app.specs.Report.{IsReport, IsToTheEnd}
 use Rattle.allocator_app.specs.Rows.{Ends, IsTold}
@@ -23,7 +23,7 @@ reported Memory limit first bytes left sink sink_now ends over = absurd over
 reported _ limit first bytes left sink sink_now ends over = ends
 
 -- what holds along all lawful rows holds along those of the report
-pub holds_along : (Claim : List ℕ → List Row → Type 0) → ((ids : List ℕ) (rows : List Row) → AreMembers ids → Lawful (cluster ids) rows → Claim ids rows) →
+pub holds_along : (Claim : List ℕ → List Row → Type 0) → ((ids : List ℕ) (rows : List Row) → AreMembers ids → AreLawful (cluster ids) rows → Claim ids rows) →
     (status : Status) (limit : ℕ) (nodes bytes : List ℕ) (left sink sink_now : Option (List ℕ)) → AreMembers nodes →
     Ends status limit (cluster nodes) bytes left sink sink_now → IsToTheEnd status →
     (told : IsTold status limit (cluster nodes) bytes left sink sink_now) × Claim nodes told.is.comes.rows
@@ -42,14 +42,14 @@ completed one result limit first bytes report status left sink sink_now ends tol
     inl (one_report one limit first bytes ends.report report result status ends.is told).1
 
 -- a schedule of lawful rows, as many as may come at most, has a report that ends with `Done`
-pub all_lawful : (limit : ℕ) (ids bytes : List ℕ) (rows : List Row) → ReadsRows rows bytes [] → length rows ≤ limit → Lawful (cluster ids) rows →
+pub all_lawful : (limit : ℕ) (ids bytes : List ℕ) (rows : List Row) → ReadsRows rows bytes [] → length rows ≤ limit → AreLawful (cluster ids) rows →
     IsReport limit (cluster ids) bytes (row_lines (cluster ids) rows ++ end_lines (after_rows (cluster ids) rows)) Done
 all_lawful limit ids bytes rows reads few lawful = record {
   end = after_rows (cluster ids) rows;
   rest = [];
   lines = row_lines (cluster ids) rows;
   last = end_lines (after_rows (cluster ids) rows);
-  comes = record { rows = rows; reads = reads; lawful = lawful; told = refl; leaves = refl };
+  comes = record { rows = rows; reads = reads; lawful = lawful; lines_are = refl; leaves = refl };
   within = let count = rows-grow (cluster ids) rows in omega (arith, count, few);
   says = (refl, refl);
   written = refl;

@@ -5,7 +5,7 @@ use Rattle.replay_text.specs.declared.row.Row.{Row}
 use Rattle.replay_text.specs.Lines.{BeginsWith, ReadsRows, after_line, first_line}
 use Rattle.replay_text.specs.Schedule.{Reads}
 use Rattle.cluster_spec.specs.Cluster.{Cluster, after_rows, after_row}
-use Rattle.cluster_spec.specs.Lawful.{Lawful, cause, number_of}
+use Rattle.cluster_spec.specs.Lawful.{AreLawful, cause, number_of}
 use Rattle.cluster_spec.specs.Report.{row_lines, line_of_row}
 use Rattle.replay_text.specs.ReportLine.{text_of_line}
 use Rattle.cluster_spec.specs.declared.unlawful.Unlawful.{Unlawful}
@@ -32,9 +32,9 @@ some-same e = cc
 
 module _ (one_row : (a b : Row) (line : List ℕ) → Reads a line → Reads b line → a ≡ b) (limit : ℕ) where
   -- rows that were taken are the first of those that are taken up to where none can be
-  along : (w : Cluster) (rows others : List Row) (bytes rest left : List ℕ) → ReadsRows rows bytes rest → Lawful w rows →
-      (after_rows w rows).rows ≤ limit → ReadsRows others bytes left → Lawful w others → IsStuck limit (after_rows w others) left →
-      (more : List Row) × ReadsRows more rest left × Lawful (after_rows w rows) more × (after_rows w others ≡ after_rows (after_rows w rows) more)
+  along : (w : Cluster) (rows others : List Row) (bytes rest left : List ℕ) → ReadsRows rows bytes rest → AreLawful w rows →
+      (after_rows w rows).rows ≤ limit → ReadsRows others bytes left → AreLawful w others → IsStuck limit (after_rows w others) left →
+      (more : List Row) × ReadsRows more rest left × AreLawful (after_rows w rows) more × (after_rows w others ≡ after_rows (after_rows w rows) more)
       × (row_lines w others ≡ row_lines w rows ++ row_lines (after_rows w rows) more)
   along w [] others bytes rest left reads lawful within reads_all lawful_all stuck =
       (others, subst (λ b. ReadsRows others b left) reads reads_all, lawful_all, refl, refl)
@@ -45,7 +45,7 @@ module _ (one_row : (a b : Row) (line : List ℕ) → Reads a line → Reads b l
       let same : other ≡ row = one_row other row (first_line bytes) reads_all.1.reads reads.1.reads in
       let here : reads_all.0 ≡ reads.0 = some-same (sym reads_all.1.ended ∙ reads.1.ended) in
       let far = along (after_row w row) rows others reads.0 rest left reads.2 lawful.1 within
-      (subst (λ b. ReadsRows others b left) here reads_all.2) (subst (λ r. Lawful (after_row w r) others) same lawful_all.1)
+      (subst (λ b. ReadsRows others b left) here reads_all.2) (subst (λ r. AreLawful (after_row w r) others) same lawful_all.1)
       (subst (λ r. IsStuck limit (after_rows (after_row w r) others) left) same stuck) in
       let line = text_of_line (w.rows + 1) (line_of_row w row) in (
         far.0,
@@ -149,7 +149,7 @@ module _ (one_row : (a b : Row) (line : List ℕ) → Reads a line → Reads b l
   one_end end rest last other NoValue ending p q = absurd p
 
   -- where none can be taken, none more is
-  none_more : (w : Cluster) (rows : List Row) (bytes rest : List ℕ) → IsStuck limit w bytes → ReadsRows rows bytes rest → Lawful w rows →
+  none_more : (w : Cluster) (rows : List Row) (bytes rest : List ℕ) → IsStuck limit w bytes → ReadsRows rows bytes rest → AreLawful w rows →
       (after_rows w rows).rows ≤ limit → (bytes ≡ rest) × (rows ≡ [])
   none_more w [] bytes rest stuck reads lawful within = (reads, refl)
   none_more w (row ∷ rows) bytes rest stuck reads lawful within =
@@ -173,8 +173,8 @@ module _ (one_row : (a b : Row) (line : List ℕ) → Reads a line → Reads b l
       (subst (λ (w : Cluster). w.rows ≤ limit) far.3 q_within) in (
         none.0,
         q_end ∙ far.3 ∙ ap (after_rows here) none.1 ∙ sym p_end,
-        q.comes.told ∙ far.4 ∙ ap (λ r. row_lines first p.comes.rows ++ row_lines here r) none.1 ∙ append-nil (row_lines first p.comes.rows)
-            ∙ sym p.comes.told,
+        q.comes.lines_are ∙ far.4 ∙ ap (λ r. row_lines first p.comes.rows ++ row_lines here r) none.1 ∙ append-nil (row_lines first p.comes.rows)
+            ∙ sym p.comes.lines_are,
       )
 
   pub one_report : (first : Cluster) (bytes report other : List ℕ) (status ending : Status) → IsReport limit first bytes report status →
@@ -198,7 +198,7 @@ module _ (one_row : (a b : Row) (line : List ℕ) → Reads a line → Reads b l
         let far = along first comes.rows q.comes.rows bytes written.rest q.rest comes.reads comes.lawful (subst (λ (w : Cluster). w.rows ≤ limit) comes.leaves within)
         q.comes.reads q.comes.lawful (stuck-at_end (after_rows first q.comes.rows) q.rest q.last status q_says) in
         let behind = row_lines (after_rows first comes.rows) far.0 in
-        let all : q.lines ≡ written.text ++ behind = q.comes.told ∙ far.4 ∙ ap (λ l. l ++ behind) (sym comes.told) in
+        let all : q.lines ≡ written.text ++ behind = q.comes.lines_are ∙ far.4 ∙ ap (λ l. l ++ behind) (sym comes.lines_are) in
         subst (WritesFront sink_before sink_now) (sym (q.written ∙ ap (λ l. l ++ q.last) all ∙ append_assoc written.text behind q.last))
         (front-of_more sink_before sink_now written.text (behind ++ q.last) written.front)
     by (OfAll ending other rest_is) = subst (WritesFront sink_before sink_now) (one_report first bytes written.text report ending status other q).0 written.front

@@ -11,8 +11,8 @@ use Rattle.cmd_base.specs.NoFurther.{ReadsNoFurther}
 use Rattle.cmd_base.specs.Output.{Grows, WritesFront}
 use Rattle.cluster_spec.specs.Cluster.{Cluster}
 use Rattle.cluster_spec.specs.OwnLogs.{GivesOnce}
-use Rattle.allocator_app.specs.Report.{ReadsKeepingPromise, IsOfSchedule, IsReport, Says}
-use Rattle.allocator_app.specs.Rows.{BreaksOff, Ends, EndsAt, IsTold, ReadsRows, StopsAt, TakesRows, Waits, WaitsOn, last_of, status_of}
+use Rattle.allocator_app.specs.Report.{ReadsKeepingWord, IsOfSchedule, IsReport, Says}
+use Rattle.allocator_app.specs.Rows.{BreaksOff, Ends, ScheduleEndsAt, IsTold, ReadsRows, StopsAt, TakesRows, Waits, WaitsOn, last_of, status_of}
 use Rattle.cmd_base.specs.declared.status.Status.TheVariants.{Memory, ReadFault, WriteFault}
 use Rattle.allocator_app.specs.declared.rows.Rows.{Rows}
 use Rattle.allocator_app.specs.declared.rows.Rows.TheVariants.{Taken, NoRow, Refused, Full}
@@ -44,7 +44,7 @@ start w once bytes left sink known waiting none same = record {
   ahead = bytes;
   left_is = known;
   lines = [];
-  goes = subst (ReadsKeepingPromise w bytes [] w) (sym (ap (λ v. v ++ bytes) none)) (goes-nil w bytes once);
+  goes = subst (ReadsKeepingWord w bytes [] w) (sym (ap (λ v. v ++ bytes) none)) (goes-nil w bytes once);
   written = same;
 }
 
@@ -88,8 +88,8 @@ still_ahead first bytes left sink sink_now sink_then reads grew = record {
 -- a read and the rows that it brought
 module _ (first w now : Cluster) (bytes waiting filled : List ℕ) (left left_now sink sink_before : Option (List ℕ))
     (read : HasRead first w bytes waiting left sink sink_before) (more : ReadsMore left left_now waiting filled true) where
-  on : (lines rest : List ℕ) → ((more : List ℕ) → ReadsKeepingPromise w (filled ++ more) lines now (rest ++ more)) →
-      (ahead : List ℕ) × (left_now ≡ Some ahead) × ReadsKeepingPromise first bytes (read.lines ++ lines) now (rest ++ ahead)
+  on : (lines rest : List ℕ) → ((more : List ℕ) → ReadsKeepingWord w (filled ++ more) lines now (rest ++ more)) →
+      (ahead : List ℕ) × (left_now ≡ Some ahead) × ReadsKeepingWord first bytes (read.lines ++ lines) now (rest ++ ahead)
   on lines rest comes =
       let front = consumed read.ahead more.came left_now (subst (λ l. Consumes l left_now more.came) read.left_is more.taken) in
       let ahead = front.0 in
@@ -97,7 +97,7 @@ module _ (first w now : Cluster) (bytes waiting filled : List ℕ) (left left_no
       ap (λ v. waiting ++ v) front.2 ∙ sym (append_assoc waiting more.came ahead) ∙ ap (λ v. v ++ ahead) (sym more.behind) in (
         ahead,
         front.1,
-        goes-join first w now bytes (filled ++ ahead) (rest ++ ahead) read.lines lines (subst (ReadsKeepingPromise first bytes read.lines w) here read.goes) (comes ahead),
+        goes-join first w now bytes (filled ++ ahead) (rest ++ ahead) read.lines lines (subst (ReadsKeepingWord first bytes read.lines w) here read.goes) (comes ahead),
       )
 
 -- behind its rows no more was read than that
@@ -124,14 +124,14 @@ read_on limit first w now bytes waiting filled behind left left_now sink sink_be
       ahead = went.0;
       left_is = went.1;
       lines = lines;
-      goes = subst (λ rest. ReadsKeepingPromise first bytes lines now (rest ++ went.0)) took.stops went.2;
+      goes = subst (λ rest. ReadsKeepingWord first bytes lines now (rest ++ went.0)) took.stops went.2;
       written = flushed sink sink_now sink_then output_now lines
           (written_on sink sink_before sink_now output read.lines took.lines none read.written output_now took.written) wrote;
     }
 
 -- where the rows that wait end, and not for want of bytes, the schedule ends, whatever is left
 ends_there : (limit : ℕ) (w : Cluster) (rest behind more : List ℕ) (rows : Rows) → (rows ≡ Taken → ⊥) → StopsAt limit w rest behind rows →
-    EndsAt limit w (rest ++ more) rows
+    ScheduleEndsAt limit w (rest ++ more) rows
 ends_there limit w rest behind more Taken not stops = absurd (not refl)
 ends_there limit w rest behind more _ not stops = stops more
 
@@ -248,7 +248,7 @@ ended_taken limit first w bytes waiting filled left left_now sink sink_now outpu
     record {
       lines = read.lines;
       rest = [];
-      goes = subst (ReadsKeepingPromise first bytes read.lines w) nothing read.goes;
+      goes = subst (ReadsKeepingWord first bytes read.lines w) nothing read.goes;
       ends = refl;
       no_further = record { read = []; unread = []; parts = refl; few = omega arith; left_is = only.2 };
       written = appends_waiting sink sink_now output read.lines none read.written;
@@ -265,7 +265,7 @@ ended_unended limit first w bytes waiting filled left left_now sink sink_now out
     record {
       lines = read.lines;
       rest = waiting;
-      goes = subst (ReadsKeepingPromise first bytes read.lines w) rest read.goes;
+      goes = subst (ReadsKeepingWord first bytes read.lines w) rest read.goes;
       ends = record {
         within = elim another [ inl empty ↦ absurd (some (only.1 ∙ empty)) | inr low ↦ low ];
         bad = record {
@@ -292,7 +292,7 @@ some_length (x ∷ xs) h = omega arith
 -- ---- the end of the report
 
 -- what is said of the end, by how the rows ended
-says : (limit : ℕ) (end : Cluster) (rest : List ℕ) (rows : Rows) → EndsAt limit end rest rows → Says limit end rest (last_of rows end) (status_of rows end.rows)
+says : (limit : ℕ) (end : Cluster) (rest : List ℕ) (rows : Rows) → ScheduleEndsAt limit end rest rows → Says limit end rest (last_of rows end) (status_of rows end.rows)
 says limit end rest Taken ends = (ends, refl)
 says limit end rest NoRow ends = (ends, refl, refl)
 says limit end rest (Refused why) ends = (why, ends, refl, refl, refl)

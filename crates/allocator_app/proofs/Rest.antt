@@ -14,14 +14,14 @@ use Rattle.cluster_spec.specs.Cluster.{Cluster}
 use Rattle.allocator_app.specs.Input.{Finds, FindsRow}
 use Rattle.allocator_app.specs.declared.input.Next.{Next}
 use Rattle.allocator_app.specs.Reaching.{Reaches}
-use Rattle.allocator_app.specs.Report.{ReadsKeepingPromise}
+use Rattle.allocator_app.specs.Report.{ReadsKeepingWord}
 use Rattle.allocator_app.specs.Rows.{StopsAt, TakesRows}
 use Rattle.allocator_app.specs.declared.rows.Rows.{Rows}
 
 -- rows were taken so far, and what they tell was written or waits to be
 abbrev pub TakesSome : Cluster → Cluster → List ℕ → List ℕ → Option (List ℕ) → List ℕ → Option (List ℕ) → List ℕ → Type 0
 TakesSome first now waiting rest sink output sink_now output_now =
-    (lines : List ℕ) × ((more : List ℕ) → ReadsKeepingPromise first (waiting ++ more) lines now (rest ++ more))
+    (lines : List ℕ) × ((more : List ℕ) → ReadsKeepingWord first (waiting ++ more) lines now (rest ++ more))
     × Appends (append_known sink output) (append_known sink_now output_now) lines
 
 -- where they stop, the world being as it is

@@ -13,7 +13,7 @@ use Rattle.cmd_node.specs.Nodes.{IsCutInTurn, IsDone, IsEnd, LeavesWith, RunsNod
 use Rattle.cmd_node.specs.Opening.{RunInput}
 use Rattle.cmd_node.specs.WholeRun.{LeavesAll, Tell, after_turns}
 use Rattle.cmd_node_laws.specs.Processes.{Opening, Turning, together_at}
-use Rattle.cmd_node_laws.specs.Stands.{IsCutAsTold, IsCutOpeningAsTold, IsRunIn, LeavesAsTold, world_after}
+use Rattle.cmd_node_laws.specs.Stands.{IsCutAsInWorld, IsCutOpeningAsInWorld, IsRunIn, LeavesAsInWorld, world_after}
 use Rattle.cmd_node_laws.specs.Traces.{Event, MayAllHappen, all_rows}
 use Rattle.allocator_app.specs.Nodes.{IsCutInTraces, IsCutOpeningInTraces, IsDoneInTraces, RunsInTraces}
 use Rattle.allocator_app.specs.Promise.{KeepsPromise}
@@ -26,16 +26,16 @@ module _ {L D : Type 0} (coming : L → Option (List Received)) (sent : L → Op
 
   module _ (done : (ids mine : List ℕ) (before during : List Event) (rules : Rules) (turns : ℕ) (given : RunInput) (links : List L) (disks : List (Option D)) (readings : Option (List ℕ)) →
       IsRunIn ids before during rules mine given (Turning turns 0) → LeavesAll coming sent disk links disks readings (length mine) (after_turns rules turns mine given) →
-      let w = world_after ids before in LeavesAsTold sent disk links disks mine given w (world_after ids (before ++ during)) (all_rows during w))
+      let w = world_after ids before in LeavesAsInWorld sent disk links disks mine given w (world_after ids (before ++ during)) (all_rows during w))
       (cut : (ids mine : List ℕ) (before during : List Event) (rules : Rules) (taken place : ℕ) (given : RunInput) (links : List L) (disks : List (Option D)) (readings : Option (List ℕ)) →
       place < length mine → IsRunIn ids before during rules mine given (Turning taken place) → let all = together_at rules mine given taken place in
       IsCutAtTurn coming sent disk links disks readings (length mine) all place → let w = world_after ids before in
-      IsCutAsTold coming sent disk links disks mine given w (world_after ids (before ++ during)) (all_rows during w) all place)
+      IsCutAsInWorld coming sent disk links disks mine given w (world_after ids (before ++ during)) (all_rows during w) all place)
       (opening : (ids mine : List ℕ) (before during : List Event) (rules : Rules) (given : RunInput) (links_old links : List L) (disks_old disks : List (Option D)) (readings_old readings : Option (List ℕ)) (id : ℕ) →
       Tell coming sent disk links_old disks_old readings_old given →
       (cut : IsCutAtOpening disk mine links_old links disks_old disks readings_old readings (KeepsOrOpens disk) id) →
       IsRunIn ids before during rules mine given (Opening cut.place) → let w = world_after ids before in
-      IsCutOpeningAsTold disk disks_old disks rules mine given w (world_after ids (before ++ during)) (all_rows during w) cut.place)
+      IsCutOpeningAsInWorld disk disks_old disks rules mine given w (world_after ids (before ++ during)) (all_rows during w) cut.place)
       (promise : (ids : List ℕ) (trace : List Event) → AreMembers ids → MayAllHappen trace (cluster ids) → KeepsPromise ids (all_rows trace (cluster ids)))
       (on_bus : StandOnBus rules mine) where
     cut_in_traces : (given : RunInput) (id : ℕ) → Tell coming sent disk links_old disks_old readings_old given →
@@ -48,7 +48,7 @@ module _ {L D : Type 0} (coming : L → Option (List Received)) (sent : L → Op
           place = turn.place;
           within = turn.within;
           id_is = turn.named;
-          told = λ ids first rest stands. cut ids mine first rest rules left.taken turn.place given links disks readings turn.within stands turn.cut;
+          in_world = λ ids first rest stands. cut ids mine first rest rules left.taken turn.place given links disks readings turn.within stands turn.cut;
           promise = λ ids first rest stands. promise ids (first ++ rest) stands.members stands.may;
         }
 
@@ -61,7 +61,7 @@ module _ {L D : Type 0} (coming : L → Option (List Received)) (sent : L → Op
     opening_in_traces : (given : RunInput) (id : ℕ) → Tell coming sent disk links_old disks_old readings_old given → AtOpening id → OpeningInTraces given id
     opening_in_traces given id tell is = record {
       opening = is;
-      told = λ ids first rest stands. opening ids mine first rest rules given links_old links disks_old disks readings_old readings id tell is stands;
+      in_world = λ ids first rest stands. opening ids mine first rest rules given links_old links disks_old disks readings_old readings id tell is stands;
       promise = λ ids first rest stands. promise ids (first ++ rest) stands.members stands.may;
     }
 
@@ -79,7 +79,7 @@ module _ {L D : Type 0} (coming : L → Option (List Received)) (sent : L → Op
 
     done_in_traces : (given : RunInput) → Tell coming sent disk links_old disks_old readings_old given → IsDone coming sent link_faults disk rules turns mine links_old links disks_old disks readings_old readings → IsDoneInTraces coming sent disk links disks rules mine given turns
     done_in_traces given tell is = record {
-      told = λ ids first rest stands. done ids mine first rest rules turns given links disks readings stands (is.left given tell);
+      in_world = λ ids first rest stands. done ids mine first rest rules turns given links disks readings stands (is.left given tell);
       promise = λ ids first rest stands. promise ids (first ++ rest) stands.members stands.may;
     }
 
@@ -111,7 +111,7 @@ module _ {L D : Type 0} (coming : L → Option (List Received)) (sent : L → Op
     in_traces runs = record {
       runs = runs;
       done = λ given tell over. let left = subst Ended over runs.leaves in record {
-        told = λ ids first rest stands. done ids mine first rest rules turns given links disks readings stands (left.end.left given tell);
+        in_world = λ ids first rest stands. done ids mine first rest rules turns given links disks readings stands (left.end.left given tell);
         promise = λ ids first rest stands. promise ids (first ++ rest) stands.members stands.may;
       };
       cut = λ given id tell ends. elim ends [
@@ -123,5 +123,5 @@ module _ {L D : Type 0} (coming : L → Option (List Received)) (sent : L → Op
         | inr (inr damaged) ↦ let left = subst Ended damaged.1 runs.leaves in inl (opening_in_traces given id tell (widened id left.end.1))
       ];
       output_failed = λ given tell is. let left = subst Ended is runs.leaves in by_end given tell left.0 left.1.end;
-      bus = on_bus;
+      stands_on_bus = on_bus;
     }

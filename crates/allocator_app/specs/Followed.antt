@@ -14,7 +14,7 @@ use Rattle.allocator_app.specs.declared.plans.Plan.{Plan}
 use Rattle.allocator_app.specs.declared.plans.Plan.TheVariants.{Replay, Node, Soak, New, Audit, Watch, Convert, Decode}
 use Rattle.allocator_app.specs.Rows.{Replays}
 use Rattle.allocator_app.specs.Soaking.{Soaks}
-use Rattle.allocator_app.specs.Told.{rules_of}
+use Rattle.allocator_app.specs.Told.{told_rules}
 
 -- The objects of the outside before and now: links, disks, what the clock reads, what is left in the source and the
 -- faults that it has counted, those that the sink has counted and what it has been written.
@@ -24,7 +24,7 @@ module _ {L D : Type 0} (coming : L → Option (List Received)) (sent : L → Op
     (before now : Option (List ℕ)) (status : Status) where
   abbrev pub IsFollowed : Plan → Type 0
   IsFollowed (Replay rows ids) = Replays rows ids.items left_old left before now status
-  IsFollowed (Node told base turns ids) = RunsNodes coming sent link_faults disk (rules_of told) turns ids.items
+  IsFollowed (Node told base turns ids) = RunsNodes coming sent link_faults disk (told_rules told) turns ids.items
       links_old links disks_old disks readings_old readings sink_old sink before now status
   IsFollowed (Soak told seed rounds size) = Soaks told seed rounds size sink_old sink before now status
   IsFollowed (New ids) = MakesStores disk ids.items disks_old disks before now status

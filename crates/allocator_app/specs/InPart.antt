@@ -4,7 +4,7 @@ use Rattle.std.specs.Io.KnownBytes.{Appends}
 use Rattle.replay_text.specs.Lines.{after_line}
 use Rattle.cmd_base.specs.Output.{WritesFront}
 use Rattle.cmd_base.specs.NoFurther.{ReadsNoFurther}
-use Rattle.allocator_app.specs.Report.{ReadsUpTo, ReadsKeepingPromise, IsReport}
+use Rattle.allocator_app.specs.Report.{ReadsUpTo, ReadsKeepingWord, IsReport}
 use Rattle.cluster_spec.specs.Cluster.{Cluster}
 use Rattle.cmd_base.specs.declared.status.Status.{Status}
 
@@ -15,7 +15,7 @@ pub record HasRead (first now : Cluster) (bytes waiting : List ℕ)
   pub ahead : List ℕ
   pub left_is : left ≡ Some ahead
   pub lines : List ℕ
-  pub goes : ReadsKeepingPromise first bytes lines now (waiting ++ ahead)
+  pub goes : ReadsKeepingWord first bytes lines now (waiting ++ ahead)
   pub written : Appends sink_before sink_now lines
 
 -- the source failed: the lines of exactly the rows whose line feeds were read are written. The read was needed: what

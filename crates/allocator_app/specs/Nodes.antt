@@ -6,12 +6,12 @@ use Rattle.outside.specs.declared.received.Received.{Received}
 use Rattle.cmd_base.specs.declared.status.Status.{Status}
 use Rattle.cmd_base.specs.declared.status.Status.TheVariants.{Done, WriteFault}
 use Rattle.alloc_spec.specs.Rules.{Rules}
-use Rattle.cmd_node.specs.CutRun.{EndsAt, IsCutAtOpening, KeepsOrOpens}
+use Rattle.cmd_node.specs.CutRun.{RunEndsAtNode, IsCutAtOpening, KeepsOrOpens}
 use Rattle.cmd_node.specs.Nodes.{RunsNodes}
 use Rattle.cmd_node.specs.Opening.{RunInput}
 use Rattle.cmd_node.specs.WholeRun.{Tell}
 use Rattle.cmd_node_laws.specs.Processes.{Opening, Point, Turning, together_at}
-use Rattle.cmd_node_laws.specs.Stands.{IsCutAsTold, IsCutOpeningAsTold, IsRunIn, LeavesAsTold, world_after}
+use Rattle.cmd_node_laws.specs.Stands.{IsCutAsInWorld, IsCutOpeningAsInWorld, IsRunIn, LeavesAsInWorld, world_after}
 use Rattle.cmd_node_laws.specs.Traces.{Event, all_rows}
 use Rattle.bus_physics.specs.Runs.{StandOnBus}
 use Rattle.cluster_spec.specs.Cluster.{cluster}
@@ -28,9 +28,9 @@ module _ {L D : Type 0} (coming : L → Option (List Received)) (sent : L → Op
 
   -- The run came to its end: in each trace what was sent and is stored is what the world of its rows says
   pub record IsDoneInTraces (turns : ℕ) : Type 0 where
-    pub told : (ids : List ℕ) (before during : List Event) →
+    pub in_world : (ids : List ℕ) (before during : List Event) →
         IsRunIn ids before during rules mine given (Turning turns 0) → let w = world_after ids before in
-        LeavesAsTold sent disk links disks mine given w (world_after ids (before ++ during)) (all_rows during w)
+        LeavesAsInWorld sent disk links disks mine given w (world_after ids (before ++ during)) (all_rows during w)
     pub promise : KeepsInTraces (Turning turns 0)
 
   -- The run was cut off at the opening of the member with this ID, and touched no link. In each trace what its members
@@ -38,9 +38,9 @@ module _ {L D : Type 0} (coming : L → Option (List Received)) (sent : L → Op
   pub record IsCutOpeningInTraces (links_old : List L) (disks_old : List (Option D))
       (readings_old readings : Option (List ℕ)) (id : ℕ) : Type 0 where
     pub opening : IsCutAtOpening disk mine links_old links disks_old disks readings_old readings (KeepsOrOpens disk) id
-    pub told : (ids : List ℕ) (before during : List Event) →
+    pub in_world : (ids : List ℕ) (before during : List Event) →
         IsRunIn ids before during rules mine given (Opening opening.place) → let w = world_after ids before in
-        IsCutOpeningAsTold disk disks_old disks rules mine given w (world_after ids (before ++ during))
+        IsCutOpeningAsInWorld disk disks_old disks rules mine given w (world_after ids (before ++ during))
         (all_rows during w) opening.place
     pub promise : KeepsInTraces (Opening opening.place)
 
@@ -53,9 +53,9 @@ module _ {L D : Type 0} (coming : L → Option (List Received)) (sent : L → Op
     pub place : ℕ
     pub within : place < length mine
     pub id_is : slice_index mine place ≡ id
-    pub told : (ids : List ℕ) (before during : List Event) →
+    pub in_world : (ids : List ℕ) (before during : List Event) →
         IsRunIn ids before during rules mine given (Turning taken place) → let w = world_after ids before in
-        IsCutAsTold coming sent disk links disks mine given w (world_after ids (before ++ during)) (all_rows during w)
+        IsCutAsInWorld coming sent disk links disks mine given w (world_after ids (before ++ during)) (all_rows during w)
         (together_at rules mine given taken place) place
     pub promise : KeepsInTraces (Turning taken place)
 
@@ -71,11 +71,11 @@ pub record RunsInTraces {L D : Type 0} (coming : L → Option (List Received)) (
   pub done : (given : RunInput) → Tell coming sent disk links_old disks_old readings_old given → status ≡ Done →
       IsDoneInTraces coming sent disk links disks rules ids given turns
   pub cut : (given : RunInput) (id : ℕ) → Tell coming sent disk links_old disks_old readings_old given →
-      EndsAt id status →
+      RunEndsAtNode id status →
       IsCutOpeningInTraces coming sent disk links disks rules ids given links_old disks_old readings_old readings id
       ⊎ IsCutInTraces coming sent disk links disks rules ids given turns id
   pub output_failed : (given : RunInput) → Tell coming sent disk links_old disks_old readings_old given → status ≡ WriteFault →
       IsDoneInTraces coming sent disk links disks rules ids given turns
       ⊎ ((id : ℕ) × (IsCutOpeningInTraces coming sent disk links disks rules ids given links_old disks_old readings_old
       readings id ⊎ IsCutInTraces coming sent disk links disks rules ids given turns id))
-  pub bus : StandOnBus rules ids
+  pub stands_on_bus : StandOnBus rules ids

@@ -3,7 +3,7 @@ use Rattle.std.specs.Prelude.{◌≡◌, ◌≢◌, ◌≤◌, ◌<◌, ℕ, ◌
 use Rattle.replay_text.specs.declared.row.Row.{Row}
 use Rattle.replay_text.specs.Lines.{BeginsWith, BeginsWithNoRow, ReadsRows}
 use Rattle.cluster_spec.specs.Cluster.{Cluster, after_rows}
-use Rattle.cluster_spec.specs.Lawful.{Lawful, cause, number_of}
+use Rattle.cluster_spec.specs.Lawful.{AreLawful, cause, number_of}
 use Rattle.cluster_spec.specs.OwnLogs.{KeepsItsWord}
 use Rattle.cluster_spec.specs.Report.{end_lines, row_lines}
 use Rattle.cluster_spec.specs.declared.unlawful.Unlawful.{Unlawful}
@@ -15,12 +15,12 @@ use Rattle.cmd_base.specs.declared.status.Status.TheVariants.{Done, Usage, BadRo
 pub record ReadsUpTo (first : Cluster) (bytes lines : List ℕ) (now : Cluster) (rest : List ℕ) : Type 0 where
   pub rows : List Row
   pub reads : ReadsRows rows bytes rest
-  pub lawful : Lawful first rows
-  pub told : lines ≡ row_lines first rows
+  pub lawful : AreLawful first rows
+  pub lines_are : lines ≡ row_lines first rows
   pub leaves : now ≡ after_rows first rows
 
 -- such rows were taken, and along them each allocator keeps its word
-pub record ReadsKeepingPromise (first : Cluster) (bytes lines : List ℕ) (now : Cluster) (rest : List ℕ)
+pub record ReadsKeepingWord (first : Cluster) (bytes lines : List ℕ) (now : Cluster) (rest : List ℕ)
     : Type 0 where
   pub comes : ReadsUpTo first bytes lines now rest
   pub kept : KeepsItsWord first comes.rows

@@ -10,7 +10,7 @@ use Rattle.cluster_spec.specs.Report.{all_logs, end_line}
 use Rattle.allocator_app.specs.InPart.{IsReadInPart, IsWrittenInPart, ReadsAhead}
 use Rattle.cmd_base.specs.NoFurther.{ReadsNoFurther}
 use Rattle.cmd_base.specs.Output.{WritesFront}
-use Rattle.allocator_app.specs.Report.{ReadsKeepingPromise, IsBadRow, IsBeyond, IsOfSchedule, IsRefused, IsReport, bad_row_line, limit_line, unlawful_line}
+use Rattle.allocator_app.specs.Report.{ReadsKeepingWord, IsBadRow, IsBeyond, IsOfSchedule, IsRefused, IsReport, bad_row_line, limit_line, unlawful_line}
 use Rattle.allocator_app.specs.declared.rows.Rows.{Rows}
 use Rattle.allocator_app.specs.declared.rows.Rows.TheVariants.{Taken, NoRow, Refused, Full}
 use Rattle.allocator_app.specs.declared.rows.Fault.{Fault}
@@ -19,17 +19,17 @@ use Rattle.cmd_base.specs.declared.status.Status.{Status}
 use Rattle.cmd_base.specs.declared.status.Status.TheVariants.{Done, BadRow, Unlawful, ReadFault, WriteFault, Memory, Limit}
 
 -- where a schedule ends
-abbrev pub EndsAt : ℕ → Cluster → List ℕ → Rows → Type 0
-EndsAt limit w rest Taken = rest ≡ []
-EndsAt limit w rest NoRow = IsBadRow limit w rest
-EndsAt limit w rest (Refused why) = IsRefused limit w rest why
-EndsAt limit w rest Full = IsBeyond limit w rest
+abbrev pub ScheduleEndsAt : ℕ → Cluster → List ℕ → Rows → Type 0
+ScheduleEndsAt limit w rest Taken = rest ≡ []
+ScheduleEndsAt limit w rest NoRow = IsBadRow limit w rest
+ScheduleEndsAt limit w rest (Refused why) = IsRefused limit w rest why
+ScheduleEndsAt limit w rest Full = IsBeyond limit w rest
 
 -- where the rows that wait end: all were taken but the beginning of a line; or the next one is not taken, whatever
 -- comes behind
 abbrev pub StopsAt : ℕ → Cluster → List ℕ → List ℕ → Rows → Type 0
 StopsAt limit w rest waiting Taken = rest ≡ waiting
-StopsAt limit w rest waiting rows = (more : List ℕ) → EndsAt limit w (rest ++ more) rows
+StopsAt limit w rest waiting rows = (more : List ℕ) → ScheduleEndsAt limit w (rest ++ more) rows
 
 -- rows were taken of those that wait, and what they tell was written or waits to be
 pub record TakesRows (limit : ℕ) (before now : Cluster) (waiting left : List ℕ)
@@ -37,7 +37,7 @@ pub record TakesRows (limit : ℕ) (before now : Cluster) (waiting left : List �
     (sink_now : Option (List ℕ)) (output_now : List ℕ) (rows : Rows) : Type 0 where
   pub lines : List ℕ
   pub rest : List ℕ
-  pub goes : (more : List ℕ) → ReadsKeepingPromise before (waiting ++ more) lines now (rest ++ more)
+  pub goes : (more : List ℕ) → ReadsKeepingWord before (waiting ++ more) lines now (rest ++ more)
   pub shorter : length rest ≤ length waiting
   pub stops : StopsAt limit now rest left rows
   pub written : Appends (append_known sink_before output_before) (append_known sink_now output_now) lines
@@ -47,7 +47,7 @@ pub record BreaksOff (before now : Cluster) (waiting : List ℕ) (sink_before : 
     (sink_now : Option (List ℕ)) : Type 0 where
   pub lines : List ℕ
   pub rest : List ℕ
-  pub goes : (more : List ℕ) → ReadsKeepingPromise before (waiting ++ more) lines now (rest ++ more)
+  pub goes : (more : List ℕ) → ReadsKeepingWord before (waiting ++ more) lines now (rest ++ more)
   pub shorter : length rest ≤ length waiting
   pub written : WritesFront sink_before sink_now (output_before ++ lines)
 
@@ -89,8 +89,8 @@ pub record ReadsRows (limit : ℕ) (before now : Cluster) (bytes : List ℕ)
     (left sink_before sink_now : Option (List ℕ)) (output : List ℕ) (rows : Rows) : Type 0 where
   pub lines : List ℕ
   pub rest : List ℕ
-  pub goes : ReadsKeepingPromise before bytes lines now rest
-  pub ends : EndsAt limit now rest rows
+  pub goes : ReadsKeepingWord before bytes lines now rest
+  pub ends : ScheduleEndsAt limit now rest rows
   pub no_further : ReadsNoFurther rest left
   pub written : Appends sink_before (append_known sink_now output) lines
   pub ahead : ReadsAhead before bytes left sink_before sink_now

@@ -18,8 +18,8 @@ list_of (Size size) = []
 list_of (Members members) = members.items
 
 -- the rules by which a member is opened that is told this
-abbrev pub rules_of : Told → Rules
-rules_of told = rules_by (size_of told) (list_of told)
+abbrev pub told_rules : Told → Rules
+told_rules told = rules_by (size_of told) (list_of told)
 
 -- how long a process rests before its first turn, in milliseconds, where it may have run one of its members before
 abbrev pub rest_of : Told → Bool → ℕ

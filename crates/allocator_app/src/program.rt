@@ -10,7 +10,7 @@ ghost use Rattle.cmd_new.specs.Made.{MakesStores};
 ghost use Rattle.cmd_soak.specs.Rounds.{members, soaked};
 ghost use Rattle.store_audit.specs.Audits.{Audits};
 ghost use Rattle.cluster_spec.specs.Cluster.{cluster};
-ghost use Rattle.cluster_spec.specs.Lawful.{Lawful};
+ghost use Rattle.cluster_spec.specs.Lawful.{AreLawful};
 ghost use Rattle.allocator_app.specs.Faults.{NamesFault};
 ghost use Rattle.allocator_app.specs.Followed.{IsFollowed};
 ghost use Rattle.allocator_app.specs.Nodes.{RunsInTraces};
@@ -19,7 +19,7 @@ ghost use Rattle.allocator_app.specs.Report.{IsBegun, IsReport, IsToTheEnd};
 ghost use Rattle.allocator_app.specs.Rows.{IsTold, Replays};
 ghost use Rattle.allocator_app.specs.Soaking.{Soaks};
 ghost use Rattle.allocator_app.specs.Words.{AreAbsent, AreGiven, AreNone, ArePresent, AreStored, Asks, HasObjects, Reads, UsesDisks, UsesLinks};
-ghost use Rattle.allocator_app.specs.Told.{rules_of};
+ghost use Rattle.allocator_app.specs.Told.{told_rules};
 ghost use Rattle.allocator_app.specs.Words.{IsAsked, IsAudit, IsConvert, IsDecode, IsNew, IsNode, IsReplay, IsSoak, IsSound, IsWatch};
 ghost use Rattle.allocator_app.specs.declared.told.Told.{Told};
 
@@ -145,7 +145,7 @@ pub fn run<S: Source, K: Sink, L: Link, D: Disk, C: Clock>(
     ensures finishes { (limit : ℕ) (nodes bytes : List ℕ) (rows : List Row) →
         IsReplay limit nodes (map string_bytes words.now) → AreNone links.old disks.old →
         S.left source.old ≡ Some bytes → ReadsRows rows bytes [] → length rows ≤ limit →
-        Lawful (cluster nodes) rows →
+        AreLawful (cluster nodes) rows →
         (Rose (S.faults source.old) (S.faults source.new) → ⊥) →
         (Rose (K.faults sink.old) (K.faults sink.new) → ⊥) →
         (result ≡ Status.Done) ⊎ (result ≡ Status.Memory) }
@@ -160,7 +160,7 @@ pub fn run<S: Source, K: Sink, L: Link, D: Disk, C: Clock>(
     // a trace that happens on a physical bus it stands without a premise on what is torn or stale.
     ensures nodes { (told : Told) (base turns : ℕ) (ids : List ℕ) →
         IsNode told base turns ids (map string_bytes words.now) →
-        (result ≡ Status.Usage) ⊎ RunsInTraces L.coming L.sent L.faults D.Disk (rules_of told) turns ids
+        (result ≡ Status.Usage) ⊎ RunsInTraces L.coming L.sent L.faults D.Disk (told_rules told) turns ids
         links.old links.new disks.old disks.new (C.readings clock.old) (C.readings clock.new)
         (K.faults sink.old) (K.faults sink.new) (K.written sink.old) (K.written sink.new) result }
     // Stores that are made: what is written, and that each disk has zeros then, all of them stable.

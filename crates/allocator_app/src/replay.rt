@@ -3,9 +3,9 @@ ghost use Rattle.outside.specs.Faults.{Rose};
 ghost use Rattle.bus_world.specs.World.{AcceptsAs, StandsFor, accepts, allocatees_accept, rows_taken};
 ghost use Rattle.allocatee.specs.Accepted as device;
 ghost use Rattle.alloc_spec.specs.Accepted as accepted;
-ghost use Rattle.transfer_rx.specs.Acceptance.{AnswersByRows, first_signature};
-ghost use Rattle.transfer_rx.specs.Memory.{ReceiverFitsInMemory};
+ghost use Rattle.transfer_rx.specs.Acceptance.{first_signature};
 ghost use Rattle.cluster_spec.specs.Cluster.{AreMembers, Cluster, cluster};
+ghost use Rattle.cluster_spec.specs.Receivers.{AllocateeReceives, MemberReceives};
 ghost use Rattle.cmd_base.specs.Counting.{CountsFaults};
 ghost use Rattle.cmd_base.specs.Output.{Grows};
 ghost use Rattle.allocator_app.specs.Reaching.{HasRoom, Reaches};
@@ -107,12 +107,8 @@ fn read_rows<
     source: &mut S,
     sink: &mut K,
 ) -> Result<Rows, Fault>
-    requires memory { ReceiverFitsInMemory F.row 160 128 }
-    requires callable { F.IsAlwaysCallable (accepts world.old) }
-    requires answers { AnswersByRows (F.post (accepts world.old)) accepted.rows }
-    requires amemory { ReceiverFitsInMemory G.row 8 8 }
-    requires acallable { G.IsAlwaysCallable (allocatees_accept world.old) }
-    requires aanswers { AnswersByRows (G.post (allocatees_accept world.old)) device.rows }
+    requires members { MemberReceives F.row F.IsAlwaysCallable F.post (accepts world.old) }
+    requires allocatees { AllocateeReceives G.row G.IsAlwaysCallable G.post (allocatees_accept world.old) }
     requires limit { limit ≤ 1000000 }
     requires room { HasRoom limit world.old }
     requires flushed { output.old ≡ [] }
@@ -169,12 +165,8 @@ fn take_rows<
     output: &mut Output,
     sink: &mut K,
 ) -> Result<Rows, Failed>
-    requires memory { ReceiverFitsInMemory F.row 160 128 }
-    requires callable { F.IsAlwaysCallable (accepts world.old) }
-    requires answers { AnswersByRows (F.post (accepts world.old)) accepted.rows }
-    requires amemory { ReceiverFitsInMemory G.row 8 8 }
-    requires acallable { G.IsAlwaysCallable (allocatees_accept world.old) }
-    requires aanswers { AnswersByRows (G.post (allocatees_accept world.old)) device.rows }
+    requires members { MemberReceives F.row F.IsAlwaysCallable F.post (accepts world.old) }
+    requires allocatees { AllocateeReceives G.row G.IsAlwaysCallable G.post (allocatees_accept world.old) }
     requires limit { limit ≤ 1000000 }
     requires room { HasRoom limit world.old }
     ensures rows { IfOk result (λ rows. Reaches world.old world.new (λ first now.

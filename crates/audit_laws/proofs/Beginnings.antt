@@ -11,7 +11,7 @@ use Rattle.raft_log.specs.Reading.{IsReadFrom, Tells}
 use Rattle.raft_log.specs.Rules.{StandsForState}
 use Rattle.raft_log.specs.Stored.{Stored}
 use Rattle.raft_model.specs.Lists.{In}
-use Rattle.raft_model.specs.Server as machine
+use Rattle.raft_model.specs.Server as raft
 use Rattle.raft_model.specs.Server.{Store}
 use Rattle.replay_text.specs.declared.row.Row.{Row}
 use Rattle.store_audit.specs.Stores.{committed as committed_by, store_at}
@@ -45,7 +45,7 @@ no_difference list stores place a b begin is =
     is.pair.differ (same_entry list (store_at stores a) (store_at stores b) place (begin a (omega (arith, is.pair.order, is.pair.exists))) (begin b is.pair.exists) is.least is.pair.has is.pair.has_too)
 
 -- what is read of an image is committed as the state is that the image stands for
-committed_as_read : (store : Reading) (state : Stored) → Tells store state → committed_by store ≡ machine.committed (store_of state)
+committed_as_read : (store : Reading) (state : Stored) → Tells store state → committed_by store ≡ raft.committed (store_of state)
 committed_as_read store state tells = ap (λ n. take n store.entries.items) tells.commit ∙ ap (λ (l : List Entry). take state.commit l) tells.entries
 
 -- what a member has stored that did not fail is what its disk has
@@ -63,7 +63,7 @@ module _ (one : StandsForOne) (choice : ℕ → Bool) (w later : Cluster) (headl
   begins : (n : ℕ) (store : Reading) (image : List ℕ) → In n w.ids → (read : IsReadFrom image store) → store_of read.state ≡ stored choice w n → Begins (the_list choice w) store
   begins n store image member read same = record {
     within = rw (read.tells.commit, read.tells.entries) read.stands.stores.storable.commit;
-    front = subst (λ (l : List Entry). IsPrefix l (the_list choice w)) (sym (committed_as_read store read.state read.tells ∙ ap machine.committed same)) (headline.prefix n member);
+    front = subst (λ (l : List Entry). IsPrefix l (the_list choice w)) (sym (committed_as_read store read.state read.tells ∙ ap raft.committed same)) (headline.prefix n member);
   }
 
   left_begins : (n : ℕ) (store : Reading) → IsReadOf (IsLeftBy choice w) w n store → Begins (the_list choice w) store

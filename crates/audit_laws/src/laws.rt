@@ -3,7 +3,7 @@
 ghost use Rattle.std.specs.Prelude.{ℕ, Bool, List};
 ghost use Rattle.audit_laws.specs.Left.{AreLeftBy, AreStoredBy, IsStoredBy};
 ghost use Rattle.cmd_node_laws.specs.Alike.{Likeness};
-ghost use Rattle.cmd_node_laws.specs.Stands.{IsFound, world_after};
+ghost use Rattle.cmd_node_laws.specs.Stands.{IsFoundStopped, world_after};
 ghost use Rattle.cmd_node_laws.specs.Traces.{Event, MayAllHappen};
 ghost use Rattle.raft_log.specs.declared.stored.Stored.{Stored};
 ghost use Rattle.replay_text.specs.declared.row.Row.{Row};
@@ -36,7 +36,7 @@ pub fn stores_of_processes_agree()
         (place a b : ℕ) → AreMembers ids → MayAllHappen trace (cluster ids) →
         AreStoredBy (world_after ids trace) nodes stores → IsDifference stores place a b → ⊥ }
     ensures killed { (likeness : Likeness) (image : List ℕ) (w : Cluster) (n : ℕ) →
-        IsFound likeness image w n → IsStoredBy w n image }
+        IsFoundStopped likeness image w n → IsStoredBy w n image }
 {
     an_image_stands_for_one_state();
     traces_do_no_harm();

@@ -14,7 +14,7 @@ use Rattle.can_frame.specs.Identifier.{identifier_number}
 use Rattle.can_frame.specs.Kinds.{is_anonymous}
 use Rattle.raft_log.specs.KeyDisk.{are_put}
 use Rattle.raft_model.specs.Lists.{In}
-use Rattle.raft_model.specs.Runs as machine
+use Rattle.raft_model.specs.Runs as raft
 use Rattle.replay_text.specs.declared.row.Row.{Row}
 use Rattle.replay_text.specs.declared.row.Row.TheVariants.{AEnd, AOpen, ARx, ASend, ATick, Crash, Ext, Fault, Open, Rx, Send, Tick}
 use Rattle.transfer_rx.specs.declared.key.Key.{Key}
@@ -34,7 +34,7 @@ use Rattle.alloc_spec.specs.Transfers.{Offer, SentTransfer, ident_of, kind_of, n
 use Rattle.alloc_spec_laws.specs.Responses.{AnswersAsked, IsResponse, ResponsesAnswer}
 use Rattle.cluster_spec.specs.declared.unlawful.Unlawful.{Unlawful}
 use Rattle.cluster_spec.specs.Cluster.{AreMembers, Cluster, after_row, after_rows, arrival_at, cluster, frame_at, receipt_of, tick_of, world_of}
-use Rattle.cluster_spec.specs.Lawful.{Lawful, arrival_refusal, cause, no_node, no_such_frame, not_running, or_else}
+use Rattle.cluster_spec.specs.Lawful.{AreLawful, arrival_refusal, cause, no_node, no_such_frame, not_running, or_else}
 use Rattle.cluster_spec.specs.Members.{Member, MemberStatus, puts_of}
 use Rattle.cluster_spec.specs.Members.MemberStatus.{Down, Failed, Up}
 use Rattle.cluster_spec.specs.Refinement.{transfers_of_offers, transfers_of_row, transfers_of_rows, transfers_of_step}
@@ -303,7 +303,7 @@ module _ (append : Bool) (p n : ℕ) where
 
   -- ---- the call that an answer answers
 
-  module _ (laws : FrameLaws) (choice : ℕ → Bool) (made : List SentTransfer) (w : Cluster) (run : machine.World) (members : AreMembers w.ids)
+  module _ (laws : FrameLaws) (choice : ℕ → Bool) (made : List SentTransfer) (w : Cluster) (run : raft.World) (members : AreMembers w.ids)
       (shows : Shows choice made w run) (answers : (t : AllocatorState) (event : Event) → ResponsesAnswer t (w.rows + 1) event) where
     low : (m : ℕ) → In m w.ids → 1 ≤ m
     low m i = (members.nodes m i).0
@@ -440,14 +440,14 @@ module _ (append : Bool) (p n : ℕ) where
         → HasAsked made (frame_at w.frames k ∷ []) re
 
   module _ (answers : (t : AllocatorState) (number : ℕ) (event : Event) → ResponsesAnswer t number event) (ids : List ℕ)
-      (known : (rows : List Row) → Lawful (cluster ids) rows → Known (world_of ids rows) (transfers_of_rows (cluster ids) rows [])) where
+      (known : (rows : List Row) → AreLawful (cluster ids) rows → Known (world_of ids rows) (transfers_of_rows (cluster ids) rows [])) where
     made_joined : (v : Cluster) (rows : List Row) (row : Row) (m : List SentTransfer)
         → transfers_of_rows v (rows ++ row ∷ []) m ≡ transfers_of_row (after_rows v rows) row (transfers_of_rows v rows m)
     made_joined v [] row m = refl
     made_joined v (first ∷ rows) row m = made_joined (after_row v first) rows row (transfers_of_row v first m)
 
     pub along : (rest done : List Row) (w : Cluster) (made : List SentTransfer) (heard : List Queued) → world_of ids done ≡ w → transfers_of_rows (cluster ids) done [] ≡ made
-        → Lawful (cluster ids) done → Lawful w rest → Come (ComesInTurn p) p heard w rest → AreOrdered made heard
+        → AreLawful (cluster ids) done → AreLawful w rest → Come (ComesInTurn p) p heard w rest → AreOrdered made heard
         → AreOrdered (transfers_of_rows w rest made) (heard ++ heard_by p w rest)
     along [] done w made heard world sent before lawful turns old = record {
       asked = λ x i a. asked_more made made heard (heard ++ []) (λ y j. j) (λ f j. in_front f heard [] j) x.offer.re (old.asked x i a);

@@ -12,7 +12,7 @@ use Rattle.can_frame.specs.Cutting.{frame_count}
 use Rattle.can_frame.specs.Identifier.{identifier_number, identifier_of}
 use Rattle.can_frame.specs.Kinds.{is_service, is_anonymous}
 use Rattle.raft_model.specs.Lists.{In}
-use Rattle.raft_model.specs.Runs as machine
+use Rattle.raft_model.specs.Runs as raft
 use Rattle.replay_text.specs.declared.row.Row.{Row}
 use Rattle.replay_text.specs.declared.row.Row.TheVariants.{AEnd, AOpen, ARx, ASend, ATick, Crash, Ext, Fault, Open, Rx, Send, Tick}
 use Rattle.transfer_rx.specs.declared.key.Key.{Key}
@@ -26,7 +26,7 @@ use Rattle.alloc_spec.specs.Transfers.{SentTransfer, ident_of, kind_of, number_o
 use Rattle.alloc_spec_laws.specs.Saying.{IsSaid}
 use Rattle.cluster_spec.specs.Allocatees.{next_from}
 use Rattle.cluster_spec.specs.Cluster.{AreMembers, Cluster, after_row, after_rows, arrival_at, frame_at, from_outside, in_list, is_member}
-use Rattle.cluster_spec.specs.Lawful.{Lawful, arrival_refusal, cause, is_forged, is_forged_by, no_node, no_such_frame, not_running, or_else}
+use Rattle.cluster_spec.specs.Lawful.{AreLawful, arrival_refusal, cause, is_forged, is_forged_by, no_node, no_such_frame, not_running, or_else}
 use Rattle.alloc_spec.specs.Accepted.{is_members_service}
 use Rattle.cluster_spec.specs.Members.{next_frame}
 use Rattle.cluster_agreement.specs.Frames.{IsOnBus}
@@ -81,7 +81,7 @@ heard_now n w (Rx m k ms) lawful f i = by (n == m) i where
   by false j = absurd j
 heard_now n w row lawful f i = absurd i
 
-pub heard_on_bus : (n : ℕ) (rows_ : List Row) (w : Cluster) → Lawful w rows_ → (f : Queued) → In f (heard_by n w rows_) → In f (after_rows w rows_).frames
+pub heard_on_bus : (n : ℕ) (rows_ : List Row) (w : Cluster) → AreLawful w rows_ → (f : Queued) → In f (heard_by n w rows_) → In f (after_rows w rows_).frames
 heard_on_bus n [] w lawful f i = absurd i
 heard_on_bus n (row ∷ rest) w lawful f i = elim (in_append f (heard_in n w row) (heard_by n (after_row w row) rest) i) [
   | inl here ↦ grow (after_row w row) rest f (grows w row f (heard_now n w row lawful.0 f here))
@@ -125,7 +125,7 @@ module _ (n source number : ℕ) (other : source ≢ n) (f : Queued) (is : IsRes
 
 -- ---- answers on the bus
 
-module _ (append : Bool) (n : ℕ) (laws : FrameLaws) (choice : ℕ → Bool) (made : List SentTransfer) (w : Cluster) (run : machine.World) (members : AreMembers w.ids)
+module _ (append : Bool) (n : ℕ) (laws : FrameLaws) (choice : ℕ → Bool) (made : List SentTransfer) (w : Cluster) (run : raft.World) (members : AreMembers w.ids)
     (shows : Shows choice made w run) where
   low : (m : ℕ) → In m w.ids → 1 ≤ m
   low m i = (members.nodes m i).0

@@ -15,7 +15,7 @@ use Rattle.allocatee.specs.Allocatee.{Device, at_step, opening, step}
 use Rattle.allocatee.specs.Allocatee.Event.{Rx as Receives, Tick as Ticks}
 use Rattle.cluster_spec.specs.Allocatees.{after_sending_from, device_after_step, next_from}
 use Rattle.cluster_spec.specs.Cluster.{Cluster, after_row, after_rows, arrival_at, frame_at, from_outside, in_list, receipt_at}
-use Rattle.cluster_spec.specs.Lawful.{Lawful, absent, arrival_refusal_at, cause, no_allocatee, no_such_frame, or_else}
+use Rattle.cluster_spec.specs.Lawful.{AreLawful, absent, arrival_refusal_at, cause, no_allocatee, no_such_frame, or_else}
 use Rattle.cluster_spec.specs.Members.{next_frame}
 use Rattle.cluster_agreement.specs.Frames.{CameFrom}
 use Rattle.cluster_agreement.proofs.DeliveredTransfers.{IsOfKey}
@@ -203,7 +203,7 @@ module _ (limits : Limits) (all : List Timed) where
   module _ (laws : SessionLaws) (of_its_key : (key : Key) (b : Arrival) → is_of device.setting key b ≡ true → IsOfKey device.setting key b)
       (sane : limits.drift < 58000) (a : ℕ) (now : Timed) where
     pub along : (before : List Timed) (w : Cluster) (past : List Reading) → Inv a w.frames past w.allocatee → DeviceRowsArePhysical limits all a past w (before ++ now ∷ [])
-        → Lawful w (rows_in before) → StandsBefore a (after_rows w (rows_in before)) now
+        → AreLawful w (rows_in before) → StandsBefore a (after_rows w (rows_in before)) now
     along [] w past inv phys lawful = record { past = past; inv = inv; row = phys.0 }
     along (t ∷ ts) w past inv phys lawful =
         along ts (after_row w t.row) (readings_after a past w t.at t.row) (goes_on laws of_its_key sane a w past t.at inv t.row phys.0 lawful.0) phys.1 lawful.1

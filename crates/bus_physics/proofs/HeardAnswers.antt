@@ -11,7 +11,7 @@ use Rattle.can_frame.specs.Kinds.{is_service, is_anonymous, is_response}
 use Rattle.raft_core.specs.Times.{Sending, Times, awaits}
 use Rattle.raft_model.specs.Lists.{In}
 use Rattle.raft_model.specs.Messages.{Request}
-use Rattle.raft_model.specs.Runs as machine
+use Rattle.raft_model.specs.Runs as raft
 use Rattle.raft_model.specs.Server.{Memory}
 use Rattle.replay_text.specs.declared.row.Row.{Row}
 use Rattle.replay_text.specs.declared.row.Row.TheVariants.{Rx}
@@ -103,7 +103,7 @@ module _ (t : AllocatorState) (d : Delivery) (now : ℕ) (fresh : is_stale t d n
 
 -- ---- the answer that was heard
 
-module _ (append : Bool) (p width : ℕ) (P : ℕ → ℕ → Memory → Times → ℕ → Type 0) (spaced : IsSpaced append p width P) (small : p < 128) (n : ℕ) (laws : FrameLaws) (choice : ℕ → Bool) (made : List SentTransfer) (w : Cluster) (run : machine.World)
+module _ (append : Bool) (p width : ℕ) (P : ℕ → ℕ → Memory → Times → ℕ → Type 0) (spaced : IsSpaced append p width P) (small : p < 128) (n : ℕ) (laws : FrameLaws) (choice : ℕ → Bool) (made : List SentTransfer) (w : Cluster) (run : raft.World)
     (members : AreMembers w.ids) (shows : Shows choice made w run) (last : WaitsLast n made (w.member n).status) where
   low : (m : ℕ) → In m w.ids → 1 ≤ m
   low m i = (members.nodes m i).0

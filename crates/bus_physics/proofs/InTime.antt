@@ -37,10 +37,10 @@ AreClose width (h ∷ []) = ⊤
 AreClose width (h ∷ k ∷ rest) = (h.at ≤ k.at) × (k.at ≤ h.at + width) × AreClose width (k ∷ rest)
 
 -- the last one came at this reading
-abbrev pub EndsAt : List Reading → ℕ → List Heard → Type 0
-EndsAt past moment [] = ⊤
-EndsAt past moment (h ∷ []) = In (record { at = h.at; now = moment }) past
-EndsAt past moment (h ∷ k ∷ rest) = EndsAt past moment (k ∷ rest)
+abbrev pub LastCameAt : List Reading → ℕ → List Heard → Type 0
+LastCameAt past moment [] = ⊤
+LastCameAt past moment (h ∷ []) = In (record { at = h.at; now = moment }) past
+LastCameAt past moment (h ∷ k ∷ rest) = LastCameAt past moment (k ∷ rest)
 
 pub record IsInTime (P : Key → Heard → Type 0) (width : ℕ) (past : List Reading) (session : Session) : Type 0 where
   pub heard : List Heard
@@ -48,7 +48,7 @@ pub record IsInTime (P : Key → Heard → Type 0) (width : ℕ) (past : List Re
   pub taken : session.taken ≡ map (λ (h : Heard). piece_in h.arrival) heard
   pub marks : session.marks ≡ map (λ (h : Heard). h.arrival.mark) heard
   pub close : AreClose width heard
-  pub ends : EndsAt past session.moment heard
+  pub ends : LastCameAt past session.moment heard
 
 -- ---- lists
 
@@ -76,14 +76,14 @@ found key (first ∷ rest) session e = by (same_key key first.key) e (found key 
 
 module _ (width : ℕ) (past : List Reading) (at now : ℕ)
     (soon : (p : Reading) → In p past → now - p.now ≤ 2000 → (p.at ≤ at) × (at ≤ p.at + width)) (arrival : Arrival) where
-  pub close_more : (heard : List Heard) (moment : ℕ) → now - moment ≤ 2000 → AreClose width heard → EndsAt past moment heard
+  pub close_more : (heard : List Heard) (moment : ℕ) → now - moment ≤ 2000 → AreClose width heard → LastCameAt past moment heard
       → AreClose width (heard ++ record { arrival = arrival; at = at } ∷ [])
   close_more [] moment recent close ends = tt
   close_more (h ∷ []) moment recent close ends = let s = soon (record { at = h.at; now = moment }) ends recent in (s.0, s.1, tt)
   close_more (h ∷ k ∷ rest) moment recent close ends = (close.0, close.1, close_more (k ∷ rest) moment recent close.2 ends)
 
 module _ (later : List Reading) (at now : ℕ) (last : In (record { at = at; now = now }) later) (arrival : Arrival) where
-  ends_more : (heard : List Heard) → EndsAt later now (heard ++ record { arrival = arrival; at = at } ∷ [])
+  ends_more : (heard : List Heard) → LastCameAt later now (heard ++ record { arrival = arrival; at = at } ∷ [])
   ends_more [] = last
   ends_more (h ∷ []) = last
   ends_more (h ∷ k ∷ rest) = ends_more (k ∷ rest)
@@ -106,8 +106,8 @@ module _ (P : Key → Heard → Type 0) (width : ℕ) (past : List Reading) (ses
         let f = filtered (is_recent now) sessions session (found key (recent_sessions now sessions) session there) in
         inr (before session f.0, elim (leb_tells (now - session.moment) 2000) [ inl young ↦ young.1 | inr old ↦ never (sym old.0 ∙ f.1) ])
 
-ends_later : (past later : List Reading) → ((p : Reading) → In p past → In p later) → (moment : ℕ) (heard : List Heard) → EndsAt past moment heard
-    → EndsAt later moment heard
+ends_later : (past later : List Reading) → ((p : Reading) → In p past → In p later) → (moment : ℕ) (heard : List Heard) → LastCameAt past moment heard
+    → LastCameAt later moment heard
 ends_later past later more moment [] ends = tt
 ends_later past later more moment (h ∷ []) ends = more (record { at = h.at; now = moment }) ends
 ends_later past later more moment (h ∷ k ∷ rest) ends = ends_later past later more moment (k ∷ rest) ends

@@ -24,7 +24,7 @@ use Rattle.alloc_spec.specs.Step.{Event, after_pop, moment_of, step}
 use Rattle.alloc_spec.specs.Step.Event.{Rx as Receives, Tick as Ticks}
 use Rattle.alloc_spec.specs.StepState.{StepState}
 use Rattle.cluster_spec.specs.Cluster.{Cluster, after_row, after_rows, arrival_at, frame_at, from_outside, in_list, receipt_of, rules_of, tick_of}
-use Rattle.cluster_spec.specs.Lawful.{Lawful, arrival_refusal, cause, no_node, no_such_frame, not_running, or_else}
+use Rattle.cluster_spec.specs.Lawful.{AreLawful, arrival_refusal, cause, no_node, no_such_frame, not_running, or_else}
 use Rattle.cluster_spec.specs.Allocatees.{next_from}
 use Rattle.cluster_spec.specs.Members.{Member, MemberStatus, after_crash, after_cut_off, after_opening, after_sending, member_after_step, next_frame, puts_of, stopped_with, with_stop_armed}
 use Rattle.cluster_spec.specs.Members.MemberStatus.{Down, Failed, Up}
@@ -301,7 +301,7 @@ module _ (limits : Limits) (all : List Timed) where
       (sane : limits.drift < 58000) (n : ℕ) (now : Timed) where
     pub along : (before done : List Timed) (w : Cluster) (past : List Reading) → all ≡ done ++ (before ++ now ∷ []) → w.rows ≡ length done
         → InvOf n w.frames past w.member → ClockGoesOn limits n past w (before ++ now ∷ []) → FramesComeInTime limits all w (before ++ now ∷ [])
-        → Lawful w (rows_in before) → MemberBefore n (after_rows w (rows_in before)) now
+        → AreLawful w (rows_in before) → MemberBefore n (after_rows w (rows_in before)) now
     along [] done w past split rows inv clock comes lawful = record { past = past; inv = inv; clock = clock.0; comes = comes.0 }
     along (t ∷ ts) done w past split rows inv clock comes lawful =
         along ts (done ++ t ∷ []) (after_row w t.row) (member_readings n past w t.at t.row) (split ∙ sym (append_assoc done (t ∷ []) (ts ++ now ∷ [])))

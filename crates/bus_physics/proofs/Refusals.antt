@@ -14,7 +14,8 @@ use Rattle.alloc_spec.specs.Accepted.{setting_for}
 use Rattle.alloc_spec.specs.Judging.{answer_judgement, arrival_judgement, is_stale}
 use Rattle.alloc_spec.specs.AllocatorState.{AllocatorState}
 use Rattle.cluster_spec.specs.declared.unlawful.Unlawful.{Unlawful}
-use Rattle.cluster_spec.specs.declared.unlawful.Unlawful.TheVariants.{Absent, NoAllocatee, NoFrame, NoNode, Stopped, Stale as IsStale, Torn as IsTorn}
+use Rattle.cluster_spec.specs.declared.unlawful.Unlawful.TheVariants.{Absent, NoAllocatee, NoFrame, NoNode, Stopped}
+use Rattle.cluster_spec.specs.declared.unlawful.Unlawful.TheVariants as unlawful
 use Rattle.cluster_spec.specs.Allocatees.{is_place}
 use Rattle.cluster_spec.specs.Cluster.{Cluster, arrival_at, frame_at, is_member}
 use Rattle.cluster_spec.specs.Lawful.{absent, arrival_refusal, arrival_refusal_at, because, cause, cause_of_judgement, no_allocatee, no_node, no_such_frame, not_running, or_else}
@@ -36,12 +37,12 @@ pub record IsRefused (w : Cluster) (n k ms : ℕ) (judged : Judged) : Type 0 whe
   pub runs : (w.member n).status ≡ Up server
   pub judgement : arrival_judgement server (arrival_at (frame_at w.frames k) ms) ≡ judged
 
-torn_is : (j : Judged) → cause_of_judgement j ≡ Some IsTorn → j ≡ Torn
+torn_is : (j : Judged) → cause_of_judgement j ≡ Some unlawful.Torn → j ≡ Torn
 torn_is Fine e = absurd (cc (e))
 torn_is Torn e = refl
 torn_is Stale e = absurd (cc (e))
 
-stale_is : (j : Judged) → cause_of_judgement j ≡ Some IsStale → j ≡ Stale
+stale_is : (j : Judged) → cause_of_judgement j ≡ Some unlawful.Stale → j ≡ Stale
 stale_is Fine e = absurd (cc (e))
 stale_is Torn e = absurd (cc (e))
 stale_is Stale e = refl
@@ -55,15 +56,15 @@ pub record IsOfDelivery (u : Unlawful) (judged : Judged) : Type 0 where
   pub absent : (b : Bool) → because Absent b ≡ Some u → ⊥
   pub judged_is : (j : Judged) → cause_of_judgement j ≡ Some u → j ≡ judged
 
-never_torn : (why : Unlawful) → (Some why ≡ Some IsTorn → ⊥) → (b : Bool) → because why b ≡ Some IsTorn → ⊥
+never_torn : (why : Unlawful) → (Some why ≡ Some unlawful.Torn → ⊥) → (b : Bool) → because why b ≡ Some unlawful.Torn → ⊥
 never_torn why differ true e = differ e
 never_torn why differ false e = absurd (cc (e))
 
-never_stale : (why : Unlawful) → (Some why ≡ Some IsStale → ⊥) → (b : Bool) → because why b ≡ Some IsStale → ⊥
+never_stale : (why : Unlawful) → (Some why ≡ Some unlawful.Stale → ⊥) → (b : Bool) → because why b ≡ Some unlawful.Stale → ⊥
 never_stale why differ true e = differ e
 never_stale why differ false e = absurd (cc (e))
 
-pub of_torn : IsOfDelivery IsTorn Torn
+pub of_torn : IsOfDelivery unlawful.Torn Torn
 of_torn = record {
   no_node = never_torn NoNode (λ e. absurd (cc (e)));
   stopped = never_torn Stopped (λ e. absurd (cc (e)));
@@ -73,7 +74,7 @@ of_torn = record {
   judged_is = torn_is;
 }
 
-pub of_stale : IsOfDelivery IsStale Stale
+pub of_stale : IsOfDelivery unlawful.Stale Stale
 of_stale = record {
   no_node = never_stale NoNode (λ e. absurd (cc (e)));
   stopped = never_stale Stopped (λ e. absurd (cc (e)));

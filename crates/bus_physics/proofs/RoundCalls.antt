@@ -12,12 +12,12 @@ use Rattle.alloc_spec.specs.Transfers.{SentTransfer, kind_of}
 use Rattle.alloc_spec_laws.specs.Calls.{CallsAreMade}
 use Rattle.alloc_spec_laws.specs.Sound.{IsDestination}
 use Rattle.cluster_spec.specs.Cluster.{AreMembers, cluster, world_of}
-use Rattle.cluster_spec.specs.Lawful.{Lawful}
+use Rattle.cluster_spec.specs.Lawful.{AreLawful}
 use Rattle.cluster_spec.specs.Refinement.{transfers_of_rows}
 use Rattle.cluster_agreement.specs.LawsBelow.{FrameLaws}
 use Rattle.cluster_agreement.specs.Said.{carrier}
 use Rattle.cluster_agreement.proofs.Concatenations.{ids_stay}
-use Rattle.bus_physics.specs.Physics.{ClockIsNotFast, HoldsAreShort, IsAnswered, Limits, RestsBeforeOpening, Timed, WaitsForAnswers, heard_by, rows_in, time_of}
+use Rattle.bus_physics.specs.Physics.{ClockIsNotFast, HoldsAreShort, IsAnsweredSince, Limits, RestsBeforeOpening, Timed, WaitsForAnswers, heard_by, rows_in, time_of}
 use Rattle.bus_physics.proofs.HeardAnswers.{answers_are_heard}
 use Rattle.bus_physics.proofs.Single.{IsShown}
 use Rattle.bus_physics.proofs.SpacedCalls.{AreSettled, Known, along}
@@ -27,8 +27,8 @@ use Rattle.bus_physics.proofs.StepCalls.{IsSpaced}
 use Rattle.bus_physics.proofs.Waiting.{waits_along}
 
 module _ (laws : FrameLaws) (called : (t : AllocatorState) (number : ℕ) (event : Event) → CallsAreMade number t (step t number event).step_state) (ids : List ℕ)
-    (members : AreMembers ids) (shown : (rows : List Row) → Lawful (cluster ids) rows → IsShown ids rows) (limits : Limits) (before : List Timed) (now : Timed) (n : ℕ)
-    (lawful : Lawful (cluster ids) (rows_in before)) (slow : ClockIsNotFast limits n [] (cluster ids) before) where
+    (members : AreMembers ids) (shown : (rows : List Row) → AreLawful (cluster ids) rows → IsShown ids rows) (limits : Limits) (before : List Timed) (now : Timed) (n : ℕ)
+    (lawful : AreLawful (cluster ids) (rows_in before)) (slow : ClockIsNotFast limits n [] (cluster ids) before) where
   abbrev all : List Timed
   all = before ++ now ∷ []
 
@@ -38,7 +38,7 @@ module _ (laws : FrameLaws) (called : (t : AllocatorState) (number : ℕ) (event
   module _ (short : HoldsAreShort limits) (rests : RestsBeforeOpening limits all made n) where
     module _ (append : Bool) (p width : ℕ) (P : ℕ → ℕ → Memory → Times → ℕ → Type 0) (spaced : IsSpaced append p width P) (small : p < 128)
         (wide : 21000 ≤ width) (narrow : width ≤ 32000) where
-      known : (rows : List Row) → Lawful (cluster ids) rows → Known append p width P spaced small n limits all (world_of ids rows) (transfers_of_rows (cluster ids) rows [])
+      known : (rows : List Row) → AreLawful (cluster ids) rows → Known append p width P spaced small n limits all (world_of ids rows) (transfers_of_rows (cluster ids) rows [])
       known rows so_far = record {
         earlier = (shown rows so_far).shows.past;
         answered = answers_are_heard append p width P spaced small n laws (shown rows so_far).choice (transfers_of_rows (cluster ids) rows []) (world_of ids rows)
@@ -52,7 +52,7 @@ module _ (laws : FrameLaws) (called : (t : AllocatorState) (number : ℕ) (event
 
       pub comes_late : (x y : SentTransfer) → In x made → In y made → x.by ≡ n → y.by ≡ n → x.offer.what ≡ y.offer.what → x.offer.to ≡ y.offer.to
           → x.offer.id ≡ y.offer.id → x.step < y.step → x.offer.what ≡ carrier append → x.offer.to ≡ p
-          → (time_of all x.step + 2 * limits.hold < time_of all y.step) ⊎ IsAnswered made (heard_by n (cluster ids) (rows_in before)) x
+          → (time_of all x.step + 2 * limits.hold < time_of all y.step) ⊎ IsAnsweredSince made (heard_by n (cluster ids) (rows_in before)) x
       comes_late x y i j by by_too what to id less carries here =
           settled x y i j (record { by = by; what = carries; to = here }) (record { by = by_too; what = sym what ∙ carries; to = sym to ∙ here }) id less
 
@@ -62,7 +62,7 @@ module _ (laws : FrameLaws) (called : (t : AllocatorState) (number : ℕ) (event
       small is = let r = subst (λ (k : _). IsDestination k x.offer.to) is ((shown (rows_in before) lawful).shows.holds.transfers.ranges x i).to in omega (arith, r.1)
 
       by_kind : (x.offer.what ≡ AppQ) ⊎ (x.offer.what ≡ VoteQ) → (time_of all x.step + 2 * limits.hold < time_of all y.step)
-          ⊎ IsAnswered made (heard_by n (cluster ids) (rows_in before)) x
+          ⊎ IsAnsweredSince made (heard_by n (cluster ids) (rows_in before)) x
       by_kind (inl append) = comes_late true x.offer.to 32000 (λ M b m times moment. Open x.offer.to M b m times moment) (spaced_appends x.offer.to) (small (ap kind_of append))
           (omega arith) (omega arith) x y i j by by_too what to id less append refl
       by_kind (inr vote) = comes_late false x.offer.to 21000 (λ M b m times moment. Asked x.offer.to M b m times moment) (spaced_votes x.offer.to) (small (ap kind_of vote))

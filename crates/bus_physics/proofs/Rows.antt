@@ -9,7 +9,7 @@ use Rattle.can_frame.specs.declared.mark.Mark.{Mark}
 use Rattle.can_frame.specs.declared.step.Judged.TheVariants.{Stale, Torn}
 use Rattle.can_frame.specs.Kinds.{is_service, is_anonymous}
 use Rattle.raft_model.specs.Lists.{In}
-use Rattle.raft_model.specs.Runs as machine
+use Rattle.raft_model.specs.Runs as raft
 use Rattle.replay_text.specs.declared.row.Row.TheVariants.{ARx, Rx}
 use Rattle.transfer_rx.specs.Acceptance.{first_signature, is_for}
 use Rattle.transfer_rx.specs.Keys.{key_of}
@@ -21,7 +21,7 @@ use Rattle.alloc_spec.specs.Accepted.{rows, setting_for}
 use Rattle.alloc_spec.specs.AllocatorState.{AllocatorState}
 use Rattle.alloc_spec.specs.Transfers.{SentTransfer, number_of}
 use Rattle.alloc_spec_laws.proofs.Choices.{and_right, not_true}
-use Rattle.cluster_spec.specs.declared.unlawful.Unlawful.TheVariants.{Stale as IsStale, Torn as IsTorn}
+use Rattle.cluster_spec.specs.declared.unlawful.Unlawful.TheVariants as unlawful
 use Rattle.cluster_spec.specs.Cluster.{AreMembers, Cluster, arrival_at, frame_at}
 use Rattle.cluster_spec.specs.Lawful.{cause, is_forged}
 use Rattle.cluster_spec.specs.Members.{MemberStatus}
@@ -54,7 +54,7 @@ not_own me some ident for_me same = elim (eqb_tells me 0) [
   ]
 ]
 
-module _ (laws : FrameLaws) (choice : ℕ → Bool) (made : List SentTransfer) (w : Cluster) (run : machine.World) (members : AreMembers w.ids)
+module _ (laws : FrameLaws) (choice : ℕ → Bool) (made : List SentTransfer) (w : Cluster) (run : raft.World) (members : AreMembers w.ids)
     (shows : Shows choice made w run) where
   low : (n : ℕ) → In n w.ids → 1 ≤ n
   low n i = (members.nodes n i).0
@@ -137,9 +137,9 @@ module _ (laws : FrameLaws) (choice : ℕ → Bool) (made : List SentTransfer) (
           young = is.young;
         }
 
-  pub torn_row : (n k ms : ℕ) → cause w (Rx n k ms) ≡ Some IsTorn → IsTornAt made w n k ms
+  pub torn_row : (n k ms : ℕ) → cause w (Rx n k ms) ≡ Some unlawful.Torn → IsTornAt made w n k ms
   torn_row n k ms e =
-      let r : IsRefused w n k ms Torn = refused IsTorn Torn of_torn w n k ms e in
+      let r : IsRefused w n k ms Torn = refused unlawful.Torn Torn of_torn w n k ms e in
       let a = torn_at r.server (arrival_at (frame_at w.frames k) ms) r.judgement in
       record {
         server = r.server;
@@ -152,9 +152,9 @@ module _ (laws : FrameLaws) (choice : ℕ → Bool) (made : List SentTransfer) (
         };
       }
 
-  pub stale_row : (n k ms : ℕ) → cause w (Rx n k ms) ≡ Some IsStale → IsStaleAt made w n k ms
+  pub stale_row : (n k ms : ℕ) → cause w (Rx n k ms) ≡ Some unlawful.Stale → IsStaleAt made w n k ms
   stale_row n k ms e =
-      let r : IsRefused w n k ms Stale = refused IsStale Stale of_stale w n k ms e in
+      let r : IsRefused w n k ms Stale = refused unlawful.Stale Stale of_stale w n k ms e in
       let a = stale_at r.server (arrival_at (frame_at w.frames k) ms) r.judgement in
       stale n k ms r.member r.server r.runs (stands w k r.there) a.delivery a.gives a.untorn (missed r.server a.delivery (max r.server.now ms) a.stale)
 
@@ -174,9 +174,9 @@ module _ (laws : FrameLaws) (choice : ℕ → Bool) (made : List SentTransfer) (
         (subst (λ (i : Ident). first_signature device.rows i.kind i.number ≡ Some device_wants.signature.0) (sym device_its.ident) device_wants.signature.1)
         (forged_has_source w.ids d.ident forged)
 
-  pub torn_row_at : (a k ms word : ℕ) → cause w (ARx a k ms word) ≡ Some IsTorn → IsTornAtDevice made w a k ms
+  pub torn_row_at : (a k ms word : ℕ) → cause w (ARx a k ms word) ≡ Some unlawful.Torn → IsTornAtDevice made w a k ms
   torn_row_at a k ms word e =
-      let r : IsRefusedAt w a k ms Torn = refused_at IsTorn Torn of_torn w a k ms word e in
+      let r : IsRefusedAt w a k ms Torn = refused_at unlawful.Torn Torn of_torn w a k ms word e in
       let coming : Arrival = arrival_at (frame_at w.frames k) (max r.x.asking.moment ms) in
       let b = torn_at_device r.x (arrival_at (frame_at w.frames k) ms) r.judgement in
       record {

@@ -2,7 +2,7 @@
 use Rattle.std.proofs.Common.{◌≡◌, ℕ, Bool, true, false, List, [], ◌∷◌, ◌++◌, refl, sym, ap, subst, ◌∙◌, ◌⊎◌, inl, inr, Option, Some, None, append_assoc, append-nil}
 use Rattle.std.specs.Prelude.{◌==◌, ◌||◌, ◌&&◌, not, nat_eq, nat_lt, length, is_some, if◌then◌else◌}
 use Rattle.can_frame.specs.Identifier.{identifier_of}
-use Rattle.can_frame.specs.declared.step.Judged.TheVariants.{Fine, Torn as IsTorn}
+use Rattle.can_frame.specs.declared.step.Judged.TheVariants.{Fine, Torn}
 use Rattle.raft_model.specs.Lists.{In}
 use Rattle.replay_text.specs.declared.row.Row.{Row}
 use Rattle.replay_text.specs.declared.row.Row.TheVariants.{Open, Tick, Rx, Send, Ext, Crash, Fault, AOpen, ATick, ARx, ASend, AEnd}
@@ -11,9 +11,10 @@ use Rattle.transfer_tx.specs.Queue.{Queued}
 use Rattle.allocatee.specs.Allocatee.{Device, answer_to}
 use Rattle.allocatee.specs.Judging as device
 use Rattle.cluster_spec.specs.declared.unlawful.Unlawful.{Unlawful}
-use Rattle.cluster_spec.specs.declared.unlawful.Unlawful.TheVariants.{NoNode, Stopped, Running, NoFrame, NothingQueued, Forged, Torn, Stale, NoAllocatee, Absent, Present}
+use Rattle.cluster_spec.specs.declared.unlawful.Unlawful.TheVariants.{NoNode, Stopped, Running, NoFrame, NothingQueued, Forged, NoAllocatee, Absent, Present}
+use Rattle.cluster_spec.specs.declared.unlawful.Unlawful.TheVariants as unlawful
 use Rattle.cluster_spec.specs.Cluster.{Cluster, after_row, after_rows, arrival_at, cluster, frame_at, is_member, world_of}
-use Rattle.cluster_spec.specs.Lawful.{DoNoHarm, DoesNoHarm, Lawful, absent, already_running, arrival_refusal_at, because, cause, cause_of_judgement, is_forged, no_allocatee, no_node, no_such_frame, not_running, nothing_to_send, or_else, present}
+use Rattle.cluster_spec.specs.Lawful.{DoNoHarm, DoesNoHarm, AreLawful, absent, already_running, arrival_refusal_at, because, cause, cause_of_judgement, is_forged, no_allocatee, no_node, no_such_frame, not_running, nothing_to_send, or_else, present}
 use Rattle.cluster_spec.specs.Allocatees.{is_place, next_from}
 use Rattle.cluster_spec.specs.Members.{is_running, next_frame}
 use Rattle.cluster_spec.specs.Refinement.{transfers_of_rows}
@@ -45,23 +46,23 @@ not_queued why None is e = not_because NothingQueued why true refl is e
 not_queued why (Some frame) is e = absurd (cc (e))
 
 -- a device takes no response
-only_torn : (d : Option Device) (arrival : Arrival) (why : Unlawful) → arrival_refusal_at d arrival ≡ Some why → why ≡ Torn
+only_torn : (d : Option Device) (arrival : Arrival) (why : Unlawful) → arrival_refusal_at d arrival ≡ Some why → why ≡ unlawful.Torn
 unfolding device.arrival_judgement
 only_torn None arrival why e = absurd (cc (e))
 only_torn (Some x) arrival why e = judged (answer_to x arrival) e
   where
-    told : (b : Bool) → cause_of_judgement (if b then IsTorn else Fine) ≡ Some why → why ≡ Torn
+    told : (b : Bool) → cause_of_judgement (if b then Torn else Fine) ≡ Some why → why ≡ unlawful.Torn
     told true e = cc (e)
     told false e = absurd (cc (e))
 
-    judged : (got : Answer) → cause_of_judgement (device.answer_judgement arrival.mark.step got) ≡ Some why → why ≡ Torn
+    judged : (got : Answer) → cause_of_judgement (device.answer_judgement arrival.mark.step got) ≡ Some why → why ≡ unlawful.Torn
     judged (Gives d) e = told (not d.whole && not (nat_eq arrival.mark.step 0)) e
     judged Continues e = absurd (cc (e))
     judged (Drops dropped) e = absurd (cc (e))
 
 abbrev pub IsRefusal : Row → Unlawful → Type 0
 IsRefusal row why = ((n : ℕ) × ((k : ℕ) × ((ms : ℕ) × (row ≡ Rx n k ms))))
-    ⊎ ((a : ℕ) × ((k : ℕ) × ((ms : ℕ) × ((word : ℕ) × ((row ≡ ARx a k ms word) × (why ≡ Torn))))))
+    ⊎ ((a : ℕ) × ((k : ℕ) × ((ms : ℕ) × ((word : ℕ) × ((row ≡ ARx a k ms word) × (why ≡ unlawful.Torn))))))
 
 module _ (w : Cluster) (why : Unlawful) (is : is_of_bus why ≡ true) where
   abbrev pub Quiet : Option Unlawful → Type 0
@@ -101,7 +102,7 @@ module _ (w : Cluster) (why : Unlawful) (is : is_of_bus why ≡ true) where
   abbrev pub rest_of : ℕ → ℕ → ℕ → Option Unlawful
   rest_of a k ms = or_else (absent w a) (or_else (no_such_frame w k) (taken_of a k ms))
 
-  by_taken : (a k ms : ℕ) → (no_allocatee a ≡ Some why) ⊎ (rest_of a k ms ≡ Some why) → why ≡ Torn
+  by_taken : (a k ms : ℕ) → (no_allocatee a ≡ Some why) ⊎ (rest_of a k ms ≡ Some why) → why ≡ unlawful.Torn
   by_taken a k ms (inl e) = absurd (no_device a e)
   by_taken a k ms (inr e) = elim (or_is (absent w a) (or_else (no_such_frame w k) (taken_of a k ms)) why e) [
     | inl e ↦ absurd (not_there a e)
@@ -136,17 +137,17 @@ module _ (limits : Limits) (ids : List ℕ) where
   w_of before = world_of ids (rows_in before)
 
   abbrev pub DeviceLaw : Type 0
-  DeviceLaw = (before : List Timed) (now : Timed) (a k ms word : ℕ) → now.row ≡ ARx a k ms word → Lawful (cluster ids) (rows_in before)
-      → DeviceHears limits ids before now a k → cause (w_of before) (ARx a k ms word) ≡ Some Torn → ⊥
+  DeviceLaw = (before : List Timed) (now : Timed) (a k ms word : ℕ) → now.row ≡ ARx a k ms word → AreLawful (cluster ids) (rows_in before)
+      → DeviceHears limits ids before now a k → cause (w_of before) (ARx a k ms word) ≡ Some unlawful.Torn → ⊥
 
   abbrev pub TornLaw : Type 0
-  TornLaw = (before : List Timed) (now : Timed) (n k ms : ℕ) → now.row ≡ Rx n k ms → Lawful (cluster ids) (rows_in before)
-      → MemberHears limits ids before now n k → cause (w_of before) (Rx n k ms) ≡ Some Torn
+  TornLaw = (before : List Timed) (now : Timed) (n k ms : ℕ) → now.row ≡ Rx n k ms → AreLawful (cluster ids) (rows_in before)
+      → MemberHears limits ids before now n k → cause (w_of before) (Rx n k ms) ≡ Some unlawful.Torn
       → (moment : ℕ) × LacksFrames (transfers_of_rows (cluster ids) (rows_in before) []) (arrival_at (frame_at (w_of before).frames k) moment)
 
   abbrev pub StaleLaw : Type 0
-  StaleLaw = (before : List Timed) (now : Timed) (n k ms : ℕ) → now.row ≡ Rx n k ms → Lawful (cluster ids) (rows_in before)
-      → MemberHears limits ids before now n k → cause (w_of before) (Rx n k ms) ≡ Some Stale → ⊥
+  StaleLaw = (before : List Timed) (now : Timed) (n k ms : ℕ) → now.row ≡ Rx n k ms → AreLawful (cluster ids) (rows_in before)
+      → MemberHears limits ids before now n k → cause (w_of before) (Rx n k ms) ≡ Some unlawful.Stale → ⊥
 
   pub rows_of_more : (before : List Timed) (now : Timed) → rows_in (before ++ now ∷ []) ≡ rows_in before ++ now.row ∷ []
   rows_of_more [] now = refl
@@ -160,9 +161,9 @@ module _ (limits : Limits) (ids : List ℕ) where
   of_row before now row e happens = subst (λ (r : Row). HappensOnBus limits ids before now r) e happens
 
   -- a row more
-  pub lawful_more : (before : List Timed) (t : Timed) (w : Cluster) → w_of before ≡ w → Lawful (cluster ids) (rows_in before)
-      → cause w t.row ≡ None → Lawful (cluster ids) (rows_in (before ++ t ∷ []))
-  lawful_more before t w at lawful e = subst (λ (l : List Row). Lawful (cluster ids) l) (sym (rows_of_more before t))
+  pub lawful_more : (before : List Timed) (t : Timed) (w : Cluster) → w_of before ≡ w → AreLawful (cluster ids) (rows_in before)
+      → cause w t.row ≡ None → AreLawful (cluster ids) (rows_in (before ++ t ∷ []))
+  lawful_more before t w at lawful e = subst (λ (l : List Row). AreLawful (cluster ids) l) (sym (rows_of_more before t))
       (one_more (cluster ids) (rows_in before) t.row lawful (ap (λ (u : Cluster). cause u t.row) at ∙ e))
 
   -- frames that come in turn come in order
@@ -179,20 +180,20 @@ module _ (limits : Limits) (ids : List ℕ) where
       (in_order_at n heard w row turns.0, come_in_order n (heard ++ heard_in n w row) (after_row w row) rows turns.1)
 
   -- so it is of those that a member heard before one that is torn
-  pub heard_in_order : (before : List Timed) (n k ms : ℕ) → AllComeInTurn ids (cluster ids) (rows_in before) → cause (w_of before) (Rx n k ms) ≡ Some Torn
+  pub heard_in_order : (before : List Timed) (n k ms : ℕ) → AllComeInTurn ids (cluster ids) (rows_in before) → cause (w_of before) (Rx n k ms) ≡ Some unlawful.Torn
       → ComeInOrder n [] (cluster ids) (rows_in before)
   heard_in_order before n k ms turns e = come_in_order n [] (cluster ids) (rows_in before)
-      (turns n (subst (λ (l : List ℕ). In n l) (ids_stay (cluster ids) (rows_in before)) (refused Torn IsTorn of_torn (w_of before) n k ms e).member))
+      (turns n (subst (λ (l : List ℕ). In n l) (ids_stay (cluster ids) (rows_in before)) (refused unlawful.Torn Torn of_torn (w_of before) n k ms e).member))
 
   module _ (device_law : DeviceLaw) (torn_law : TornLaw) (stale_law : StaleLaw) where
     -- a row that is refused lacks frames
-    pub lost : (before rest : List Timed) (now : Timed) (why : Unlawful) → is_of_bus why ≡ true → Lawful (cluster ids) (rows_in before)
+    pub lost : (before rest : List Timed) (now : Timed) (why : Unlawful) → is_of_bus why ≡ true → AreLawful (cluster ids) (rows_in before)
         → HappensOnBus limits ids before now now.row → cause (w_of before) now.row ≡ Some why → LosesFrames ids (before ++ (now ∷ rest))
     lost before rest now why is lawful happens e = by (refusal (w_of before) why is now.row e)
       where
         member : (n k ms : ℕ) → now.row ≡ Rx n k ms → (why : Unlawful) → is_of_bus why ≡ true → cause (w_of before) (Rx n k ms) ≡ Some why
             → LosesFrames ids (before ++ (now ∷ rest))
-        member n k ms row Torn is e =
+        member n k ms row unlawful.Torn is e =
             let lacks = torn_law before now n k ms row lawful (of_row before now (Rx n k ms) row happens) e in
             record {
               before = before;
@@ -208,7 +209,7 @@ module _ (limits : Limits) (ids : List ℕ) where
               moment = lacks.0;
               lacks = lacks.1;
             }
-        member n k ms row Stale is e = absurd (stale_law before now n k ms row lawful (of_row before now (Rx n k ms) row happens) e)
+        member n k ms row unlawful.Stale is e = absurd (stale_law before now n k ms row lawful (of_row before now (Rx n k ms) row happens) e)
         member n k ms row other is e = absurd (cc (is))
 
         by : IsRefusal now.row why → LosesFrames ids (before ++ (now ∷ rest))
@@ -218,31 +219,31 @@ module _ (limits : Limits) (ids : List ℕ) where
             (subst (λ (r : Row). cause (w_of before) r ≡ Some why) row e ∙ ap (λ (c : Unlawful). Some c) torn))
 
     -- a row that does no harm, and happens on the bus, is lawful
-    harmless_row : (before : List Timed) (t : Timed) → Lawful (cluster ids) (rows_in before) → HappensOnBus limits ids before t t.row
+    harmless_row : (before : List Timed) (t : Timed) → AreLawful (cluster ids) (rows_in before) → HappensOnBus limits ids before t t.row
         → (row : Row) → t.row ≡ row → DoesNoHarm (w_of before) row → cause (w_of before) row ≡ None
     harmless_row before t lawful happens row is (inl fine) = fine
     harmless_row before t lawful happens (Rx n k ms) is (inr late) = absurd (stale_law before t n k ms is lawful (of_row before t (Rx n k ms) is happens) late.0)
     harmless_row before t lawful happens row is (inr late) = never late.1
 
-    pub harmless_rows : (rest before : List Timed) (w : Cluster) → w_of before ≡ w → Lawful (cluster ids) (rows_in before)
-        → HappenOnBus limits ids before rest → DoNoHarm w (rows_in rest) → Lawful (cluster ids) (rows_in (before ++ rest))
-    harmless_rows [] before w at lawful happen harmless = subst (λ (l : List Timed). Lawful (cluster ids) (rows_in l)) (sym (append-nil before)) lawful
+    pub harmless_rows : (rest before : List Timed) (w : Cluster) → w_of before ≡ w → AreLawful (cluster ids) (rows_in before)
+        → HappenOnBus limits ids before rest → DoNoHarm w (rows_in rest) → AreLawful (cluster ids) (rows_in (before ++ rest))
+    harmless_rows [] before w at lawful happen harmless = subst (λ (l : List Timed). AreLawful (cluster ids) (rows_in l)) (sym (append-nil before)) lawful
     harmless_rows (t ∷ rest) before w at lawful happen harmless =
-        subst (λ (l : List Timed). Lawful (cluster ids) (rows_in l)) (append_assoc before (t ∷ []) rest)
+        subst (λ (l : List Timed). AreLawful (cluster ids) (rows_in l)) (append_assoc before (t ∷ []) rest)
         (harmless_rows rest (before ++ t ∷ []) (after_row w t.row) (after_more before t ∙ ap (λ (u : Cluster). after_row u t.row) at)
         (lawful_more before t w at lawful (ap (λ (u : Cluster). cause u t.row) (sym at)
         ∙ harmless_row before t lawful happen.0 t.row refl (subst (λ (u : Cluster). DoesNoHarm u t.row) (sym at) harmless.0))) happen.1 harmless.1)
 
-    pub scheduled : (rest before : List Timed) (w : Cluster) → w_of before ≡ w → Lawful (cluster ids) (rows_in before)
-        → HappenOnBus limits ids before rest → LawfulButForBus w (rows_in rest) → Lawful w (rows_in rest) ⊎ LosesFrames ids (before ++ rest)
+    pub scheduled : (rest before : List Timed) (w : Cluster) → w_of before ≡ w → AreLawful (cluster ids) (rows_in before)
+        → HappenOnBus limits ids before rest → LawfulButForBus w (rows_in rest) → AreLawful w (rows_in rest) ⊎ LosesFrames ids (before ++ rest)
     scheduled [] before w at lawful happen but = inl tt
     scheduled (now ∷ rest) before w at lawful happen but = by (cause w now.row) refl
         (λ e. scheduled rest (before ++ now ∷ []) (after_row w now.row) (after_more before now ∙ ap (λ (u : Cluster). after_row u now.row) at)
         (lawful_more before now w at lawful e) happen.1 but.1)
       where
         by : (c : Option Unlawful) → cause w now.row ≡ c
-            → (cause w now.row ≡ None → Lawful (after_row w now.row) (rows_in rest) ⊎ LosesFrames ids ((before ++ now ∷ []) ++ rest))
-            → Lawful w (rows_in (now ∷ rest)) ⊎ LosesFrames ids (before ++ (now ∷ rest))
+            → (cause w now.row ≡ None → AreLawful (after_row w now.row) (rows_in rest) ⊎ LosesFrames ids ((before ++ now ∷ []) ++ rest))
+            → AreLawful w (rows_in (now ∷ rest)) ⊎ LosesFrames ids (before ++ (now ∷ rest))
         by (Some why) e more = inr (lost before rest now why (but.0 why e) lawful happen.0 (ap (λ (u : Cluster). cause u now.row) at ∙ e))
         by None e more = elim (more e) [
           | inl lawful ↦ inl (e, lawful)

@@ -8,7 +8,7 @@ use Rattle.can_frame.specs.declared.step.What.TheVariants.{Alloc, App, AppQ, Dis
 use Rattle.can_frame.specs.Cutting.{frame_count}
 use Rattle.raft_log.specs.KeyDisk.{are_put, puts_on}
 use Rattle.raft_model.specs.Lists.{In, at_here}
-use Rattle.raft_model.specs.Runs as machine
+use Rattle.raft_model.specs.Runs as raft
 use Rattle.raft_model.specs.Runs.{initial_world}
 use Rattle.raft_model.specs.Server.{RaftServer}
 use Rattle.replay_text.specs.declared.row.Row.{Row}
@@ -18,7 +18,7 @@ use Rattle.alloc_spec.specs.Step.{Event, step}
 use Rattle.alloc_spec.specs.StepState.{StepState}
 use Rattle.alloc_spec.specs.Transfers.{SentTransfer}
 use Rattle.cluster_spec.specs.Cluster.{AreMembers, Cluster, after_row, arrival_at, cluster, frame_at, receipt_of, tick_of, world_of}
-use Rattle.cluster_spec.specs.Lawful.{Lawful, arrival_refusal, cause, no_node, no_such_frame, not_running, or_else}
+use Rattle.cluster_spec.specs.Lawful.{AreLawful, arrival_refusal, cause, no_node, no_such_frame, not_running, or_else}
 use Rattle.cluster_spec.specs.Members.{Member, MemberStatus, after_cut_off, member_after_step, puts_of}
 use Rattle.cluster_spec.specs.Members.MemberStatus.{Down, Failed, Up}
 use Rattle.cluster_spec.specs.Refinement.{events, transfers_of_offers, transfers_of_row, transfers_of_rows, transfers_of_step}
@@ -48,7 +48,7 @@ abbrev pub ArePlain : Cluster → Type 0
 ArePlain w = (m : ℕ) (t : AllocatorState) → In m w.ids → (w.member m).status ≡ Up t → IsPlain t
 
 -- what is shown of a run has bytes
-pub are_plain : (choice : ℕ → Bool) (made : List SentTransfer) (w : Cluster) (run : machine.World) → length w.ids ≤ 5 → Shows choice made w run
+pub are_plain : (choice : ℕ → Bool) (made : List SentTransfer) (w : Cluster) (run : raft.World) → length w.ids ≤ 5 → Shows choice made w run
     → IsRunWritable w.ids run → ArePlain w
 are_plain choice made w run five shows written m t listed up =
     let is : ShowsUp made w.ids w.frames run m t (w.member m).disk =
@@ -134,8 +134,8 @@ module _ (w : Cluster) (made : List SentTransfer) (before : ArePlain w) (old : A
 
 -- ---- all rows
 
-pub all_short : (ids : List ℕ) → ((rows : List Row) → Lawful (cluster ids) rows → ArePlain (world_of ids rows)) → (rest done : List Row)
-    (made : List SentTransfer) → Lawful (cluster ids) (done ++ rest) → AreAllShort made → AreAllShort (transfers_of_rows (world_of ids done) rest made)
+pub all_short : (ids : List ℕ) → ((rows : List Row) → AreLawful (cluster ids) rows → ArePlain (world_of ids rows)) → (rest done : List Row)
+    (made : List SentTransfer) → AreLawful (cluster ids) (done ++ rest) → AreAllShort made → AreAllShort (transfers_of_rows (world_of ids done) rest made)
 all_short ids plain [] done made lawful old = old
 all_short ids plain (row ∷ rest) done made lawful old =
     subst (λ (v : Cluster). AreAllShort (transfers_of_rows v rest (transfers_of_row w row made))) grown
@@ -149,15 +149,15 @@ all_short ids plain (row ∷ rest) done made lawful old =
     grown : world_of ids (done ++ row ∷ []) ≡ after_row w row
     grown = rows_joined (cluster ids) done (row ∷ [])
 
-    further : Lawful (cluster ids) ((done ++ row ∷ []) ++ rest)
-    further = subst (λ (l : List Row). Lawful (cluster ids) l) (sym (append_assoc done (row ∷ []) rest)) lawful
+    further : AreLawful (cluster ids) ((done ++ row ∷ []) ++ rest)
+    further = subst (λ (l : List Row). AreLawful (cluster ids) l) (sym (append_assoc done (row ∷ []) rest)) lawful
 
 -- what is shown of each list of lawful rows
-pub made_short : (ids : List ℕ) → AreMembers ids → ((rows : List Row) → Lawful (cluster ids) rows → (choice : ℕ → Bool)
+pub made_short : (ids : List ℕ) → AreMembers ids → ((rows : List Row) → AreLawful (cluster ids) rows → (choice : ℕ → Bool)
     × Continues choice (transfers_of_rows (cluster ids) rows []) (world_of ids rows) (initial_world ids) (events choice (cluster ids) rows))
-    → (rows : List Row) → Lawful (cluster ids) rows → AreAllShort (transfers_of_rows (cluster ids) rows [])
+    → (rows : List Row) → AreLawful (cluster ids) rows → AreAllShort (transfers_of_rows (cluster ids) rows [])
 made_short ids members shown rows lawful =
     all_short ids (λ done so_far.
     let is = shown done so_far in
-    are_plain is.0 (transfers_of_rows (cluster ids) done []) (world_of ids done) (machine.run (initial_world ids) (events is.0 (cluster ids) done))
+    are_plain is.0 (transfers_of_rows (cluster ids) done []) (world_of ids done) (raft.run (initial_world ids) (events is.0 (cluster ids) done))
     (subst (λ (l : List ℕ). length l ≤ 5) (sym (ids_stay (cluster ids) done)) members.five) is.1.shows is.1.writable) rows [] [] lawful (λ y i. absurd i)

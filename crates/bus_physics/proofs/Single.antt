@@ -12,7 +12,7 @@ use Rattle.can_frame.specs.Cutting.{frame_count}
 use Rattle.can_frame.specs.Identifier.{identifier_of}
 use Rattle.can_frame.specs.Kinds.{is_anonymous}
 use Rattle.raft_model.specs.Lists.{In, at}
-use Rattle.raft_model.specs.Runs as machine
+use Rattle.raft_model.specs.Runs as raft
 use Rattle.replay_text.specs.declared.row.Row.{Row}
 use Rattle.replay_text.specs.declared.row.Row.TheVariants.{AEnd, AOpen, ARx, ASend, ATick, Crash, Ext, Fault, Open, Rx, Send, Tick}
 use Rattle.transfer_tx.specs.Queue.{Queued, is_least, left_behind, next_out, queued_frames}
@@ -25,7 +25,7 @@ use Rattle.alloc_spec.specs.AllocatorState.{AllocatorState}
 use Rattle.alloc_spec.specs.Transfers.{ident_of, kind_of}
 use Rattle.cluster_spec.specs.Allocatees.{after_sending_from, device_after_step, next_from}
 use Rattle.cluster_spec.specs.Cluster.{AreMembers, Cluster, after_row, cluster, from_outside, in_list, receipt_at, world_of}
-use Rattle.cluster_spec.specs.Lawful.{Lawful, cause, is_forged, no_node, not_running, nothing_to_send, or_else}
+use Rattle.cluster_spec.specs.Lawful.{AreLawful, cause, is_forged, no_node, not_running, nothing_to_send, or_else}
 use Rattle.cluster_spec.specs.Members.{MemberStatus, next_frame}
 use Rattle.cluster_spec.specs.Members.MemberStatus.{Down, Failed, Up}
 use Rattle.cluster_spec.specs.Refinement.{transfers_of_rows}
@@ -136,10 +136,10 @@ known_kind App = refl
 -- what is shown of a list of lawful rows
 pub record IsShown (ids : List ℕ) (rows : List Row) : Type 0 where
   pub choice : ℕ → Bool
-  pub run : machine.World
+  pub run : raft.World
   pub shows : Shows choice (transfers_of_rows (cluster ids) rows []) (world_of ids rows) run
 
-module _ (laws : FrameLaws) (ids : List ℕ) (members : AreMembers ids) (shown : (rows : List Row) → Lawful (cluster ids) rows → IsShown ids rows) where
+module _ (laws : FrameLaws) (ids : List ℕ) (members : AreMembers ids) (shown : (rows : List Row) → AreLawful (cluster ids) rows → IsShown ids rows) where
   module _ (w : Cluster) (inv : IsSingle ids w) where
     -- a frame more
     with_frames : (more : List Queued) → ((f : Queued) → In f more → IsOrigin ids f) → (f : Queued) → In f (w.frames ++ more) → IsOrigin ids f
@@ -168,7 +168,7 @@ module _ (laws : FrameLaws) (ids : List ℕ) (members : AreMembers ids) (shown :
         left_is : (d x : Device) → after_sending_from (Some d) ≡ Some x → record d.asking { queue = left_behind d.asking.queue } ≡ x.asking
         left_is d x e = ap (λ (y : Device). y.asking) (some_is (record d { asking = record d.asking { queue = left_behind d.asking.queue } }) x e)
 
-  module _ (done : List Row) (lawful : Lawful (cluster ids) done) (inv : IsSingle ids (world_of ids done)) where
+  module _ (done : List Row) (lawful : AreLawful (cluster ids) done) (inv : IsSingle ids (world_of ids done)) where
     abbrev w : Cluster
     w = world_of ids done
 
@@ -258,14 +258,14 @@ module _ (laws : FrameLaws) (ids : List ℕ) (members : AreMembers ids) (shown :
     }
     goes_on (AEnd b) allowed = record { bus = inv.bus; queues = with_queue w inv b None (λ x e. absurd (cc (e))) }
 
-  along : (done rest : List Row) → Lawful (cluster ids) (done ++ rest) → IsSingle ids (world_of ids done) → IsSingle ids (world_of ids (done ++ rest))
+  along : (done rest : List Row) → AreLawful (cluster ids) (done ++ rest) → IsSingle ids (world_of ids done) → IsSingle ids (world_of ids (done ++ rest))
   along done [] lawful inv = subst (λ (l : List Row). IsSingle ids (world_of ids l)) (sym (append-nil done)) inv
   along done (row ∷ rest) lawful inv =
       let joined : (done ++ row ∷ []) ++ rest ≡ done ++ (row ∷ rest) = append_assoc done (row ∷ []) rest in
       subst (λ (l : List Row). IsSingle ids (world_of ids l)) joined
-      (along (done ++ row ∷ []) rest (subst (λ (l : List Row). Lawful (cluster ids) l) (sym joined) lawful)
+      (along (done ++ row ∷ []) rest (subst (λ (l : List Row). AreLawful (cluster ids) l) (sym joined) lawful)
       (subst (IsSingle ids) (sym (rows_joined (cluster ids) done (row ∷ [])))
       (goes_on done (first_lawful (cluster ids) done (row ∷ rest) lawful) inv row (cause_at (cluster ids) done rest row lawful))))
 
-  pub single : (rows : List Row) → Lawful (cluster ids) rows → IsSingle ids (world_of ids rows)
+  pub single : (rows : List Row) → AreLawful (cluster ids) rows → IsSingle ids (world_of ids rows)
   single rows lawful = along [] rows lawful (record { bus = λ f i. absurd i; queues = λ a x e. absurd (cc (e)) })

@@ -24,7 +24,7 @@ use Rattle.alloc_spec.specs.Step.Event.{Rx as Receives, Tick as Ticks}
 use Rattle.alloc_spec.specs.StepState.{StepState}
 use Rattle.alloc_spec.specs.Transfers.{Offer, SentTransfer, first_ids, number_of}
 use Rattle.cluster_spec.specs.Cluster.{Cluster, after_row, after_rows, cluster, frame_at, receipt_of, rules_of, tick_of, world_of}
-use Rattle.cluster_spec.specs.Lawful.{Lawful, cause}
+use Rattle.cluster_spec.specs.Lawful.{AreLawful, cause}
 use Rattle.cluster_spec.specs.Members.{Member, MemberStatus, after_crash, after_cut_off, after_failed_opening, after_opening, after_sending, member_after_step, puts_of, stopped_with, with_failure_armed, with_stop_armed}
 use Rattle.cluster_spec.specs.Members.MemberStatus.{Down, Failed, Up}
 use Rattle.cluster_spec.specs.Refinement.{transfers_of_offers, transfers_of_row, transfers_of_rows, transfers_of_step}
@@ -32,7 +32,7 @@ use Rattle.cluster_agreement.specs.Said.{carrier}
 use Rattle.cluster_agreement.proofs.Lists.{in_front}
 use Rattle.cluster_agreement.proofs.OneRowMore.{lawful as one_more}
 use Rattle.cluster_agreement.proofs.MadeTransfers.{IsNew, made_when, still_made}
-use Rattle.bus_physics.specs.Physics.{HoldsAreShort, IsAnswered, IsNotFast, IsResponseOf, Limits, WhereIts, Reading, Reads, ReadsAt, RestsBeforeOpening, Timed, heard_by, heard_in, member_readings, now_in, row_of, rows_in, time_of}
+use Rattle.bus_physics.specs.Physics.{HoldsAreShort, IsAnsweredSince, IsNotFast, IsResponseOf, Limits, WhereIts, Reading, Reads, ReadsAt, RestsBeforeOpening, Timed, heard_by, heard_in, member_readings, now_in, row_of, rows_in, time_of}
 use Rattle.bus_physics.proofs.Scheduled.{rows_of_more}
 use Rattle.bus_physics.proofs.Now.{now_of_a_step}
 use Rattle.bus_physics.proofs.Waking.{IsAwake}
@@ -131,7 +131,7 @@ module _ (append : Bool) (p width : ℕ) (P : ℕ → ℕ → Memory → Times �
 
     -- it was answered, or the member rested since, before it was opened at this time
     abbrev pub IsEnded : List SentTransfer → List Queued → ℕ → SentTransfer → Type 0
-    IsEnded made heard at x = IsAnswered made heard x ⊎ (time_of all x.step + limits.rest ≤ at)
+    IsEnded made heard at x = IsAnsweredSince made heard x ⊎ (time_of all x.step + limits.rest ≤ at)
 
     pub record Runs (made : List SentTransfer) (heard : List Queued) (past : List Reading) (t : AllocatorState) : Type 0 where
       pub wait : t.times.since ≤ t.now
@@ -146,7 +146,7 @@ module _ (append : Bool) (p width : ℕ) (P : ℕ → ℕ → Memory → Times �
     RunsWhereUp made heard past status = (t : AllocatorState) → status ≡ Up t → Runs made heard past t
 
     abbrev pub IsSettled : List SentTransfer → List Queued → SentTransfer → SentTransfer → Type 0
-    IsSettled made heard x y = (time_of all x.step + 2 * limits.hold < time_of all y.step) ⊎ IsAnswered made heard x
+    IsSettled made heard x y = (time_of all x.step + 2 * limits.hold < time_of all y.step) ⊎ IsAnsweredSince made heard x
 
     abbrev pub AreSettled : List SentTransfer → List Queued → Type 0
     AreSettled made heard = (x y : SentTransfer) → In x made → In y made → IsCallTo x → IsCallTo y → x.offer.id ≡ y.offer.id → x.step < y.step
@@ -154,7 +154,7 @@ module _ (append : Bool) (p width : ℕ) (P : ℕ → ℕ → Memory → Times �
 
     -- what was answered stays so
     answered_more : (made more : List SentTransfer) (heard further : List Queued) → ((x : SentTransfer) → In x made → In x more)
-        → ((f : Queued) → In f heard → In f further) → (x : SentTransfer) → IsAnswered made heard x → IsAnswered more further x
+        → ((f : Queued) → In f heard → In f further) → (x : SentTransfer) → IsAnsweredSince made heard x → IsAnsweredSince more further x
     answered_more made more heard further grows hears x a = record {
       later = a.later;
       was_made = grows a.later a.was_made;
@@ -170,7 +170,7 @@ module _ (append : Bool) (p width : ℕ) (P : ℕ → ℕ → Memory → Times �
     settled_more made more heard further grows hears x y (inl far) = inl far
     settled_more made more heard further grows hears x y (inr a) = inr (answered_more made more heard further grows hears x a)
 
-    answered_by : (made : List SentTransfer) (heard : List Queued) (step : ℕ) → IsHeard made heard step → (x : SentTransfer) → In x made → IsCallTo x → IsAnswered made heard x
+    answered_by : (made : List SentTransfer) (heard : List Queued) (step : ℕ) → IsHeard made heard step → (x : SentTransfer) → In x made → IsCallTo x → IsAnsweredSince made heard x
     answered_by made heard step h x i call = record {
       later = h.later;
       was_made = h.was_made;
@@ -604,10 +604,10 @@ module _ (append : Bool) (p width : ℕ) (P : ℕ → ℕ → Memory → Times �
     sent_by_rows (row ∷ rows) w made x i = sent_by_rows rows (after_row w row) (transfers_of_row w row made) x (sent_by_row w row made x i)
 
     module _ (short : HoldsAreShort limits) (wide : 21000 ≤ width) (narrow : width ≤ 32000) (ids : List ℕ)
-        (known : (rows : List Row) → Lawful (cluster ids) rows → Known (world_of ids rows) (transfers_of_rows (cluster ids) rows [])) where
+        (known : (rows : List Row) → AreLawful (cluster ids) rows → Known (world_of ids rows) (transfers_of_rows (cluster ids) rows [])) where
       pub along : (rest done tail : List Timed) (w : Cluster) (made : List SentTransfer) (heard : List Queued) (past : List Reading)
           → world_of ids (rows_in done) ≡ w → transfers_of_rows (cluster ids) (rows_in done) [] ≡ made → all ≡ done ++ (rest ++ tail) → w.rows ≡ length done
-          → Lawful (cluster ids) (rows_in done) → Lawful w (rows_in rest) → Reads (IsNotFast limits) n past w rest
+          → AreLawful (cluster ids) (rows_in done) → AreLawful w (rows_in rest) → Reads (IsNotFast limits) n past w rest
           → RestsBeforeOpening limits all (transfers_of_rows w (rows_in rest) made) n → RunsWhereUp made heard past (w.member n).status → AreSettled made heard
           → AreSettled (transfers_of_rows w (rows_in rest) made) (heard ++ heard_by n w (rows_in rest))
       along [] done tail w made heard past world sent split count before lawful slow rests runs settled =
@@ -642,8 +642,8 @@ module _ (append : Bool) (p width : ℕ) (P : ℕ → ℕ → Memory → Times �
           lawful_now : cause (world_of ids (rows_in done)) t.row ≡ None
           lawful_now = ap (λ (v : Cluster). cause v t.row) world ∙ lawful.0
 
-          more : Lawful (cluster ids) (rows_in (done ++ t ∷ []))
-          more = subst (λ (l : List Row). Lawful (cluster ids) l) (sym rows_more) (one_more (cluster ids) (rows_in done) t.row before lawful_now)
+          more : AreLawful (cluster ids) (rows_in (done ++ t ∷ []))
+          more = subst (λ (l : List Row). AreLawful (cluster ids) l) (sym rows_more) (one_more (cluster ids) (rows_in done) t.row before lawful_now)
 
           at_place : (k : ℕ) → k ≡ length done → slice_index_or (done ++ (t ∷ (rest ++ tail))) (k + 1 - 1) (record { at = 0; row = Send 0 }) ≡ t
           at_place k e = let less : k + 1 - 1 ≡ length done = omega (arith, e) in

@@ -2,7 +2,7 @@
 use Rattle.std.proofs.Common.{◌≡◌, ℕ, ◌+◌, ◌*◌, Bool, true, false, List, [], ◌∷◌, ◌++◌, refl, sym, ap, subst, ◌∙◌, ◌⊎◌, inl, inr, Option, Some, None, append_assoc, append-nil}
 use Rattle.std.specs.Prelude.{not, if◌then◌else◌}
 use Rattle.can_frame.specs.declared.step.Judged.{Judged}
-use Rattle.can_frame.specs.declared.step.Judged.TheVariants.{Fine, Torn as IsTorn, Stale as IsStale}
+use Rattle.can_frame.specs.declared.step.Judged.TheVariants.{Fine, Torn, Stale}
 use Rattle.outside.specs.declared.pattern.Pattern.TheVariants.{Old}
 use Rattle.replay_text.specs.declared.row.Row.{Row}
 use Rattle.replay_text.specs.declared.row.Row.TheVariants.{Crash, Rx, Tick}
@@ -10,7 +10,7 @@ use Rattle.transfer_rx.specs.Reassembly.{Arrival}
 use Rattle.alloc_spec.specs.Judging.{arrival_judgement}
 use Rattle.cluster_spec.specs.declared.unlawful.Unlawful.{Unlawful}
 use Rattle.cluster_spec.specs.Cluster.{Cluster, after_row, after_rows, arrival_at, cluster, frame_at, is_member}
-use Rattle.cluster_spec.specs.Lawful.{DoNoHarm, DoesNoHarm, Lawful, arrival_refusal, brings_void_to, because, cause, cause_of_judgement, no_such_frame, or_else}
+use Rattle.cluster_spec.specs.Lawful.{DoNoHarm, DoesNoHarm, AreLawful, arrival_refusal, brings_void_to, because, cause, cause_of_judgement, no_such_frame, or_else}
 use Rattle.cluster_spec.specs.declared.unlawful.Unlawful.TheVariants.{NoNode, Stopped}
 use Rattle.cluster_spec.specs.Members.{MemberStatus, is_running}
 use Rattle.cluster_spec.specs.Members.MemberStatus.{Down, Failed, Up}
@@ -27,7 +27,7 @@ use Rattle.bus_physics.proofs.Scheduled.{DeviceLaw, StaleLaw, TornLaw, after_mor
 
 of_judgement : (judged : Judged) (why : Unlawful) → cause_of_judgement judged ≡ Some why → is_of_bus why ≡ true
 of_judgement Fine why e = absurd (cc (e))
-of_judgement IsTorn why e = by (ap of_option e)
+of_judgement Torn why e = by (ap of_option e)
   where
     of_option : Option Unlawful → Bool
     of_option None = true
@@ -35,7 +35,7 @@ of_judgement IsTorn why e = by (ap of_option e)
 
     by : true ≡ is_of_bus why → is_of_bus why ≡ true
     by e = sym e
-of_judgement IsStale why e = by (ap of_option e)
+of_judgement Stale why e = by (ap of_option e)
   where
     of_option : Option Unlawful → Bool
     of_option None = true
@@ -98,7 +98,7 @@ module _ (limits : Limits) (ids : List ℕ) where
 
   module _ (device_law : DeviceLaw limits ids) (torn_law : TornLaw limits ids) (stale_law : StaleLaw limits ids) where
     -- a frame comes to a member that runs or does not
-    hears : (before tail : List Timed) (r : Timed) (n k moment : ℕ) (w : Cluster) → w_of limits ids before ≡ w → Lawful (cluster ids) (rows_in before)
+    hears : (before tail : List Timed) (r : Timed) (n k moment : ℕ) (w : Cluster) → w_of limits ids before ≡ w → AreLawful (cluster ids) (rows_in before)
         → r.row ≡ Rx n k moment → HappensOnBus limits ids before r r.row → is_member ids n ≡ true → no_such_frame w k ≡ None
         → (arrival_refusal (w.member n).status (arrival_at (frame_at w.frames k) moment) ≡ None) ⊎ LosesFrames ids (before ++ (r ∷ tail))
     hears before tail r n k moment w at lawful row happens member there =
@@ -126,7 +126,7 @@ module _ (limits : Limits) (ids : List ℕ) where
         → w_of limits ids (before ++ t ∷ []) ≡ after_row w row
     w_more before t row w at e = after_more limits ids before t ∙ (ap (λ (u : Cluster). after_row u t.row) at ∙ ap (λ (r : Row). after_row w r) e)
 
-    module _ (before rest : List Timed) (w : Cluster) (at : w_of limits ids before ≡ w) (lawful : Lawful (cluster ids) (rows_in before)) (quiet : Quiet w) where
+    module _ (before rest : List Timed) (w : Cluster) (at : w_of limits ids before ≡ w) (lawful : AreLawful (cluster ids) (rows_in before)) (quiet : Quiet w) where
       same_ids : w.ids ≡ ids
       same_ids = ap (λ (u : Cluster). u.ids) (sym at) ∙ ids_stay (cluster ids) (rows_in before)
 
@@ -242,7 +242,7 @@ module _ (limits : Limits) (ids : List ℕ) where
 
     module _ (harmless_of : (trace : List Event) → MayAllHappen trace (cluster ids) → DoNoHarm (cluster ids) (all_rows trace (cluster ids))) where
       pub traced : (trace done : List Event) (before timed : List Timed) (w : Cluster) → after_rows (cluster ids) (all_rows done (cluster ids)) ≡ w
-          → MayAllHappen done (cluster ids) → Lawful (cluster ids) (rows_in before) → rows_in before ≡ all_rows done (cluster ids) → rows_in timed ≡ all_rows trace w
+          → MayAllHappen done (cluster ids) → AreLawful (cluster ids) (rows_in before) → rows_in before ≡ all_rows done (cluster ids) → rows_in timed ≡ all_rows trace w
           → HappenOnBus limits ids before timed → MayAllDo trace w → MayAllHappen (done ++ trace) (cluster ids) ⊎ LosesFrames ids (before ++ timed)
       traced [] done before timed w at so_far lawful same rows happen may =
           inl (subst (λ (l : List Event). MayAllHappen l (cluster ids)) (sym (append-nil done)) so_far)

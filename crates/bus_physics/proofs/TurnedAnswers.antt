@@ -14,7 +14,7 @@ use Rattle.alloc_spec.specs.Transfers.{number_of}
 use Rattle.alloc_spec_laws.specs.Apart.{AreAllApart}
 use Rattle.alloc_spec_laws.specs.Responses.{ResponsesAnswer}
 use Rattle.cluster_spec.specs.Cluster.{AreMembers, cluster, frame_at, world_of}
-use Rattle.cluster_spec.specs.Lawful.{Lawful, cause, no_such_frame}
+use Rattle.cluster_spec.specs.Lawful.{AreLawful, cause, no_such_frame}
 use Rattle.alloc_spec.specs.Accepted.{is_members_service}
 use Rattle.cluster_spec.specs.Refinement.{transfers_of_rows}
 use Rattle.cluster_agreement.specs.LawsBelow.{FrameLaws}
@@ -29,7 +29,7 @@ use Rattle.bus_physics.proofs.Single.{IsShown}
 
 module _ (laws : FrameLaws) (answers : (t : AllocatorState) (number : ℕ) (event : Event) → ResponsesAnswer t number event)
     (apart : (t : AllocatorState) (number : ℕ) (event : Event) → AreAllApart (step t number event).step_state.offers) (ids : List ℕ) (members : AreMembers ids)
-    (shown : (rows : List Row) → Lawful (cluster ids) rows → IsShown ids rows) where
+    (shown : (rows : List Row) → AreLawful (cluster ids) rows → IsShown ids rows) where
   its_members : (rows : List Row) → AreMembers (world_of ids rows).ids
   its_members rows = subst AreMembers (sym (ids_stay (cluster ids) rows)) members
 
@@ -37,7 +37,7 @@ module _ (laws : FrameLaws) (answers : (t : AllocatorState) (number : ℕ) (even
   once rows = once_along apart rows (cluster ids) [] (record { past = λ x i. absurd i; once = λ x y i. absurd i })
 
   module _ (append : Bool) (source n : ℕ) where
-    known : (rows : List Row) → Lawful (cluster ids) rows → Known append source n (world_of ids rows) (transfers_of_rows (cluster ids) rows [])
+    known : (rows : List Row) → AreLawful (cluster ids) rows → Known append source n (world_of ids rows) (transfers_of_rows (cluster ids) rows [])
     known rows lawful = record {
       once = once rows;
       some = (shown rows lawful).shows.holds.transfers.numbered;
@@ -55,7 +55,7 @@ module _ (laws : FrameLaws) (answers : (t : AllocatorState) (number : ℕ) (even
     service true = refl
     service false = refl
 
-    by_service : (rows : List Row) (k : ℕ) → Lawful (cluster ids) rows → no_such_frame (world_of ids rows) k ≡ None → AllComeInTurn ids (cluster ids) rows
+    by_service : (rows : List Row) (k : ℕ) → AreLawful (cluster ids) rows → no_such_frame (world_of ids rows) k ≡ None → AllComeInTurn ids (cluster ids) rows
         → ComesInTurn n (heard_by n (cluster ids) rows) (frame_at (world_of ids rows).frames k) → source ≢ n
         → (other : Queued) → In other (heard_by n (cluster ids) rows) → IsResponseOf (number_of (answerer append)) source n other
         → IsResponseOf (number_of (answerer append)) source n (frame_at (world_of ids rows).frames k) → other.mark.re < (frame_at (world_of ids rows).frames k).mark.re
@@ -75,7 +75,7 @@ module _ (laws : FrameLaws) (answers : (t : AllocatorState) (number : ℕ) (even
             (shown rows lawful).shows source (frame_at (world_of ids rows).frames k) inside is_too (service append) in
             subst (λ (l : List ℕ). In source l) (ids_stay (cluster ids) rows) (subst (λ (m : ℕ). In m (world_of ids rows).ids) a.by ((shown rows lawful).shows.holds.transfers.makers a.x a.was_made))
 
-  pub come_in_order : (rows : List Row) (n k : ℕ) → Lawful (cluster ids) rows → no_such_frame (world_of ids rows) k ≡ None → AllComeInTurn ids (cluster ids) rows
+  pub come_in_order : (rows : List Row) (n k : ℕ) → AreLawful (cluster ids) rows → no_such_frame (world_of ids rows) k ≡ None → AllComeInTurn ids (cluster ids) rows
       → ComesInTurn n (heard_by n (cluster ids) rows) (frame_at (world_of ids rows).frames k)
       → AnswersInOrder n (heard_by n (cluster ids) rows) (frame_at (world_of ids rows).frames k)
   come_in_order rows n k lawful there turns turn other number source differs came service_ is is_too = elim (eqb_tells number 30) [

@@ -15,7 +15,7 @@ use Rattle.cluster_spec.specs.Members.{MemberStatus}
 use Rattle.cluster_agreement.specs.Said.{carrier}
 use Rattle.alloc_spec_laws.proofs.DistinctTransfers.{rank}
 use Rattle.cluster_agreement.proofs.Lists.{never}
-use Rattle.bus_physics.specs.Physics.{ClockGoesOnAt, ComesInTime, FrameComesInTime, GoesOn, Limits, WhereIts, IsAnswered, AnswersInOrder, IsResponseOf, Timed, WaitsForAnswers, now_in, time_of}
+use Rattle.bus_physics.specs.Physics.{ClockGoesOnAt, ComesInTime, FrameComesInTime, GoesOn, Limits, WhereIts, IsAnsweredSince, AnswersInOrder, IsResponseOf, Timed, WaitsForAnswers, now_in, time_of}
 use Rattle.bus_physics.specs.Reuse.{IsStaleAt}
 use Rattle.bus_physics.proofs.Members.{MemberBefore}
 use Rattle.bus_physics.proofs.Waiting.{WaitsLast}
@@ -81,7 +81,7 @@ module _ (limits : Limits) (all : List Timed) (sane : limits.drift < 58000) (mad
       below a b le ne = elim (eqb_tells a b) [ inl e ↦ absurd (ne e.1) | inr other ↦ omega (arith, le, other.1) ]
 
   -- an answer to that call or a later one came before
-  overtaken : IsAnswered made heard s.first → ⊥
+  overtaken : IsAnsweredSince made heard s.first → ⊥
   overtaken is = absurd (omega (
     arith,
     is.after,

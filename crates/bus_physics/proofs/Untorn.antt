@@ -20,7 +20,7 @@ use Rattle.can_frame.specs.declared.step.Why.TheVariants.{Start, Toggle, Transfe
 use Rattle.can_frame.specs.Cutting.{Piece, frames_of as pieces_of, piece_from}
 use Rattle.can_frame.specs.Kinds.{is_anonymous}
 use Rattle.raft_model.specs.Lists.{In}
-use Rattle.raft_model.specs.Runs as machine
+use Rattle.raft_model.specs.Runs as raft
 use Rattle.replay_text.specs.declared.row.Row.{Row}
 use Rattle.replay_text.specs.declared.row.Row.TheVariants.{ARx}
 use Rattle.transfer_rx.specs.declared.key.Key.{Key}
@@ -36,7 +36,7 @@ use Rattle.transfer_tx.specs.Queue.{Queued}
 use Rattle.allocatee.specs.Accepted as device
 use Rattle.allocatee.specs.Allocatee.{Device}
 use Rattle.alloc_spec.specs.Transfers.{SentTransfer, signature_of}
-use Rattle.cluster_spec.specs.declared.unlawful.Unlawful.TheVariants.{Torn as IsTorn}
+use Rattle.cluster_spec.specs.declared.unlawful.Unlawful.TheVariants as unlawful
 use Rattle.cluster_spec.specs.Cluster.{AreMembers, Cluster, arrival_at, frame_at}
 use Rattle.cluster_spec.specs.Lawful.{cause, is_forged}
 use Rattle.cluster_agreement.specs.Frames.{CameFrom}
@@ -246,7 +246,7 @@ of_it {A} a is = by (a == a) refl is where
   by true e x = x
   by false e x = elim (eqb_tells a a) [ inl s ↦ never (sym e ∙ s.0) | inr n ↦ absurd (n.1 refl) ]
 
-module _ (laws : FrameLaws) (choice : ℕ → Bool) (made : List SentTransfer) (w : Cluster) (run : machine.World) (members : AreMembers w.ids)
+module _ (laws : FrameLaws) (choice : ℕ → Bool) (made : List SentTransfer) (w : Cluster) (run : raft.World) (members : AreMembers w.ids)
     (shows : Shows choice made w run) (limits : Limits) (all : List Timed) (sane : limits.drift < 58000) (now : Timed) (a k ms word : ℕ)
     (row : now.row ≡ ARx a k ms word) (before : StandsBefore limits all a w now) (heard : List Queued)
     (few : AreShortOf made) (Ordered : Type 0) (slowly : AllocatesApart limits all made heard Ordered) (order : Ordered → ComesInOrderToDevice heard (frame_at w.frames k))
@@ -444,12 +444,12 @@ module _ (laws : FrameLaws) (choice : ℕ → Bool) (made : List SentTransfer) (
       | inr known ↦ nothing_torn known
     ]
 
-pub no_torn_row : (laws : FrameLaws) (choice : ℕ → Bool) (made : List SentTransfer) (w : Cluster) (run : machine.World) (members : AreMembers w.ids)
+pub no_torn_row : (laws : FrameLaws) (choice : ℕ → Bool) (made : List SentTransfer) (w : Cluster) (run : raft.World) (members : AreMembers w.ids)
     (shows : Shows choice made w run) (limits : Limits) (all : List Timed) → limits.drift < 58000 → (now : Timed) (a k ms word : ℕ)
     → now.row ≡ ARx a k ms word → StandsBefore limits all a w now → (heard : List Queued) → AreShortOf made → (Ordered : Type 0) → AllocatesApart limits all made heard Ordered
-    → (Ordered → ComesInOrderToDevice heard (frame_at w.frames k)) → (Ordered → KeptIn a heard (w.allocatee a)) → IsSingle w.ids w → cause w (ARx a k ms word) ≡ Some IsTorn → ⊥
+    → (Ordered → ComesInOrderToDevice heard (frame_at w.frames k)) → (Ordered → KeptIn a heard (w.allocatee a)) → IsSingle w.ids w → cause w (ARx a k ms word) ≡ Some unlawful.Torn → ⊥
 no_torn_row laws choice made w run members shows limits all sane now a k ms word row before heard few Ordered slowly order follows single e =
-    let r : IsRefusedAt w a k ms Torn = refused_at IsTorn Torn of_torn w a k ms word e in
+    let r : IsRefusedAt w a k ms Torn = refused_at unlawful.Torn Torn of_torn w a k ms word e in
     let b = torn_at_device r.x (arrival_at (frame_at w.frames k) ms) r.judgement in
     never_torn laws choice made w run members shows limits all sane now a k ms word row before heard few Ordered slowly order follows r.x r.there (stands w k r.frame_there)
     b.delivery b.gives b.is (marked_at_device r.x (arrival_at (frame_at w.frames k) ms) r.judgement) (single.bus (frame_at w.frames k) (stands w k r.frame_there))

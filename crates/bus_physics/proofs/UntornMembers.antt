@@ -16,7 +16,7 @@ use Rattle.can_frame.specs.declared.step.What.TheVariants.{Alloc, App, AppQ, Dis
 use Rattle.can_frame.specs.Cutting.{Piece, frame_count, frames_of as pieces_of, piece_from}
 use Rattle.can_frame.specs.Kinds.{is_anonymous}
 use Rattle.raft_model.specs.Lists.{In}
-use Rattle.raft_model.specs.Runs as machine
+use Rattle.raft_model.specs.Runs as raft
 use Rattle.replay_text.specs.declared.row.Row.{Row}
 use Rattle.replay_text.specs.declared.row.Row.TheVariants.{Rx}
 use Rattle.transfer_rx.specs.declared.key.Key.{Key}
@@ -30,7 +30,7 @@ use Rattle.transfer_tx.specs.Queue.{Queued}
 use Rattle.alloc_spec.specs.Accepted.{rows, setting_for}
 use Rattle.alloc_spec.specs.AllocatorState.{AllocatorState}
 use Rattle.alloc_spec.specs.Transfers.{SentTransfer, kind_of, number_of, signature_of}
-use Rattle.cluster_spec.specs.declared.unlawful.Unlawful.TheVariants.{Torn as IsTorn}
+use Rattle.cluster_spec.specs.declared.unlawful.Unlawful.TheVariants as unlawful
 use Rattle.cluster_spec.specs.Cluster.{AreMembers, Cluster, arrival_at, frame_at}
 use Rattle.cluster_spec.specs.Lawful.{cause, is_forged}
 use Rattle.cluster_spec.specs.Members.{MemberStatus}
@@ -113,7 +113,7 @@ apart_not : (hold drift m n p q : ℕ) → m ≤ p → p ≤ m + hold → n ≤ 
 apart_not hold drift m n p q a b c d e f (inl h) = absurd (omega (arith, a, b, c, d, e, f, h))
 apart_not hold drift m n p q a b c d e f (inr h) = absurd (omega (arith, a, b, c, d, e, f, h))
 
-module _ (laws : FrameLaws) (choice : ℕ → Bool) (made : List SentTransfer) (w : Cluster) (run : machine.World) (members : AreMembers w.ids)
+module _ (laws : FrameLaws) (choice : ℕ → Bool) (made : List SentTransfer) (w : Cluster) (run : raft.World) (members : AreMembers w.ids)
     (shows : Shows choice made w run) (limits : Limits) (all : List Timed) (sane : limits.drift < 58000) (now : Timed) (n k ms : ℕ)
     (row : now.row ≡ Rx n k ms) (before : MemberBefore limits all n w now) (heard : List Queued) (apart : UsesIdsApart limits all made heard n)
     (order : ComesInOrder n heard (frame_at w.frames k)) (follows : KeepsIn n heard (w.member n).status) (listed : In n w.ids)
@@ -366,13 +366,13 @@ module _ (laws : FrameLaws) (choice : ℕ → Bool) (made : List SentTransfer) (
             | inr one ↦ of_one one
           ]
 
-pub only_gaps : (laws : FrameLaws) (choice : ℕ → Bool) (made : List SentTransfer) (w : Cluster) (run : machine.World) (members : AreMembers w.ids)
+pub only_gaps : (laws : FrameLaws) (choice : ℕ → Bool) (made : List SentTransfer) (w : Cluster) (run : raft.World) (members : AreMembers w.ids)
     (shows : Shows choice made w run) (limits : Limits) (all : List Timed) → limits.drift < 58000 → (now : Timed) (n k ms : ℕ)
     → now.row ≡ Rx n k ms → MemberBefore limits all n w now → (heard : List Queued) → UsesIdsApart limits all made heard n → ComesInOrder n heard (frame_at w.frames k)
-    → ((x : SentTransfer) → In x made → may_be_long x.offer.what ≡ false → frame_count (length x.offer.payload) ≤ 1) → KeepsIn n heard (w.member n).status → IsSingle w.ids w → cause w (Rx n k ms) ≡ Some IsTorn
+    → ((x : SentTransfer) → In x made → may_be_long x.offer.what ≡ false → frame_count (length x.offer.payload) ≤ 1) → KeepsIn n heard (w.member n).status → IsSingle w.ids w → cause w (Rx n k ms) ≡ Some unlawful.Torn
     → (moment : ℕ) × LacksFrames made (arrival_at (frame_at w.frames k) moment)
 only_gaps laws choice made w run members shows limits all sane now n k ms row before heard apart order others follows single e =
-    let r : IsRefused w n k ms Torn = refused IsTorn Torn of_torn w n k ms e in
+    let r : IsRefused w n k ms Torn = refused unlawful.Torn Torn of_torn w n k ms e in
     let b = torn_at r.server (arrival_at (frame_at w.frames k) ms) r.judgement in
     let inside = stands w k r.there in
     let member = forged laws choice made w run members shows limits all sane now n k ms row before heard apart order follows r.member others r.server r.runs inside b.delivery b.gives b.is

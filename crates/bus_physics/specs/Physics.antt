@@ -201,7 +201,7 @@ AnswersInOrder n heard frame = (other : Queued) (number source : ℕ) → source
     → other.mark.re < frame.mark.re
 
 -- a call of these was answered: the first one, or one that the member made later to the same node, of the same service
-pub record IsAnswered (made : List SentTransfer) (heard : List Queued) (first : SentTransfer) : Type 0 where
+pub record IsAnsweredSince (made : List SentTransfer) (heard : List Queued) (first : SentTransfer) : Type 0 where
   pub later : SentTransfer
   pub was_made : In later made
   pub after : first.step ≤ later.step
@@ -216,7 +216,7 @@ abbrev pub WaitsForAnswers : Limits → List Timed → List SentTransfer → Lis
 WaitsForAnswers limits all made heard n = (x y : SentTransfer) → In x made → In y made → x.by ≡ n → y.by ≡ n
     → x.offer.what ≡ y.offer.what → x.offer.to ≡ y.offer.to → x.offer.id ≡ y.offer.id → x.step < y.step
     → (x.offer.what ≡ AppQ) ⊎ (x.offer.what ≡ VoteQ)
-    → (time_of all x.step + 2 * limits.hold < time_of all y.step) ⊎ IsAnswered made heard x
+    → (time_of all x.step + 2 * limits.hold < time_of all y.step) ⊎ IsAnsweredSince made heard x
 
 -- ---- a member that is opened
 

@@ -5,7 +5,7 @@ use Rattle.replay_text.specs.declared.row.Row.TheVariants.{ARx, Rx}
 use Rattle.cluster_spec.specs.declared.unlawful.Unlawful.{Unlawful}
 use Rattle.cluster_spec.specs.declared.unlawful.Unlawful.TheVariants.{Stale, Torn}
 use Rattle.cluster_spec.specs.Cluster.{Cluster, after_row, arrival_at, cluster, frame_at, world_of}
-use Rattle.cluster_spec.specs.Lawful.{Lawful, cause}
+use Rattle.cluster_spec.specs.Lawful.{AreLawful, cause}
 use Rattle.cluster_spec.specs.Refinement.{transfers_of_rows}
 use Rattle.bus_physics.specs.Physics.{AllComeInTurn, AllocatesApart, DeviceRowsArePhysical, ClockGoesOn, ClockIsNotFast, ComeInOrderToDevice, ComesInOrderToDevice, ComesInTurn, FramesComeInTime, device_heard_by, Limits, RestsBeforeOpening, Timed, UsesIdsApart, heard_by, rows_in}
 use Rattle.bus_physics.specs.Reuse.{LacksFrames}
@@ -64,7 +64,7 @@ pub record LosesFrames (ids : List ℕ) (all : List Timed) : Type 0 where
   pub now : Timed
   pub rest : List Timed
   pub split : all ≡ before ++ (now ∷ rest)
-  pub lawful : Lawful (cluster ids) (rows_in before)
+  pub lawful : AreLawful (cluster ids) (rows_in before)
   pub n : ℕ
   pub k : ℕ
   pub ms : ℕ

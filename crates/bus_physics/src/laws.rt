@@ -10,7 +10,7 @@ ghost use Rattle.alloc_spec.specs.Transfers.{SentTransfer};
 ghost use Rattle.replay_text.specs.declared.row.Row.TheVariants.{ARx, Rx};
 ghost use Rattle.cluster_spec.specs.declared.unlawful.Unlawful.TheVariants.{Stale, Torn};
 ghost use Rattle.cluster_spec.specs.Cluster.{AreMembers, arrival_at, cluster, frame_at, world_of};
-ghost use Rattle.cluster_spec.specs.Lawful.{Lawful, cause, no_such_frame};
+ghost use Rattle.cluster_spec.specs.Lawful.{AreLawful, cause, no_such_frame};
 ghost use Rattle.cluster_spec.specs.Refinement.{transfers_of_rows};
 ghost use Rattle.bus_physics.specs.Physics.{AllComeInTurn, ComesInTurn, ComesOnce};
 ghost use Rattle.bus_physics.specs.Physics.{AllocatesApart, AnswersInOrder, DeviceRowsArePhysical, ClockGoesOn, ComeInOrder};
@@ -36,13 +36,13 @@ use cmd_node_laws::laws::traces_do_no_harm;
 /// frames of two transfers that it made under one transfer ID, or of frames of one transfer that are not all of it, and
 /// an answer is stale only where its call was made under the transfer ID of the call that waits.
 pub fn what_is_refused()
-    ensures torn { (ids : List ℕ) (rows : List Row) (n k ms : ℕ) → AreMembers ids → Lawful (cluster ids) rows →
+    ensures torn { (ids : List ℕ) (rows : List Row) (n k ms : ℕ) → AreMembers ids → AreLawful (cluster ids) rows →
         cause (world_of ids rows) (Rx n k ms) ≡ Some Torn →
         IsTornAt (transfers_of_rows (cluster ids) rows []) (world_of ids rows) n k ms }
     ensures torn_at_a_device { (ids : List ℕ) (rows : List Row) (a k ms word : ℕ) → AreMembers ids →
-        Lawful (cluster ids) rows → cause (world_of ids rows) (ARx a k ms word) ≡ Some Torn →
+        AreLawful (cluster ids) rows → cause (world_of ids rows) (ARx a k ms word) ≡ Some Torn →
         IsTornAtDevice (transfers_of_rows (cluster ids) rows []) (world_of ids rows) a k ms }
-    ensures stale { (ids : List ℕ) (rows : List Row) (n k ms : ℕ) → AreMembers ids → Lawful (cluster ids) rows →
+    ensures stale { (ids : List ℕ) (rows : List Row) (n k ms : ℕ) → AreMembers ids → AreLawful (cluster ids) rows →
         cause (world_of ids rows) (Rx n k ms) ≡ Some Stale →
         IsStaleAt (transfers_of_rows (cluster ids) rows []) (world_of ids rows) n k ms }
 {
@@ -54,7 +54,7 @@ pub fn what_is_refused()
 
 /// An Allocation that a member made has three frames at the most: a node ID, and a unique ID or the part of one.
 pub fn an_allocation_has_at_most_three_frames()
-    ensures { (ids : List ℕ) (rows : List Row) (x : SentTransfer) → AreMembers ids → Lawful (cluster ids) rows →
+    ensures { (ids : List ℕ) (rows : List Row) (x : SentTransfer) → AreMembers ids → AreLawful (cluster ids) rows →
         In x (transfers_of_rows (cluster ids) rows []) → x.offer.what ≡ Alloc →
         frame_count (length x.offer.payload) ≤ 3 }
 {
@@ -65,7 +65,7 @@ pub fn an_allocation_has_at_most_three_frames()
 
 /// What a member made that is no Allocation, no request of Raft and no response of GetNodeInfo has one frame.
 pub fn other_transfers_have_one_frame()
-    ensures { (ids : List ℕ) (rows : List Row) (x : SentTransfer) → AreMembers ids → Lawful (cluster ids) rows →
+    ensures { (ids : List ℕ) (rows : List Row) (x : SentTransfer) → AreMembers ids → AreLawful (cluster ids) rows →
         In x (transfers_of_rows (cluster ids) rows []) → may_be_long x.offer.what ≡ false →
         frame_count (length x.offer.payload) ≤ 1 }
 {
@@ -80,7 +80,7 @@ pub fn other_transfers_have_one_frame()
 /// order, and the allocatee heard another Allocation between the two.
 pub fn a_device_puts_nothing_together_of_two()
     ensures { (limits : Limits) (ids : List ℕ) (before : List Timed) (now : Timed) (a k ms word : ℕ) →
-        AreMembers ids → limits.drift < 58000 → now.row ≡ ARx a k ms word → Lawful (cluster ids) (rows_in before) →
+        AreMembers ids → limits.drift < 58000 → now.row ≡ ARx a k ms word → AreLawful (cluster ids) (rows_in before) →
         DeviceRowsArePhysical limits (before ++ now ∷ []) a [] (cluster ids) (before ++ now ∷ []) →
         AllocatesApart limits (before ++ now ∷ []) (transfers_of_rows (cluster ids) (rows_in before) [])
         (device_heard_by a (cluster ids) (rows_in before)) (ComeInOrderToDevice a [] (cluster ids) (rows_in before) ×
@@ -103,7 +103,7 @@ pub fn a_device_puts_nothing_together_of_two()
 /// and stands for election only after such a wait: so calls over an opening are as far apart as the rest and these.
 pub fn calls_come_round_late()
     ensures { (limits : Limits) (ids : List ℕ) (before : List Timed) (now : Timed) (n : ℕ) → AreMembers ids →
-        HoldsAreShort limits → Lawful (cluster ids) (rows_in before) →
+        HoldsAreShort limits → AreLawful (cluster ids) (rows_in before) →
         ClockIsNotFast limits n [] (cluster ids) before →
         RestsBeforeOpening limits (before ++ now ∷ []) (transfers_of_rows (cluster ids) (rows_in before) []) n →
         WaitsForAnswers limits (before ++ now ∷ []) (transfers_of_rows (cluster ids) (rows_in before) [])
@@ -119,7 +119,7 @@ pub fn calls_come_round_late()
 /// The answers of another node come to a member in the order of the calls, each once: where the frames of one kind,
 /// number and source come to each member in the order in which they were made, and none comes twice.
 pub fn answers_come_in_order()
-    ensures { (ids : List ℕ) (rows : List Row) (n k : ℕ) → AreMembers ids → Lawful (cluster ids) rows →
+    ensures { (ids : List ℕ) (rows : List Row) (n k : ℕ) → AreMembers ids → AreLawful (cluster ids) rows →
         no_such_frame (world_of ids rows) k ≡ None → AllComeInTurn ids (cluster ids) rows →
         ComesInTurn n (heard_by n (cluster ids) rows) (frame_at (world_of ids rows).frames k) →
         AnswersInOrder n (heard_by n (cluster ids) rows) (frame_at (world_of ids rows).frames k) }
@@ -138,7 +138,7 @@ pub fn answers_come_in_order()
 pub fn no_response_outlives_its_transfer_id()
     ensures { (limits : Limits) (ids : List ℕ) (before : List Timed) (now : Timed) (n k ms : ℕ) →
         AreMembers ids → HoldsAreShort limits → now.row ≡ Rx n k ms →
-        Lawful (cluster ids) (rows_in before) →
+        AreLawful (cluster ids) (rows_in before) →
         FramesComeInTime limits (before ++ now ∷ []) (cluster ids) (before ++ now ∷ []) →
         ClockGoesOn limits n [] (cluster ids) (before ++ now ∷ []) → ClockIsNotFast limits n [] (cluster ids) before →
         AllComeInTurn ids (cluster ids) (rows_in before) →
@@ -163,7 +163,7 @@ pub fn no_response_outlives_its_transfer_id()
 /// all the same.
 pub fn a_member_puts_nothing_together_of_two()
     ensures { (limits : Limits) (ids : List ℕ) (before : List Timed) (now : Timed) (n k ms : ℕ) →
-        AreMembers ids → limits.drift < 58000 → now.row ≡ Rx n k ms → Lawful (cluster ids) (rows_in before) →
+        AreMembers ids → limits.drift < 58000 → now.row ≡ Rx n k ms → AreLawful (cluster ids) (rows_in before) →
         FramesComeInTime limits (before ++ now ∷ []) (cluster ids) (before ++ now ∷ []) →
         ClockGoesOn limits n [] (cluster ids) (before ++ now ∷ []) →
         ComeInOrder n [] (cluster ids) (rows_in before) →
@@ -184,7 +184,7 @@ pub fn a_member_puts_nothing_together_of_two()
 
 /// The premises can be met: in this cluster a member hears a frame of another one, and so does an allocatee.
 pub fn premises_can_be_met()
-    ensures lawful { Lawful (cluster two) (rows_in first_rows) }
+    ensures lawful { AreLawful (cluster two) (rows_in first_rows) }
     ensures clock { ClockGoesOn some_limits 2 [] (cluster two) (first_rows ++ at_member ∷ []) }
     ensures comes { FramesComeInTime some_limits (first_rows ++ at_member ∷ []) (cluster two)
         (first_rows ++ at_member ∷ []) }
@@ -213,7 +213,7 @@ pub fn premises_can_be_met()
 pub fn schedules_on_a_bus_are_lawful()
     ensures { (limits : Limits) (ids : List ℕ) (all : List Timed) → AreMembers ids →
         HoldsAreShort limits → HappenOnBus limits ids [] all → LawfulButForBus (cluster ids) (rows_in all) →
-        Lawful (cluster ids) (rows_in all) ⊎ LosesFrames ids all }
+        AreLawful (cluster ids) (rows_in all) ⊎ LosesFrames ids all }
 {
     a_device_puts_nothing_together_of_two();
     a_member_puts_nothing_together_of_two();

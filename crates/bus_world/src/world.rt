@@ -10,7 +10,7 @@ ghost use Rattle.cluster_agreement.specs.Duty.{AreDutiful};
 ghost use Rattle.cluster_agreement.specs.Headline.{HasHeadline};
 ghost use Rattle.cluster_agreement.specs.Safe.{AreSafe};
 ghost use Rattle.cluster_spec.specs.Cluster.{AreMembers, Cluster, cluster, after_row, world_of};
-ghost use Rattle.cluster_spec.specs.Lawful.{Lawful, cause};
+ghost use Rattle.cluster_spec.specs.Lawful.{AreLawful, cause};
 ghost use Rattle.cluster_spec.specs.OwnLogs.{OffersItsOwn};
 ghost use Rattle.cluster_spec.specs.Receivers.{AllocateeReceives, MemberReceives};
 ghost use Rattle.cluster_spec.specs.Report.{entry_of, line_of_row as told_by, view_at};
@@ -130,16 +130,16 @@ impl<F: Fn(Kind, u16) -> Option<u64> + Copy, G: Fn(Kind, u16) -> Option<u64> + C
         ensures kept { OnOk result ((c : Cluster) → StandsFor self.old c →
             OffersItsOwn c row.now) }
         ensures headline { OnOk result ((ids : List ℕ) (rows : List Row) →
-            Lawful (cluster ids) rows → StandsFor self.old (world_of ids rows) →
+            AreLawful (cluster ids) rows → StandsFor self.old (world_of ids rows) →
             HasHeadline ids (rows ++ row.now ∷ [])) }
         ensures safe { OnOk result ((ids : List ℕ) (rows : List Row) →
-            Lawful (cluster ids) rows → StandsFor self.old (world_of ids rows) →
+            AreLawful (cluster ids) rows → StandsFor self.old (world_of ids rows) →
             AreSafe ids (rows ++ row.now ∷ [])) }
         ensures duty { OnOk result ((ids : List ℕ) (rows : List Row) →
-            Lawful (cluster ids) rows → StandsFor self.old (world_of ids rows) →
+            AreLawful (cluster ids) rows → StandsFor self.old (world_of ids rows) →
             AreDutiful ids (rows ++ row.now ∷ [])) }
         ensures allocatees { OnOk result ((ids : List ℕ) (rows : List Row) →
-            Lawful (cluster ids) rows → StandsFor self.old (world_of ids rows) →
+            AreLawful (cluster ids) rows → StandsFor self.old (world_of ids rows) →
             HasAllocatees ids (rows ++ row.now ∷ [])) }
         ensures unchanged { IsErr result → self.new ≡ self.old }
         ensures taken { OnOk result (rows_taken self.new ≡ rows_taken self.old + 1) }

@@ -6,6 +6,7 @@ ghost use Rattle.can_link.specs.Inboxes.{Comes};
 use arrayvec::ArrayVec;
 use can_frame::sizes::MOST_MEMBERS;
 use outside::RawFrame;
+use std::array;
 
 /// How many frames wait for a member at most. Further ones are lost to it.
 const MOST_WAITING: usize = 64;
@@ -24,13 +25,7 @@ impl Inboxes {
     /// Nothing waits.
     pub fn new() -> Inboxes {
         Inboxes {
-            inboxes: [
-                ArrayVec::new(),
-                ArrayVec::new(),
-                ArrayVec::new(),
-                ArrayVec::new(),
-                ArrayVec::new(),
-            ],
+            inboxes: array::from_fn(|_| ArrayVec::new()),
         }
     }
 

@@ -21,7 +21,8 @@ use Rattle.alloc_spec.specs.Judging.{IsHarmless, arrival_judgement}
 use Rattle.alloc_spec.specs.AllocatorState.{AllocatorState}
 use Rattle.alloc_spec.specs.Transfers.{SentTransfer}
 use Rattle.transfer_rx.specs.Reassembly.{Arrival}
-use Rattle.cluster_spec.specs.declared.unlawful.Unlawful.TheVariants.{NoFrame, NoNode, Stale as IsStale, Stopped}
+use Rattle.cluster_spec.specs.declared.unlawful.Unlawful.TheVariants.{NoFrame, NoNode, Stopped}
+use Rattle.cluster_spec.specs.declared.unlawful.Unlawful.TheVariants as unlawful
 use Rattle.cluster_spec.specs.Cluster.{AreMembers, Cluster, arrival_at, frame_at, after_row, is_member, no_frame, receipt_of, with_step, tick_of}
 use Rattle.cluster_spec.specs.Lawful.{DoesNoHarm, IsHarmlessAt, already_running, cause, arrival_refusal, is_void_at, no_node, no_such_frame, not_running, cause_of_judgement, or_else}
 use Rattle.cluster_spec.specs.Members.{Failure, MemberStatus, Member, is_running, puts_of, member_after_step}
@@ -103,7 +104,7 @@ is_fine Fine e = refl
 is_fine Torn e = absurd (cc (e))
 is_fine Stale e = absurd (cc (e))
 
-is_stale : (judgement : Judged) → cause_of_judgement judgement ≡ Some IsStale → judgement ≡ Stale
+is_stale : (judgement : Judged) → cause_of_judgement judgement ≡ Some unlawful.Stale → judgement ≡ Stale
 is_stale Fine e = absurd (cc (e))
 is_stale Torn e = absurd (cc (e))
 is_stale Stale e = refl

@@ -5,7 +5,7 @@ use Rattle.std.proofs.lemmas.List.{append_assoc, append-nil}
 use Rattle.raft_model.specs.Runs.{Event}
 use Rattle.replay_text.specs.declared.row.Row.{Row}
 use Rattle.cluster_spec.specs.Cluster.{Cluster, after_rows, after_row}
-use Rattle.cluster_spec.specs.Lawful.{DoNoHarm, DoesNoHarm, Lawful, cause}
+use Rattle.cluster_spec.specs.Lawful.{DoNoHarm, DoesNoHarm, AreLawful, cause}
 use Rattle.alloc_spec.specs.Transfers.{SentTransfer}
 use Rattle.cluster_spec.specs.Choices.{AgreesWithDisk, RowAgreesWithDisk}
 use Rattle.cluster_spec.specs.Refinement.{events, transfers_of_rows, transfers_of_row, row_events}
@@ -14,7 +14,7 @@ pub grown : (w : Cluster) (rows : List Row) (row : Row) → after_rows w (rows +
 grown w [] row = refl
 grown w (first ∷ rows) row = grown (after_row w first) rows row
 
-pub lawful : (w : Cluster) (rows : List Row) (row : Row) → Lawful w rows → cause (after_rows w rows) row ≡ None → Lawful w (rows ++ row ∷ [])
+pub lawful : (w : Cluster) (rows : List Row) (row : Row) → AreLawful w rows → cause (after_rows w rows) row ≡ None → AreLawful w (rows ++ row ∷ [])
 lawful w [] row each last = (last, tt)
 lawful w (first ∷ rows) row each last = (each.0, lawful (after_row w first) rows row each.1 last)
 

@@ -27,7 +27,8 @@ use Rattle.alloc_spec.specs.AllocatorState.{AllocatorState}
 use Rattle.alloc_spec.specs.Step.{after_pop}
 use Rattle.alloc_spec.specs.Transfers.{SentTransfer, ident_of, kind_of}
 use Rattle.cluster_spec.specs.declared.unlawful.Unlawful.{Unlawful}
-use Rattle.cluster_spec.specs.declared.unlawful.Unlawful.TheVariants.{Forged, NoNode, Running, Stale as IsStale, Stopped}
+use Rattle.cluster_spec.specs.declared.unlawful.Unlawful.TheVariants.{Forged, NoNode, Running, Stopped}
+use Rattle.cluster_spec.specs.declared.unlawful.Unlawful.TheVariants as unlawful
 use Rattle.cluster_spec.specs.Cluster.{Cluster, arrival_at, from_outside, in_list, is_member, after_row, with_member}
 use Rattle.cluster_spec.specs.Lawful.{because, cause, is_forged, no_node, not_running, nothing_to_send, or_else}
 use Rattle.cluster_spec.specs.Members.{MemberStatus, Member, after_sending, with_stop_armed, with_failure_armed, is_running, next_frame, stopped_with, stored_after}
@@ -80,10 +81,10 @@ is_down (Failed failure) e = absurd (cc (not_because Running true e))
 
 -- it has no cause against it, or is refused as stale and brings what counts for nothing
 abbrev pub Passes : Option Unlawful → (void : Bool) → Type 0
-Passes why void = (why ≡ None) ⊎ ((why ≡ Some IsStale) × (void ≡ true))
+Passes why void = (why ≡ None) ⊎ ((why ≡ Some unlawful.Stale) × (void ≡ true))
 
 -- a row that is refused as stale is not refused for another cause before
-pub past_other : (why : Unlawful) (test void : Bool) (rest : Option Unlawful) → why ≢ IsStale → Passes (or_else (because why test) rest) void
+pub past_other : (why : Unlawful) (test void : Bool) (rest : Option Unlawful) → why ≢ unlawful.Stale → Passes (or_else (because why test) rest) void
     → (because why test ≡ None) × Passes rest void
 past_other why true void rest other (inl e) = absurd (cc (e))
 past_other why true void rest other (inr e) = absurd (other (cc (e.0)))

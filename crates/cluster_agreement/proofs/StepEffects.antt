@@ -38,7 +38,7 @@ use Rattle.cluster_spec.specs.Cluster.{is_member}
 use Rattle.cluster_spec.specs.Lawful.{is_forged, is_forged_by}
 use Rattle.cluster_spec.specs.Refinement.{transfers_of_offers}
 use Rattle.cluster_agreement.specs.Frames.{AreHeard, AreTransfers, CameFrom, IsOnBus, IsPiece, IsTransferOf, WasMade}
-use Rattle.cluster_agreement.specs.Said.{AreAnswered, AreCalled, AreSaid, IsAnswered, IsCalled, carrier}
+use Rattle.cluster_agreement.specs.Said.{AreAnswered, AreCalled, AreSaid, AnswersMadeRequest, IsCalled, carrier}
 use Rattle.cluster_agreement.specs.Events.{MayHappen}
 use Rattle.cluster_agreement.specs.Shows.{HoldsOfMade, IsAtWork}
 use Rattle.cluster_agreement.specs.LawsBelow.{FrameLaws, CodecLaws}
@@ -146,7 +146,7 @@ module _ (laws : StepLaws) (frame_laws : FrameLaws) (codec : CodecLaws) (ids : L
       → ((d : Delivery) → d.ident.number ≡ number_of offer.what → AnswersAsked d t offer.what offer.says → (z : SentTransfer) → In z made → IsTransferOf d z
       → d.ident.dest ≡ t.me → kind_of z.offer.what ≡ RequestKind
       → (z.offer.what ≡ service) × (z.offer.says ≡ Some (Requests answer.request)))
-      → IsAnswered more (made_by number t.me offer) answer service
+      → AnswersMadeRequest more (made_by number t.me offer) answer service
   answered_new offer i service answer response source reads = record {
     asked = found.0;
     was_made = still found.0 found.1;
@@ -174,7 +174,7 @@ module _ (laws : StepLaws) (frame_laws : FrameLaws) (codec : CodecLaws) (ids : L
   of_list d e = works.among d.ident.source (listed_in (members_of t) d.ident.source e)
 
   votes_new : (offer : Offer) (answer : Answer) → In offer step_state.offers → offer.what ≡ Vote → offer.says ≡ Some (Answers answer)
-      → IsAnswered more (made_by number t.me offer) answer VoteQ
+      → AnswersMadeRequest more (made_by number t.me offer) answer VoteQ
   votes_new offer answer i what says = answered_new offer i VoteQ answer (ap kind_of what) (λ d a. of_list d (as_vote d a).listed)
       (λ d service a z there is own kind.
       let v = as_vote d a in
@@ -189,7 +189,7 @@ module _ (laws : StepLaws) (frame_laws : FrameLaws) (codec : CodecLaws) (ids : L
       as_vote d a = subst (λ (w : What). AnswersAsked d t w offer.says) what a
 
   appends_new : (offer : Offer) (answer : Answer) → In offer step_state.offers → offer.what ≡ App → offer.says ≡ Some (Answers answer)
-      → IsAnswered more (made_by number t.me offer) answer AppQ
+      → AnswersMadeRequest more (made_by number t.me offer) answer AppQ
   appends_new offer answer i what says = answered_new offer i AppQ answer (ap kind_of what) (λ d a. of_list d (as_append d a).listed)
       (λ d service a z there is own kind.
       let v = as_append d a in
@@ -202,7 +202,7 @@ module _ (laws : StepLaws) (frame_laws : FrameLaws) (codec : CodecLaws) (ids : L
       as_append : (d : Delivery) → AnswersAsked d t offer.what offer.says → AnswersAppend d t offer.says
       as_append d a = subst (λ (w : What). AnswersAsked d t w offer.says) what a
 
-  answer_more : (x : SentTransfer) (answer : Answer) (service : What) → IsAnswered made x answer service → IsAnswered more x answer service
+  answer_more : (x : SentTransfer) (answer : Answer) (service : What) → AnswersMadeRequest made x answer service → AnswersMadeRequest more x answer service
   answer_more x answer service is = record {
     asked = is.asked;
     was_made = still is.asked is.was_made;
@@ -220,9 +220,9 @@ module _ (laws : StepLaws) (frame_laws : FrameLaws) (codec : CodecLaws) (ids : L
 
   pub answered_after : AreAnswered more
   answered_after = record {
-    votes = λ x answer i what says. each_more (λ y. (a : Answer) → y.offer.what ≡ Vote → y.offer.says ≡ Some (Answers a) → IsAnswered more y a VoteQ)
+    votes = λ x answer i what says. each_more (λ y. (a : Answer) → y.offer.what ≡ Vote → y.offer.says ≡ Some (Answers a) → AnswersMadeRequest more y a VoteQ)
         (λ y j a w s. answer_more y a VoteQ (holds.answered.votes y a j w s)) (λ offer j fits a w s. votes_new offer a j w s) x i answer what says;
-    appends = λ x answer i what says. each_more (λ y. (a : Answer) → y.offer.what ≡ App → y.offer.says ≡ Some (Answers a) → IsAnswered more y a AppQ)
+    appends = λ x answer i what says. each_more (λ y. (a : Answer) → y.offer.what ≡ App → y.offer.says ≡ Some (Answers a) → AnswersMadeRequest more y a AppQ)
         (λ y j a w s. answer_more y a AppQ (holds.answered.appends y a j w s)) (λ offer j fits a w s. appends_new offer a j w s) x i answer what says;
   }
 

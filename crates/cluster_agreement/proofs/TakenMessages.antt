@@ -31,7 +31,7 @@ use Rattle.alloc_spec.specs.Judging.{counts_for_nothing, is_stale, is_void, is_v
 use Rattle.alloc_spec.specs.AllocatorState.{AllocatorState}
 use Rattle.alloc_spec.specs.Transfers.{SentTransfer, kind_of, message_by, number_of}
 use Rattle.cluster_agreement.specs.Frames.{AreTransfers, IsTransferOf}
-use Rattle.cluster_agreement.specs.Said.{AreAnswered, AreCalled, AreSaid, AreWritable, IsAnswered, IsCalled, IsProper, IsWritable, carrier}
+use Rattle.cluster_agreement.specs.Said.{AreAnswered, AreCalled, AreSaid, AreWritable, AnswersMadeRequest, IsCalled, IsProper, IsWritable, carrier}
 use Rattle.cluster_agreement.specs.LawsBelow.{CodecLaws}
 use Rattle.cluster_agreement.proofs.Lists.{both, never}
 use Rattle.cluster_agreement.proofs.WaitingCalls.{Waits}
@@ -291,7 +291,7 @@ module _ (codec : CodecLaws) (ids : List ℕ) (made : List SentTransfer) (are : 
     (may : MayAnswer t d now) (x : SentTransfer) (there : In x made) (is : IsTransferOf d x) (to_me : d.ident.dest ≡ t.me) (call : Request) where
   -- the call that waits is the one that the response answers, where that is no earlier one
   one_call : is_stale t d now ≡ false → (sent : Sending) → Waits t now d.ident.source call sent → d.ident.number ≡ service_of call → sent.id ≡ d.id
-      → (answer : Answer) (service : What) → carrier call.append ≡ service → IsAnswered made x answer service → answer.request ≡ call
+      → (answer : Answer) (service : What) → carrier call.append ≡ service → AnswersMadeRequest made x answer service → answer.request ≡ call
   one_call fresh sent waits number id answer service carries z =
       one_request answer.request call (sym z.says ∙ (ap (λ (w : SentTransfer). w.offer.says) same ∙ y.says))
     where

@@ -43,7 +43,7 @@ pub record AreSaid (made : List SentTransfer) (bag : List Message) : Type 0 wher
       In message bag
 
 -- the request that a made response answers was made under the response's transfer ID
-pub record IsAnswered (made : List SentTransfer) (x : SentTransfer) (answer : Answer) (service : What) : Type 0 where
+pub record AnswersMadeRequest (made : List SentTransfer) (x : SentTransfer) (answer : Answer) (service : What) : Type 0 where
   pub asked : SentTransfer
   pub was_made : In asked made
   pub step : asked.step ≡ x.offer.re
@@ -56,7 +56,7 @@ pub record IsAnswered (made : List SentTransfer) (x : SentTransfer) (answer : An
 -- each response of this kind that was made answers a request of that kind
 abbrev pub AnswersEach : List SentTransfer → What → What → Type 0
 AnswersEach made response service = (x : SentTransfer) (answer : Answer) → In x made → x.offer.what ≡ response
-    → x.offer.says ≡ Some (Answers answer) → IsAnswered made x answer service
+    → x.offer.says ≡ Some (Answers answer) → AnswersMadeRequest made x answer service
 
 pub record AreAnswered (made : List SentTransfer) : Type 0 where
   pub votes : AnswersEach made Vote VoteQ

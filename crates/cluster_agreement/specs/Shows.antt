@@ -86,7 +86,7 @@ ShowsMember choice made ids frames run m (Failed failure) disk = ShowsFailed cho
 
 -- ---- transfers and messages
 
--- what was made is told apart, says what it should, and answers what was asked
+-- transfers that were made are distinct; each says what it should, and answers what was asked
 pub record HoldsOfMade (made : List SentTransfer) (ids : List ℕ) (bag : List Message) : Type 0 where
   pub transfers : AreTransfers ids made
   pub said : AreSaid made bag

@@ -1,8 +1,7 @@
 //! Laws toward the headline, each the contract of a function that does nothing.
 
 ghost use Rattle.std.specs.Prelude.{◌≡◌, ◌++◌, ◌∷◌, [], ℕ, Bool, List, None};
-ghost use Rattle.raft_model.specs.Runs.{Event, World, initial_world, run};
-ghost use Rattle.raft_model.specs.Runs.{Lawful as RunsLawfully};
+ghost use Rattle.raft_model.specs.Runs.{Event, Lawful, World, initial_world, run};
 ghost use Rattle.replay_text.specs.declared.row.Row.{Row};
 ghost use Rattle.cluster_agreement.specs.Continues.{Continues};
 ghost use Rattle.cluster_agreement.specs.Duty.{AreDutiful};
@@ -12,7 +11,7 @@ ghost use Rattle.cluster_agreement.specs.Safe.{AreSafe};
 ghost use Rattle.cluster_agreement.specs.Shows.{Shows};
 ghost use Rattle.cluster_spec.specs.Cluster.{AreMembers, Cluster, cluster};
 ghost use Rattle.cluster_spec.specs.Cluster.{after_rows, after_row, world_of};
-ghost use Rattle.cluster_spec.specs.Lawful.{DoNoHarm, DoesNoHarm, Lawful, cause};
+ghost use Rattle.cluster_spec.specs.Lawful.{DoNoHarm, DoesNoHarm, AreLawful, cause};
 ghost use Rattle.cluster_spec.specs.Choices.{AgreesWithDisk, RowAgreesWithDisk};
 ghost use Rattle.cluster_spec.specs.Refinement.{events, transfers_of_rows, transfers_of_row, row_events};
 ghost use Rattle.alloc_spec.specs.Transfers.{SentTransfer};
@@ -28,8 +27,8 @@ pub fn rows_grow_by_one()
     ensures members { (w : Cluster) (rows : List Row) → (after_rows w rows).ids ≡ w.ids }
     ensures world { (w : Cluster) (rows : List Row) (row : Row) →
         after_rows w (rows ++ row ∷ []) ≡ after_row (after_rows w rows) row }
-    ensures lawful { (w : Cluster) (rows : List Row) (row : Row) → Lawful w rows →
-        cause (after_rows w rows) row ≡ None → Lawful w (rows ++ row ∷ []) }
+    ensures lawful { (w : Cluster) (rows : List Row) (row : Row) → AreLawful w rows →
+        cause (after_rows w rows) row ≡ None → AreLawful w (rows ++ row ∷ []) }
     ensures harmless { (w : Cluster) (rows : List Row) (row : Row) → DoNoHarm w rows →
         DoesNoHarm (after_rows w rows) row → DoNoHarm w (rows ++ row ∷ []) }
     ensures events { (choice : ℕ → Bool) (w : Cluster) (rows : List Row) (row : Row) →
@@ -61,8 +60,8 @@ pub fn offers_are_pairs()
 pub fn what_is_mirrored_has_the_headline()
     ensures { (choice : ℕ → Bool) (members : List ℕ) (first rest : List Event)
         (now later : Cluster) →
-        RunsLawfully (initial_world members) first →
-        RunsLawfully (run (initial_world members) first) rest → later.ids ≡ now.ids →
+        Lawful (initial_world members) first →
+        Lawful (run (initial_world members) first) rest → later.ids ≡ now.ids →
         Mirrors choice now (run (initial_world members) first) →
         Mirrors choice later (run (run (initial_world members) first) rest) →
         Headline choice now later }
@@ -73,7 +72,7 @@ pub fn what_is_mirrored_has_the_headline()
 
 /// Lawful rows do no harm.
 pub fn lawful_rows_do_no_harm()
-    ensures { (w : Cluster) (rows : List Row) → Lawful w rows → DoNoHarm w rows }
+    ensures { (w : Cluster) (rows : List Row) → AreLawful w rows → DoNoHarm w rows }
 {}
 
 /// What a list of rows that do no harm shows is a lawful run of the Raft model, from its beginning, whatever

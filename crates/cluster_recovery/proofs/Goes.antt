@@ -3,7 +3,7 @@ use Rattle.std.proofs.Common.{◌≡◌, ℕ, suc, ◌+◌, ◌≤◌, List, [],
 use Rattle.replay_text.specs.declared.row.Row.{Row}
 use Rattle.replay_text.specs.declared.row.Row.TheVariants.{AEnd, AOpen, ARx, ASend, ATick, Crash, Ext, Fault, Open, Rx, Send, Tick}
 use Rattle.cluster_spec.specs.Cluster.{Cluster, after_row, after_rows}
-use Rattle.cluster_spec.specs.Lawful.{Lawful, cause}
+use Rattle.cluster_spec.specs.Lawful.{AreLawful, cause}
 use Rattle.cluster_recovery.specs.Alone.{AreInTime, clock_after}
 
 -- at most so many rows, each lawful when its turn is there, and with the readings of one clock from this moment to that
@@ -12,14 +12,14 @@ pub record CanGo (w : Cluster) (now last most : ℕ) (Holds : Cluster → Type 0
   pub rows : List Row
   pub few : length rows ≤ most
   pub in_time : AreInTime now last rows
-  pub lawful : Lawful w rows
+  pub lawful : AreLawful w rows
   pub holds : Holds (after_rows w rows)
 
 pub after_both : (w : Cluster) (first rest : List Row) → after_rows w (first ++ rest) ≡ after_rows (after_rows w first) rest
 after_both w [] rest = refl
 after_both w (row ∷ first) rest = after_both (after_row w row) first rest
 
-lawful_both : (w : Cluster) (first rest : List Row) → Lawful w first → Lawful (after_rows w first) rest → Lawful w (first ++ rest)
+lawful_both : (w : Cluster) (first rest : List Row) → AreLawful w first → AreLawful (after_rows w first) rest → AreLawful w (first ++ rest)
 lawful_both w [] rest a b = b
 lawful_both w (row ∷ first) rest a b = (a.0, lawful_both (after_row w row) first rest a.1 b)
 

@@ -15,7 +15,7 @@ use Rattle.cluster_agreement.proofs.StopsAndOpenings.{firm_finds}
 use Rattle.cluster_spec.specs.Cluster.{Cluster, after_row, after_rows, cluster, world_of}
 use Rattle.cluster_spec.specs.Choices.{AgreesWithDisk}
 use Rattle.cluster_spec.specs.Refinement.{events, transfers_of_rows}
-use Rattle.cluster_spec.specs.Lawful.{DoNoHarm, Lawful}
+use Rattle.cluster_spec.specs.Lawful.{DoNoHarm, AreLawful}
 use Rattle.cluster_spec.specs.Members.{MemberStatus}
 use Rattle.cluster_spec.specs.Members.MemberStatus.{Up}
 use Rattle.cluster_recovery.specs.Alone.{CanGoOn, found}
@@ -27,15 +27,15 @@ pub record IsReached (ids : List ℕ) (w : Cluster) : Type 0 where
   pub harmless : DoNoHarm (cluster ids) rows
   pub is : w ≡ world_of ids rows
 
-harmless_both : (w : Cluster) (first rest : List Row) → DoNoHarm w first → Lawful (after_rows w first) rest → DoNoHarm w (first ++ rest)
+harmless_both : (w : Cluster) (first rest : List Row) → DoNoHarm w first → AreLawful (after_rows w first) rest → DoNoHarm w (first ++ rest)
 harmless_both w [] [] a b = tt
 harmless_both w [] (row ∷ rest) a b = (inl b.0, harmless_both (after_row w row) [] rest tt b.1)
 harmless_both w (row ∷ first) rest a b = (a.0, harmless_both (after_row w row) first rest a.1 b)
 
-pub reaches : (ids : List ℕ) (w : Cluster) (rows : List Row) → IsReached ids w → Lawful w rows → IsReached ids (after_rows w rows)
+pub reaches : (ids : List ℕ) (w : Cluster) (rows : List Row) → IsReached ids w → AreLawful w rows → IsReached ids (after_rows w rows)
 reaches ids w rows r lawful = record {
   rows = r.rows ++ rows;
-  harmless = harmless_both (cluster ids) r.rows rows r.harmless (subst (λ (v : Cluster). Lawful v rows) r.is lawful);
+  harmless = harmless_both (cluster ids) r.rows rows r.harmless (subst (λ (v : Cluster). AreLawful v rows) r.is lawful);
   is = ap (λ (v : Cluster). after_rows v rows) r.is ∙ sym (after_both (cluster ids) r.rows rows);
 }
 

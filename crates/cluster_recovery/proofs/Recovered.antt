@@ -29,7 +29,7 @@ use Rattle.cluster_recovery.proofs.Scenes.{it_is, own_is}
 use Rattle.cluster_recovery.proofs.Starting.{HasWholeUids, Waits}
 use Rattle.cluster_spec.specs.declared.unlawful.Unlawful.TheVariants.{NoNode, Running, Stopped}
 use Rattle.cluster_spec.specs.Cluster.{Cluster, after_row, after_rows, cluster, rules_of, world_of}
-use Rattle.cluster_spec.specs.Lawful.{DoNoHarm, Lawful, because, cause, or_else}
+use Rattle.cluster_spec.specs.Lawful.{DoNoHarm, AreLawful, because, cause, or_else}
 use Rattle.cluster_spec.specs.Members.{Member, after_crash, after_opening, is_running}
 use Rattle.cluster_spec.specs.Members.MemberStatus.{Down}
 use Rattle.disk_model.specs.Memory.{nothing_set}
@@ -137,7 +137,7 @@ module _ (n : ℕ) (laws : Laws (n ∷ [])) (rows : List Row) (harmless : DoNoHa
   its_end = ends n s.clocks.allocator s.start s.word s.store s.pace s.may.term sound.commit (last_below s.store.log s.store.term sound.rising) s.may.room whole
       s.last (no_own_traffic s.start) (world_opened n rows s) s.whole at_first s.quiet
 
-  pub starts_lawfully : Lawful before (opening ∷ rows_in s.whole)
+  pub starts_lawfully : AreLawful before (opening ∷ rows_in s.whole)
   starts_lawfully = (
     λ i. or_else (because NoNode (not (it_is n 1 before ids i))) (because Running (is_running (s.may.stopped i))),
     its_end.lawful,

@@ -29,7 +29,7 @@ use Rattle.cluster_recovery.proofs.Settled.{settled_by}
 use Rattle.cluster_recovery.proofs.StaysSettled.{IsSettled, at_first, ends as settled_ends, ready_at_end}
 use Rattle.cluster_recovery.proofs.Starting.{HasTicked, HasWholeUids, Leads, Waits, grown_whole, hears_nobody_still, leads_at_once, tells_then, waits_on}
 use Rattle.cluster_spec.specs.Cluster.{Cluster, after_row, after_rows}
-use Rattle.cluster_spec.specs.Lawful.{Lawful, cause}
+use Rattle.cluster_spec.specs.Lawful.{AreLawful, cause}
 use Rattle.cluster_spec.specs.Members.{Member, MemberStatus, after_sending, member_after_step, next_frame}
 
 one_turn_more : (left turn : ℕ) → 0 < left → left * turn ≡ (left - 1) * turn + turn
@@ -331,7 +331,7 @@ module _ (n ahead start word : ℕ) (store : Store) (pace : Pace) where
       pub traffic : OwnTraffic
       pub phase : Phase traffic (after_rows w (rows_in rows))
       pub in_time : KeepsPace n ahead pace traffic (after_rows w (rows_in rows)) last
-      pub lawful : Lawful w (rows_in rows)
+      pub lawful : AreLawful w (rows_in rows)
 
     pub ends : (last : ℕ) (traffic : OwnTraffic) (w : Cluster) (rows : List Timed) → Phase traffic w → AreQuiet n ahead pace last traffic w rows → Ends last w rows
     ends last traffic w [] phase quiet = record { traffic = traffic; phase = phase; in_time = quiet; lawful = tt }

@@ -23,7 +23,7 @@ use Rattle.cluster_recovery.proofs.Reached.{IsShown}
 use Rattle.cluster_recovery.proofs.Scenes.{own_is}
 use Rattle.cluster_recovery.proofs.Settled.{serves_it, settled_by}
 use Rattle.cluster_spec.specs.Cluster.{Cluster, after_row, after_rows}
-use Rattle.cluster_spec.specs.Lawful.{Lawful}
+use Rattle.cluster_spec.specs.Lawful.{AreLawful}
 use Rattle.cluster_spec.specs.Members.{Member, MemberStatus, after_sending, member_after_step, next_frame}
 
 module _ (n ahead : ℕ) (log : List Entry) where
@@ -210,7 +210,7 @@ module _ (n ahead : ℕ) (log : List Entry) where
     pub traffic : OwnTraffic
     pub settled : IsSettled traffic server (after_rows w (rows_in whole))
     pub in_time : KeepsPace n ahead pace traffic (after_rows w (rows_in whole)) last
-    pub lawful : Lawful w (rows_in whole)
+    pub lawful : AreLawful w (rows_in whole)
     pub queues : pace.delay ≤ 2000 → Queues from traffic.waits server
 
   pub ends : (from last : ℕ) (pace : Pace) (traffic : OwnTraffic) (w : Cluster) (whole : List Timed) (t : AllocatorState) → IsSettled traffic t w

@@ -16,7 +16,7 @@ use Rattle.cluster_agreement.specs.Allocatees.{Holds}
 use Rattle.cluster_progress.specs.ComingBack.{HasGrown}
 use Rattle.cluster_spec.specs.Allocatees.{is_place}
 use Rattle.cluster_spec.specs.Cluster.{Cluster, cluster, world_of}
-use Rattle.cluster_spec.specs.Lawful.{DoNoHarm, Lawful}
+use Rattle.cluster_spec.specs.Lawful.{DoNoHarm, AreLawful}
 use Rattle.cluster_spec.specs.Members.MemberStatus.{Up}
 
 -- what a clock that read this reads in a row, where the row reads one
@@ -40,7 +40,7 @@ pub record CanGoOn (ids : List ℕ) (rows : List Row) (most now long : ℕ) (Hol
   pub more : List Row
   pub few : length more ≤ most
   pub in_time : AreInTime now (now + long) more
-  pub lawful : Lawful (world_of ids rows) more
+  pub lawful : AreLawful (world_of ids rows) more
   pub harmless : DoNoHarm (cluster ids) (rows ++ more)
   pub holds : Holds (world_of ids (rows ++ more))
 

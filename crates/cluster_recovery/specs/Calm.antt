@@ -25,7 +25,7 @@ use Rattle.cluster_progress.specs.ComingBack.{HasGrown}
 use Rattle.cluster_recovery.specs.Alone.{CanGoOn, IsLeft, found}
 use Rattle.cluster_spec.specs.Allocatees.{is_place, next_from}
 use Rattle.cluster_spec.specs.Cluster.{Cluster, after_row, after_rows, world_of}
-use Rattle.cluster_spec.specs.Lawful.{Lawful}
+use Rattle.cluster_spec.specs.Lawful.{AreLawful}
 use Rattle.cluster_spec.specs.Members.{MemberStatus, next_frame}
 use Rattle.cluster_spec.specs.Members.MemberStatus.{Down, Failed, Up}
 
@@ -244,7 +244,7 @@ pub record HappensBy (start last : ℕ) (w : Cluster) (whole : List Timed) (Happ
   pub rest : List Timed
   pub split : whole ≡ front ++ rest
   pub soon : end_of start front ≤ last
-  pub lawful : Lawful w (rows_in front)
+  pub lawful : AreLawful w (rows_in front)
   pub happens : Happens (end_of start front) (after_rows w (rows_in front))
 
 -- A device comes to this world, at the moment `start`. In each calm continuation, at a pace of which a period and four

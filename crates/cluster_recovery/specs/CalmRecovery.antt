@@ -16,7 +16,7 @@ use Rattle.cluster_recovery.specs.Alone.{MayBeServed}
 use Rattle.cluster_progress.specs.ComingBack.{HasGrown}
 use Rattle.cluster_recovery.specs.Calm.{Clocks, HappensBy, HappensToDevice, HasComeToRest, HasServed, HasSettled, IsReady, NothingWaits, Pace, Timed, queue_of, rows_in, waits_after}
 use Rattle.cluster_spec.specs.Cluster.{Cluster, after_row, after_rows, world_of}
-use Rattle.cluster_spec.specs.Lawful.{Lawful, cause}
+use Rattle.cluster_spec.specs.Lawful.{AreLawful, cause}
 use Rattle.cluster_spec.specs.Members.{is_running, next_frame}
 use Rattle.cluster_spec.specs.Members.MemberStatus.{Down}
 
@@ -138,7 +138,7 @@ HasSettledWith n before now w = (log : List Entry) × HasGrown before log × Has
 -- the rows are lawful
 abbrev pub StartsLawfully : ℕ → List Row → Type 0
 StartsLawfully n rows = (s : QuietStart n rows) →
-    Lawful (world_of (n ∷ []) rows) (Open n s.told (s.start + s.clocks.allocator) s.word ∷ rows_in s.whole)
+    AreLawful (world_of (n ∷ []) rows) (Open n s.told (s.start + s.clocks.allocator) s.word ∷ rows_in s.whole)
 
 -- from that moment on the allocator has settled: so whenever nothing waits in its queue it is at rest
 abbrev pub SettlesInTime : ℕ → List Row → Type 0
@@ -165,7 +165,7 @@ abbrev pub StaysSettled : ℕ → List Row → Type 0
 StaysSettled n rows = (log : List Entry) (start last ahead : ℕ) (pace : Pace) (whole : List Timed) →
     let w = world_of (n ∷ []) rows in HasSettled n log (start + ahead) w →
     AreQuiet n ahead pace last (no_own_traffic start) w whole →
-    Lawful w (rows_in whole) × HasSettled n log (last + ahead) (after_rows w (rows_in whole))
+    AreLawful w (rows_in whole) × HasSettled n log (last + ahead) (after_rows w (rows_in whole))
 
 -- more than a delay later it is ready, and stays so, where a delay is 2,000 ms at most
 abbrev pub StaysReady : ℕ → List Row → Type 0

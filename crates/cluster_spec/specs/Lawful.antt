@@ -15,7 +15,8 @@ use Rattle.allocatee.specs.Judging as device
 use Rattle.alloc_spec.specs.Accepted.{is_of_members}
 use Rattle.alloc_spec.specs.Judging.{arrival_judgement, brings_void}
 use Rattle.cluster_spec.specs.declared.unlawful.Unlawful.{Unlawful}
-use Rattle.cluster_spec.specs.declared.unlawful.Unlawful.TheVariants.{NoNode, Stopped, Running, NoFrame, NothingQueued, Forged, Torn as IsTorn, Stale as IsStale, NoAllocatee, Absent, Present}
+use Rattle.cluster_spec.specs.declared.unlawful.Unlawful.TheVariants.{NoNode, Stopped, Running, NoFrame, NothingQueued, Forged, NoAllocatee, Absent, Present}
+use Rattle.cluster_spec.specs.declared.unlawful.Unlawful.TheVariants as unlawful
 use Rattle.cluster_spec.specs.Allocatees.{is_place, next_from}
 use Rattle.cluster_spec.specs.Cluster.{Cluster, arrival_at, frame_at, is_member, after_row}
 use Rattle.cluster_spec.specs.Members.{MemberStatus, is_running, next_frame}
@@ -30,8 +31,8 @@ number_of Running = 3
 number_of NoFrame = 4
 number_of NothingQueued = 5
 number_of Forged = 6
-number_of IsTorn = 7
-number_of IsStale = 8
+number_of unlawful.Torn = 7
+number_of unlawful.Stale = 8
 number_of NoAllocatee = 9
 number_of Absent = 10
 number_of Present = 11
@@ -80,8 +81,8 @@ is_forged ids (Some ident) = is_forged_by ids ident.kind ident
 
 abbrev pub cause_of_judgement : Judged → Option Unlawful
 cause_of_judgement Fine = None
-cause_of_judgement Torn = Some IsTorn
-cause_of_judgement Stale = Some IsStale
+cause_of_judgement Torn = Some unlawful.Torn
+cause_of_judgement Stale = Some unlawful.Stale
 
 abbrev pub arrival_refusal : MemberStatus → Arrival → Option Unlawful
 arrival_refusal Down arrival = None
@@ -128,9 +129,9 @@ cause w (ASend a) = or_else (no_allocatee a) (or_else (absent w a) (nothing_to_s
 cause w (AEnd a) = or_else (no_allocatee a) (absent w a)
 
 -- each row is lawful when its turn is there
-abbrev pub Lawful : Cluster → List Row → Type 0
-Lawful w [] = ⊤
-Lawful w (row ∷ rows) = (cause w row ≡ None) × Lawful (after_row w row) rows
+abbrev pub AreLawful : Cluster → List Row → Type 0
+AreLawful w [] = ⊤
+AreLawful w (row ∷ rows) = (cause w row ≡ None) × AreLawful (after_row w row) rows
 
 -- ---- A bus may bring a member the response to an earlier call. Such a row is refused as stale; where the response
 -- counts for nothing, it does no harm all the same.
@@ -143,7 +144,7 @@ is_void_at (Failed failure) arrival = false
 -- the frame is not refused, or brings such a response
 abbrev pub IsHarmlessAt : MemberStatus → Arrival → Type 0
 IsHarmlessAt status arrival = (arrival_refusal status arrival ≡ None)
-    ⊎ ((arrival_refusal status arrival ≡ Some IsStale) × (is_void_at status arrival ≡ true))
+    ⊎ ((arrival_refusal status arrival ≡ Some unlawful.Stale) × (is_void_at status arrival ≡ true))
 
 abbrev pub brings_void_to : Cluster → Row → Bool
 brings_void_to w (Rx n k ms) = is_void_at (w.member n).status (arrival_at (frame_at w.frames k) ms)
@@ -151,7 +152,7 @@ brings_void_to w row = false
 
 -- the row is lawful, or brings such a response
 abbrev pub DoesNoHarm : Cluster → Row → Type 0
-DoesNoHarm w row = (cause w row ≡ None) ⊎ ((cause w row ≡ Some IsStale) × (brings_void_to w row ≡ true))
+DoesNoHarm w row = (cause w row ≡ None) ⊎ ((cause w row ≡ Some unlawful.Stale) × (brings_void_to w row ≡ true))
 
 -- each row does no harm when its turn is there
 abbrev pub DoNoHarm : Cluster → List Row → Type 0

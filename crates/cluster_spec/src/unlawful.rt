@@ -1,5 +1,6 @@
 ghost use Rattle.std.specs.Prelude.{◌≡◌};
 
+use can_frame::sizes::MOST_MEMBERS;
 use thiserror::Error;
 
 /// Why a row is refused: the first of these that holds. The number that a report shows is the one written here.
@@ -53,7 +54,7 @@ impl Unlawful {
 /// Why no world was made.
 #[derive(Clone, Copy, Debug, Error, PartialEq, Eq)]
 pub enum WorldFault {
-    #[error("the members are not 1 to 5 different node IDs of 1 to 125")]
+    #[error("the members are not 1 to {most} different node IDs of 1 to 125", most = MOST_MEMBERS)]
     BadIds,
 
     #[error("there is not enough memory")]

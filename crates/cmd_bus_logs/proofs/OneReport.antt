@@ -131,43 +131,43 @@ abbrev pub SaysOne : Type 0
 SaysOne = (form : Form) (a b : Line) (text : List ℕ) → Says form a text → Says form b text → a ≡ b
 
 -- a log has one report, with one status
-pub one_report : SaysOne → (told : List Line → List ℕ) (end : ℕ → List ℕ) (form : Form) (limit : ℕ) (bytes report other : List ℕ) (status ending : Status) →
-    IsReport told end form limit bytes report status → IsReport told end form limit bytes other ending → (report ≡ other) × (status ≡ ending)
-one_report one told end form limit bytes report other status ending p q =
+pub one_report : SaysOne → (listing : List Line → List ℕ) (end : ℕ → List ℕ) (form : Form) (limit : ℕ) (bytes report other : List ℕ) (status ending : Status) →
+    IsReport listing end form limit bytes report status → IsReport listing end form limit bytes other ending → (report ≡ other) × (status ≡ ending)
+one_report one listing end form limit bytes report other status ending p q =
     let same = one_reading form limit (one form) p.lines q.lines bytes status ending p.log q.log in (
-      p.written ∙ ap (λ lines. told lines ++ last_line (end (length lines)) status) same.0
-          ∙ ap (λ s. told q.lines ++ last_line (end (length q.lines)) s) same.1 ∙ sym q.written,
+      p.written ∙ ap (λ lines. listing lines ++ last_line (end (length lines)) status) same.0
+          ∙ ap (λ s. listing q.lines ++ last_line (end (length q.lines)) s) same.1 ∙ sym q.written,
       same.1,
     )
 
 -- ---- what a sink has that failed is a front of the report
 
 -- it is so whether the sink failed at a line or at the end
-pub written_front : SaysOne → (told : List Line → List ℕ) (end : ℕ → List ℕ) (form : Form) (limit : ℕ) (bytes report : List ℕ) (status : Status)
-    (left sink sink_now : Option (List ℕ)) → TellsMore told → IsWrittenInPart told end form limit bytes left sink sink_now →
-    IsReport told end form limit bytes report status → WritesFront sink sink_now report
-written_front one told end form limit bytes report status left sink sink_now tells (AtTheEnd other ending is front no_further ahead) reported =
-    subst (WritesFront sink sink_now) (one_report one told end form limit bytes other report ending status is reported).0 front
-written_front one told end form limit bytes report status left sink sink_now tells (InLines lines rest reads few front no_further ahead) reported =
+pub written_front : SaysOne → (listing : List Line → List ℕ) (end : ℕ → List ℕ) (form : Form) (limit : ℕ) (bytes report : List ℕ) (status : Status)
+    (left sink sink_now : Option (List ℕ)) → TellsMore listing → IsWrittenInPart listing end form limit bytes left sink sink_now →
+    IsReport listing end form limit bytes report status → WritesFront sink sink_now report
+written_front one listing end form limit bytes report status left sink sink_now tells (AtTheEnd other ending is front no_further ahead) reported =
+    subst (WritesFront sink sink_now) (one_report one listing end form limit bytes other report ending status is reported).0 front
+written_front one listing end form limit bytes report status left sink sink_now tells (InLines lines rest reads few front no_further ahead) reported =
     let all = front_of_log form limit (one form) lines reported.lines bytes rest status reads few reported.log in
     let more = tells lines all.0 in
     let last = last_line (end (length reported.lines)) status in
-    let same : report ≡ told lines ++ (more.0 ++ last) =
-    reported.written ∙ ap (λ l. told l ++ last) all.1 ∙ ap (λ t. t ++ last) more.1 ∙ append_assoc (told lines) more.0 last in
-    subst (WritesFront sink sink_now) (sym same) (front-of_more sink sink_now (told lines) (more.0 ++ last) front)
+    let same : report ≡ listing lines ++ (more.0 ++ last) =
+    reported.written ∙ ap (λ l. listing l ++ last) all.1 ∙ ap (λ t. t ++ last) more.1 ∙ append_assoc (listing lines) more.0 last in
+    subst (WritesFront sink sink_now) (sym same) (front-of_more sink sink_now (listing lines) (more.0 ++ last) front)
 
 -- ---- a run comes to the report, unless something fails
 
-module _ (one : SaysOne) (told : List Line → List ℕ) (end : ℕ → List ℕ) (form : Form) (limit : ℕ) where
+module _ (one : SaysOne) (listing : List Line → List ℕ) (end : ℕ → List ℕ) (form : Form) (limit : ℕ) where
   come : (status : Status) (bytes report : List ℕ) (ending : Status) (left sink sink_now : Option (List ℕ)) →
-      Ends told end form limit bytes left sink sink_now status → IsReport told end form limit bytes report ending →
+      Ends listing end form limit bytes left sink sink_now status → IsReport listing end form limit bytes report ending →
       (status ≡ ReadFault → ⊥) → (status ≡ WriteFault → ⊥) → status ≡ ending
   come Done bytes report ending left sink sink_now ends is read write =
-      (one_report one told end form limit bytes ends.report report Done ending ends.is is).1
+      (one_report one listing end form limit bytes ends.report report Done ending ends.is is).1
   come (BadRow line) bytes report ending left sink sink_now ends is read write =
-      (one_report one told end form limit bytes ends.report report (BadRow line) ending ends.is is).1
+      (one_report one listing end form limit bytes ends.report report (BadRow line) ending ends.is is).1
   come (Limit line) bytes report ending left sink sink_now ends is read write =
-      (one_report one told end form limit bytes ends.report report (Limit line) ending ends.is is).1
+      (one_report one listing end form limit bytes ends.report report (Limit line) ending ends.is is).1
   come ReadFault bytes report ending left sink sink_now ends is read write = absurd (read refl)
   come WriteFault bytes report ending left sink sink_now ends is read write = absurd (write refl)
   come Usage bytes report ending left sink sink_now ends is read write = absurd ends
@@ -182,7 +182,7 @@ module _ (one : SaysOne) (told : List Line → List ℕ) (end : ℕ → List ℕ
 
   -- lines that all read, as many as may come, have a report that ends with `Done`
   all_read : (bytes rest : List ℕ) (lines : List Line) → ReadsLines form lines bytes rest → (LineBegins form rest → ⊥) → length lines ≤ limit →
-      IsReport told end form limit bytes (told lines ++ end (length lines)) Done
+      IsReport listing end form limit bytes (listing lines ++ end (length lines)) Done
   all_read bytes rest lines reads none few = record {
     lines = lines;
     log = record { rest = rest; reads = reads; within = few; ends = none };
@@ -190,15 +190,15 @@ module _ (one : SaysOne) (told : List Line → List ℕ) (end : ℕ → List ℕ
   }
 
   pub reports : (left_old left : Option (List ℕ)) (read_old read wrote_old wrote : ℕ) (sink sink_now : Option (List ℕ)) (status : Status) →
-      IsOfLog status → ((bytes : List ℕ) → left_old ≡ Some bytes → Ends told end form limit bytes left sink sink_now status) →
+      IsOfLog status → ((bytes : List ℕ) → left_old ≡ Some bytes → Ends listing end form limit bytes left sink sink_now status) →
       (status ≡ ReadFault → Rose read_old read) → (status ≡ WriteFault → Rose wrote_old wrote) →
-      Reports told end form limit left_old left read_old read wrote_old wrote sink sink_now status
+      Reports listing end form limit left_old left read_old read wrote_old wrote sink sink_now status
   reports left_old left read_old read wrote_old wrote sink sink_now status kinds ends rose_read rose_write = record {
     kinds = kinds;
     ends = ends;
     complete = λ bytes report ending is reported no_read no_write.
         come status bytes report ending left sink sink_now (ends bytes is) reported (λ e. no_read (rose_read e)) (λ e. no_write (rose_write e));
     finishes = λ bytes rest lines is reads none few no_read no_write.
-        come status bytes (told lines ++ end (length lines)) Done left sink sink_now (ends bytes is) (all_read bytes rest lines reads none few)
+        come status bytes (listing lines ++ end (length lines)) Done left sink sink_now (ends bytes is) (all_read bytes rest lines reads none few)
         (λ e. no_read (rose_read e)) (λ e. no_write (rose_write e));
   }

@@ -121,14 +121,14 @@ reads_more form (line ∷ lines) said bytes rest rest_now reads begins =
 one_more : (lines : List Line) (said : Line) (taken taken_now : ℕ) → length lines ≡ taken → taken_now ≡ taken + 1 → length (lines ++ said ∷ []) ≡ taken_now
 one_more lines said taken taken_now is counted = length-append lines (said ∷ []) ∙ ap (λ n. n + 1) is ∙ sym counted
 
-told_nothing : (sink : Option (List ℕ)) (told : List ℕ) → told ≡ [] → Appends sink (append_known sink []) told
-told_nothing None told nothing = tt
-told_nothing (Some x) told nothing = ap (λ v. x ++ v) (sym nothing)
+told_nothing : (sink : Option (List ℕ)) (listing : List ℕ) → listing ≡ [] → Appends sink (append_known sink []) listing
+told_nothing None listing nothing = tt
+told_nothing (Some x) listing nothing = ap (λ v. x ++ v) (sym nothing)
 
-module _ (told : List Line → List ℕ) (done : ℕ → List ℕ) (form : Form) (limit : ℕ) (bytes : List ℕ) (sink : Option (List ℕ)) where
+module _ (listing : List Line → List ℕ) (done : ℕ → List ℕ) (form : Form) (limit : ℕ) (bytes : List ℕ) (sink : Option (List ℕ)) where
   -- nothing was taken yet
-  pub so_far-first : (left : Option (List ℕ)) (waiting output : List ℕ) (taken : ℕ) → told [] ≡ [] → left ≡ Some bytes → waiting ≡ [] → output ≡ [] → taken ≡ 0 →
-      SoFar told form limit bytes sink [] taken waiting left sink output
+  pub so_far-first : (left : Option (List ℕ)) (waiting output : List ℕ) (taken : ℕ) → listing [] ≡ [] → left ≡ Some bytes → waiting ≡ [] → output ≡ [] → taken ≡ 0 →
+      SoFar listing form limit bytes sink [] taken waiting left sink output
   so_far-first left waiting output taken nothing known empty flushed_so first = record {
     ahead = bytes;
     left_is = known;
@@ -136,7 +136,7 @@ module _ (told : List Line → List ℕ) (done : ℕ → List ℕ) (form : Form)
     counted = sym first;
     within = omega (arith, first);
     few = let size = ap length empty in omega (arith, size);
-    written = subst (λ l. Appends sink (append_known sink l) (told [])) (sym flushed_so) (told_nothing sink (told []) nothing);
+    written = subst (λ l. Appends sink (append_known sink l) (listing [])) (sym flushed_so) (told_nothing sink (listing []) nothing);
     grew = grows-refl sink;
     reads_ahead = record {
       lines = [];
@@ -149,47 +149,47 @@ module _ (told : List Line → List ℕ) (done : ℕ → List ℕ) (form : Form)
   }
 
   -- what the sink has grows
-  still_ahead : (left sink_now sink_then : Option (List ℕ)) → ReadsAhead told form bytes left sink sink_now → Grows sink_now sink_then →
-      ReadsAhead told form bytes left sink sink_then
+  still_ahead : (left sink_now sink_then : Option (List ℕ)) → ReadsAhead listing form bytes left sink sink_now → Grows sink_now sink_then →
+      ReadsAhead listing form bytes left sink sink_then
   still_ahead left sink_now sink_then reads grew = record {
     lines = reads.lines;
     rest = reads.rest;
     reads = reads.reads;
     more = reads.more ++ grew.0;
-    written = subst (Appends sink sink_then) (append_assoc (told reads.lines) reads.more grew.0)
-        (Appends-trans sink sink_now sink_then (told reads.lines ++ reads.more) grew.0 reads.written grew.1);
+    written = subst (Appends sink sink_then) (append_assoc (listing reads.lines) reads.more grew.0)
+        (Appends-trans sink sink_now sink_then (listing reads.lines ++ reads.more) grew.0 reads.written grew.1);
     no_further = reads.no_further;
   }
 
   module _ (lines : List Line) (taken : ℕ) (waiting : List ℕ) (left sink_now : Option (List ℕ)) (output : List ℕ)
-      (so_far : SoFar told form limit bytes sink lines taken waiting left sink_now output) where
+      (so_far : SoFar listing form limit bytes sink lines taken waiting left sink_now output) where
     -- all that was told is written, once what waits is
-    all_written : (sink_then : Option (List ℕ)) → Appends sink_now sink_then output → Appends sink sink_then (told lines)
-    all_written sink_then wrote = flushed sink sink_now sink_then output (told lines) so_far.written wrote
+    all_written : (sink_then : Option (List ℕ)) → Appends sink_now sink_then output → Appends sink sink_then (listing lines)
+    all_written sink_then wrote = flushed sink sink_now sink_then output (listing lines) so_far.written wrote
 
     read_ahead : (left_now sink_then : Option (List ℕ)) → Grows sink_now sink_then →
-        (left_now ≡ left) ⊎ (Appends sink_now sink_then output × ReadsBehind waiting left left_now) → ReadsAhead told form bytes left_now sink sink_then
+        (left_now ≡ left) ⊎ (Appends sink_now sink_then output × ReadsBehind waiting left left_now) → ReadsAhead listing form bytes left_now sink sink_then
     read_ahead left_now sink_then grew (inl same) =
-        still_ahead left_now sink_now sink_then (subst (λ l. ReadsAhead told form bytes l sink sink_now) (sym same) so_far.reads_ahead) grew
+        still_ahead left_now sink_now sink_then (subst (λ l. ReadsAhead listing form bytes l sink sink_now) (sym same) so_far.reads_ahead) grew
     read_ahead left_now sink_then grew (inr read) = record {
       lines = lines;
       rest = waiting ++ so_far.ahead;
       reads = so_far.reads;
       more = [];
-      written = subst (Appends sink sink_then) (sym (append-nil (told lines))) (all_written sink_then read.0);
+      written = subst (Appends sink sink_then) (sym (append-nil (listing lines))) (all_written sink_then read.0);
       no_further = read.1 so_far.ahead so_far.left_is;
     }
 
     -- a line more, and what it tells
     module _ (taken_now : ℕ) (waits : List ℕ) (left_now sink_then : Option (List ℕ)) (output_then : List ℕ) (said : Line)
         (has : HasNext form limit taken taken_now waiting waits left left_now sink_now output sink_then output_then (next.Line said))
-        (piece : List ℕ) (tells : told (lines ++ said ∷ []) ≡ told lines ++ piece) where
-      line_written : Appends sink (append_known sink_then output_then) (told lines)
-      line_written = subst (Appends sink (append_known sink_then output_then)) (append-nil (told lines))
-          (Appends-trans sink (append_known sink_now output) (append_known sink_then output_then) (told lines) [] so_far.written has.written)
+        (piece : List ℕ) (tells : listing (lines ++ said ∷ []) ≡ listing lines ++ piece) where
+      line_written : Appends sink (append_known sink_then output_then) (listing lines)
+      line_written = subst (Appends sink (append_known sink_then output_then)) (append-nil (listing lines))
+          (Appends-trans sink (append_known sink_now output) (append_known sink_then output_then) (listing lines) [] so_far.written has.written)
 
       pub so_far-more : (sink_last : Option (List ℕ)) (output_last : List ℕ) → Appends (append_known sink_then output_then) (append_known sink_last output_last) piece →
-          Grows sink_then sink_last → SoFar told form limit bytes sink (lines ++ said ∷ []) taken_now waits left_now sink_last output_last
+          Grows sink_then sink_last → SoFar listing form limit bytes sink (lines ++ said ∷ []) taken_now waits left_now sink_last output_last
       so_far-more sink_last output_last wrote grew =
           let came = has.comes so_far.ahead so_far.left_is in record {
             ahead = came.0;
@@ -199,14 +199,14 @@ module _ (told : List Line → List ℕ) (done : ℕ → List ℕ) (form : Form)
             within = let counted = has.counted in omega (arith, counted.0, counted.1);
             few = has.few;
             written = subst (Appends sink (append_known sink_last output_last)) (sym tells)
-                (Appends-trans sink (append_known sink_then output_then) (append_known sink_last output_last) (told lines) piece line_written wrote);
+                (Appends-trans sink (append_known sink_then output_then) (append_known sink_last output_last) (listing lines) piece line_written wrote);
             grew = grows-trans sink sink_then sink_last (grows-trans sink sink_now sink_then so_far.grew has.grew) grew;
             reads_ahead = still_ahead left_now sink_then sink_last (read_ahead left_now sink_then has.grew has.reads) grew;
           }
 
       -- the sink fails while that is written
       pub so_far-broken : (sink_last : Option (List ℕ)) → WritesFront sink_then sink_last (output_then ++ piece) →
-          IsWrittenInPart told done form limit bytes left_now sink sink_last
+          IsWrittenInPart listing done form limit bytes left_now sink sink_last
       so_far-broken sink_last front =
           let came = has.comes so_far.ahead so_far.left_is in
           let counted = one_more lines said taken taken_now so_far.counted has.counted.1 in
@@ -214,14 +214,14 @@ module _ (told : List Line → List ℕ) (done : ℕ → List ℕ) (form : Form)
           (reads_more form lines said bytes (waiting ++ so_far.ahead) (waits ++ came.0) so_far.reads came.2)
           (omega (arith, counted, has.counted.0, has.counted.1))
           (subst (WritesFront sink sink_last) (sym tells)
-          (front-behind sink sink_then sink_last output_then (told lines) piece (grows-trans sink sink_now sink_then so_far.grew has.grew) line_written front))
+          (front-behind sink sink_then sink_last output_then (listing lines) piece (grows-trans sink sink_now sink_then so_far.grew has.grew) line_written front))
           (record { read = waits; unread = came.0; parts = refl; few = has.few; left_is = came.1 })
           (still_ahead left_now sink_then sink_last (read_ahead left_now sink_then has.grew has.reads) (grows-front sink_then sink_last (output_then ++ piece) front))
 
     -- no line more
     pub so_far-ends : (taken_now : ℕ) (waits : List ℕ) (left_now sink_then : Option (List ℕ)) (output_then : List ℕ) (how : End) →
         HasNext form limit taken taken_now waiting waits left left_now sink_now output sink_then output_then (next.End how) →
-        Walks told form limit bytes sink taken_now left_now sink_then output_then how
+        Walks listing form limit bytes sink taken_now left_now sink_then output_then how
     so_far-ends taken_now waits left_now sink_then output_then how has =
         let came = has.comes so_far.ahead so_far.left_is in record {
           lines = lines;
@@ -230,15 +230,15 @@ module _ (told : List Line → List ℕ) (done : ℕ → List ℕ) (form : Form)
           reads = so_far.reads;
           ends = subst (λ t. EndsSo form limit t (waiting ++ so_far.ahead) how) (sym has.counted) came.2.1;
           no_further = record { read = waits; unread = came.0; parts = sym came.2.0; few = has.few; left_is = came.1 };
-          written = subst (Appends sink (append_known sink_then output_then)) (append-nil (told lines))
-              (Appends-trans sink (append_known sink_now output) (append_known sink_then output_then) (told lines) [] so_far.written has.written);
+          written = subst (Appends sink (append_known sink_then output_then)) (append-nil (listing lines))
+              (Appends-trans sink (append_known sink_now output) (append_known sink_then output_then) (listing lines) [] so_far.written has.written);
           grew = grows-trans sink sink_now sink_then so_far.grew has.grew;
           reads_ahead = read_ahead left_now sink_then has.grew has.reads;
         }
 
     -- the source fails, all that waited having been written
     pub so_far-unread : (left_now sink_then : Option (List ℕ)) → FailsBehind form limit taken waiting left left_now → Appends sink_now sink_then output →
-        IsReadInPart told form limit bytes left_now sink sink_then
+        IsReadInPart listing form limit bytes left_now sink sink_then
     so_far-unread left_now sink_then fails wrote =
         let none = fails so_far.ahead so_far.left_is in
         let counted = so_far.counted in
@@ -257,22 +257,22 @@ module _ (told : List Line → List ℕ) (done : ℕ → List ℕ) (form : Form)
 
     -- the sink fails before the source is read
     pub so_far-unwritten : (left_now sink_then : Option (List ℕ)) → left_now ≡ left → WritesFront sink_now sink_then output →
-        IsWrittenInPart told done form limit bytes left_now sink sink_then
+        IsWrittenInPart listing done form limit bytes left_now sink sink_then
     so_far-unwritten left_now sink_then same front =
         let counted = so_far.counted in
         let within = so_far.within in
         InLines lines (waiting ++ so_far.ahead) so_far.reads (omega arith)
-        (subst (WritesFront sink sink_then) (append-nil (told lines))
-        (front-behind sink sink_now sink_then output (told lines) [] so_far.grew so_far.written (subst (WritesFront sink_now sink_then) (sym (append-nil output)) front)))
+        (subst (WritesFront sink sink_then) (append-nil (listing lines))
+        (front-behind sink sink_now sink_then output (listing lines) [] so_far.grew so_far.written (subst (WritesFront sink_now sink_then) (sym (append-nil output)) front)))
         (record { read = waiting; unread = so_far.ahead; parts = refl; few = so_far.few; left_is = same ∙ so_far.left_is })
-        (still_ahead left_now sink_now sink_then (subst (λ l. ReadsAhead told form bytes l sink sink_now) (sym same) so_far.reads_ahead)
+        (still_ahead left_now sink_now sink_then (subst (λ l. ReadsAhead listing form bytes l sink sink_now) (sym same) so_far.reads_ahead)
         (grows-front sink_now sink_then output front))
 
     -- what a fault of the next line leaves
     pub fails : {A : Type 0} (result : Result A Fault) (left_now sink_then : Option (List ℕ)) (fault : Fault) → result ≡ Err fault →
         (result ≡ Err Source → FailsBehind form limit taken waiting left left_now) → (result ≡ Err Source → Appends sink_now sink_then output) →
         (result ≡ Err Sink → left_now ≡ left) → (result ≡ Err Sink → WritesFront sink_now sink_then output) →
-        Fails fault told done form limit bytes left_now sink sink_then
+        Fails fault listing done form limit bytes left_now sink sink_then
     fails result left_now sink_then Source is read flushed_so same write = so_far-unread left_now sink_then (read is) (flushed_so is)
     fails result left_now sink_then Sink is read flushed_so same write = so_far-unwritten left_now sink_then (same is) (write is)
 
@@ -284,8 +284,8 @@ module _ (told : List Line → List ℕ) (done : ℕ → List ℕ) (form : Form)
   ends_as end.Full taken rest ends = (ends.0, ends.1, refl)
 
   module _ (taken : ℕ) (left sink_now : Option (List ℕ)) (output : List ℕ) (how : End) (within : taken ≤ limit)
-      (walks : Walks told form limit bytes sink taken left sink_now output how) where
-    report : IsReport told done form limit bytes (told walks.lines ++ last_line (done taken) (status_of how taken)) (status_of how taken)
+      (walks : Walks listing form limit bytes sink taken left sink_now output how) where
+    report : IsReport listing done form limit bytes (listing walks.lines ++ last_line (done taken) (status_of how taken)) (status_of how taken)
     report = record {
       lines = walks.lines;
       log = record {
@@ -294,24 +294,24 @@ module _ (told : List Line → List ℕ) (done : ℕ → List ℕ) (form : Form)
         within = let counted = walks.counted in omega arith;
         ends = subst (λ t. EndsAs form limit t walks.rest (status_of how taken)) (sym walks.counted) (ends_as how taken walks.rest walks.ends);
       };
-      written = ap (λ t. told walks.lines ++ last_line (done t) (status_of how taken)) (sym walks.counted);
+      written = ap (λ t. listing walks.lines ++ last_line (done t) (status_of how taken)) (sym walks.counted);
     }
 
     pub walks_told : (sink_then : Option (List ℕ)) → Appends (append_known sink_now output) sink_then (last_line (done taken) (status_of how taken)) →
-        IsTold told done form limit bytes left sink sink_then (status_of how taken)
+        IsTold listing done form limit bytes left sink sink_then (status_of how taken)
     unfolding report
     walks_told sink_then wrote = record {
-      report = told walks.lines ++ last_line (done taken) (status_of how taken);
+      report = listing walks.lines ++ last_line (done taken) (status_of how taken);
       is = report;
       no_further = walks.no_further;
-      written = Appends-trans sink (append_known sink_now output) sink_then (told walks.lines) (last_line (done taken) (status_of how taken)) walks.written wrote;
+      written = Appends-trans sink (append_known sink_now output) sink_then (listing walks.lines) (last_line (done taken) (status_of how taken)) walks.written wrote;
     }
 
     pub walks_broken : (sink_then : Option (List ℕ)) → WritesFront sink_now sink_then (output ++ last_line (done taken) (status_of how taken)) →
-        IsWrittenInPart told done form limit bytes left sink sink_then
+        IsWrittenInPart listing done form limit bytes left sink sink_then
     unfolding report
     walks_broken sink_then front =
-        AtTheEnd (told walks.lines ++ last_line (done taken) (status_of how taken)) (status_of how taken) report
-        (front-behind sink sink_now sink_then output (told walks.lines) (last_line (done taken) (status_of how taken)) walks.grew walks.written front)
+        AtTheEnd (listing walks.lines ++ last_line (done taken) (status_of how taken)) (status_of how taken) report
+        (front-behind sink sink_now sink_then output (listing walks.lines) (last_line (done taken) (status_of how taken)) walks.grew walks.written front)
         walks.no_further
         (still_ahead left sink_now sink_then walks.reads_ahead (grows-front sink_now sink_then (output ++ last_line (done taken) (status_of how taken)) front))

@@ -38,38 +38,38 @@ last_line done _ = []
 
 -- the report of a log of at most so many lines, and the status that it comes with: what its lines tell, and the last
 -- line
-pub record IsReport (told : List Line → List ℕ) (end : ℕ
+pub record IsReport (listing : List Line → List ℕ) (end : ℕ
     → List ℕ) (form : Form) (limit : ℕ) (bytes report : List ℕ)
     (status : Status) : Type 0 where
   pub lines : List Line
   pub log : ReadsLog form limit bytes lines status
-  pub written : report ≡ told lines ++ last_line (end (length lines)) status
+  pub written : report ≡ listing lines ++ last_line (end (length lines)) status
 
 -- what further lines tell stands behind what some lines tell
 abbrev pub TellsMore : (List Line → List ℕ) → Type 0
-TellsMore told = (lines more : List Line) → (rest : List ℕ) × (told (lines ++ more) ≡ told lines ++ rest)
+TellsMore listing = (lines more : List Line) → (rest : List ℕ) × (listing (lines ++ more) ≡ listing lines ++ rest)
 
 -- ---- what a run leaves
 
 -- the whole report was written, and the source was read no further
-pub record IsTold (told : List Line → List ℕ) (end : ℕ
+pub record IsTold (listing : List Line → List ℕ) (end : ℕ
     → List ℕ) (form : Form) (limit : ℕ) (bytes : List ℕ)
     (left sink_before sink_now : Option (List ℕ)) (status : Status) : Type 0 where
   pub report : List ℕ
-  pub is : IsReport told end form limit bytes report status
+  pub is : IsReport listing end form limit bytes report status
   pub no_further : ReadsNoFurther is.log.rest left
   pub written : Appends sink_before sink_now report
 
 -- the source failed: what exactly the lines tell whose ends were read is written. The read was needed: what waits is no
 -- whole line, and at most 120 bytes; where no other line may come, none begins in it
-pub record IsReadInPart (told : List Line → List ℕ) (form : Form) (limit : ℕ) (bytes : List ℕ)
+pub record IsReadInPart (listing : List Line → List ℕ) (form : Form) (limit : ℕ) (bytes : List ℕ)
     (left sink_before sink_now : Option (List ℕ)) : Type 0 where
   pub lines : List Line
   pub waiting : List ℕ
   pub ahead : List ℕ
   pub left_is : left ≡ Some ahead
   pub reads : ReadsLines form lines bytes (waiting ++ ahead)
-  pub written : Appends sink_before sink_now (told lines)
+  pub written : Appends sink_before sink_now (listing lines)
   pub unended : HasNoLineEnd (end_of form) waiting
   pub short : length waiting ≤ 120
   pub another : (LineBegins form waiting → ⊥) ⊎ (length lines < limit)
@@ -77,44 +77,44 @@ pub record IsReadInPart (told : List Line → List ℕ) (form : Form) (limit : �
 
 -- the sink has all that some lines tell, and of the bytes behind these lines no more were read than the run keeps at a
 -- time: it reads no more once a write has failed
-pub record ReadsAhead (told : List Line → List ℕ) (form : Form) (bytes : List ℕ)
+pub record ReadsAhead (listing : List Line → List ℕ) (form : Form) (bytes : List ℕ)
     (left sink_before sink_now : Option (List ℕ)) : Type 0 where
   pub lines : List Line
   pub rest : List ℕ
   pub reads : ReadsLines form lines bytes rest
   pub more : List ℕ
-  pub written : Appends sink_before sink_now (told lines ++ more)
+  pub written : Appends sink_before sink_now (listing lines ++ more)
   pub no_further : ReadsNoFurther rest left
 
 -- the sink failed: it has a front of what some lines tell that were taken, or of the whole report. The source was read
 -- no further than these lines, nor than those of which all is written
-pub data IsWrittenInPart (told : List Line → List ℕ) (end : ℕ
+pub data IsWrittenInPart (listing : List Line → List ℕ) (end : ℕ
     → List ℕ) (form : Form) (limit : ℕ) (bytes : List ℕ)
     (left sink_before sink_now : Option (List ℕ)) : Type 0 where
   InLines : (lines : List Line) (rest : List ℕ) → ReadsLines form lines bytes rest → length lines ≤ limit →
-      WritesFront sink_before sink_now (told lines) → ReadsNoFurther rest left →
-      ReadsAhead told form bytes left sink_before sink_now →
-      IsWrittenInPart told end form limit bytes left sink_before sink_now
-  AtTheEnd : (report : List ℕ) (status : Status) → (is : IsReport told end form limit bytes report status) →
+      WritesFront sink_before sink_now (listing lines) → ReadsNoFurther rest left →
+      ReadsAhead listing form bytes left sink_before sink_now →
+      IsWrittenInPart listing end form limit bytes left sink_before sink_now
+  AtTheEnd : (report : List ℕ) (status : Status) → (is : IsReport listing end form limit bytes report status) →
       WritesFront sink_before sink_now report → ReadsNoFurther is.log.rest left →
-      ReadsAhead told form bytes left sink_before sink_now →
-      IsWrittenInPart told end form limit bytes left sink_before sink_now
+      ReadsAhead listing form bytes left sink_before sink_now →
+      IsWrittenInPart listing end form limit bytes left sink_before sink_now
 
 -- how a run over a log ends
 abbrev pub Ends : (List Line → List ℕ) → (ℕ → List ℕ) → Form → ℕ → List ℕ → Option (List ℕ)
     → Option (List ℕ)
     → Option (List ℕ) → Status → Type 0
-Ends told end form limit bytes left sink_before sink_now Done =
-    IsTold told end form limit bytes left sink_before sink_now Done
-Ends told end form limit bytes left sink_before sink_now (BadRow line) =
-    IsTold told end form limit bytes left sink_before sink_now (BadRow line)
-Ends told end form limit bytes left sink_before sink_now (Limit line) =
-    IsTold told end form limit bytes left sink_before sink_now (Limit line)
-Ends told end form limit bytes left sink_before sink_now ReadFault =
-    IsReadInPart told form limit bytes left sink_before sink_now
-Ends told end form limit bytes left sink_before sink_now WriteFault =
-    IsWrittenInPart told end form limit bytes left sink_before sink_now
-Ends told end form limit bytes left sink_before sink_now _ = ⊥
+Ends listing end form limit bytes left sink_before sink_now Done =
+    IsTold listing end form limit bytes left sink_before sink_now Done
+Ends listing end form limit bytes left sink_before sink_now (BadRow line) =
+    IsTold listing end form limit bytes left sink_before sink_now (BadRow line)
+Ends listing end form limit bytes left sink_before sink_now (Limit line) =
+    IsTold listing end form limit bytes left sink_before sink_now (Limit line)
+Ends listing end form limit bytes left sink_before sink_now ReadFault =
+    IsReadInPart listing form limit bytes left sink_before sink_now
+Ends listing end form limit bytes left sink_before sink_now WriteFault =
+    IsWrittenInPart listing end form limit bytes left sink_before sink_now
+Ends listing end form limit bytes left sink_before sink_now _ = ⊥
 
 -- the status of a run over a log
 abbrev pub IsOfLog : Status → Type 0
@@ -127,14 +127,14 @@ IsOfLog _ = ⊥
 
 -- a run over the source, whose faults, and those of the sink, are counted before and now. A log has one report; unless
 -- something fails the run comes to it. So a log of lines that all read, as many as may come at most, is read to its end
-pub record Reports (told : List Line → List ℕ) (end : ℕ → List ℕ) (form : Form) (limit : ℕ)
+pub record Reports (listing : List Line → List ℕ) (end : ℕ → List ℕ) (form : Form) (limit : ℕ)
     (left_old left : Option (List ℕ)) (read_old read wrote_old wrote : ℕ) (sink_before sink_now : Option (List ℕ))
     (status : Status) : Type 0 where
   pub kinds : IsOfLog status
   pub ends : (bytes : List ℕ) → left_old ≡ Some bytes →
-      Ends told end form limit bytes left sink_before sink_now status
+      Ends listing end form limit bytes left sink_before sink_now status
   pub complete : (bytes report : List ℕ) (ending : Status) → left_old ≡ Some bytes →
-      IsReport told end form limit bytes report ending → (Rose read_old read → ⊥) → (Rose wrote_old wrote →
+      IsReport listing end form limit bytes report ending → (Rose read_old read → ⊥) → (Rose wrote_old wrote →
       ⊥) →
       status ≡ ending
   pub finishes : (bytes rest : List ℕ) (lines : List Line) → left_old ≡ Some bytes →

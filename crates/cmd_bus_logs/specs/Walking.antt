@@ -129,7 +129,7 @@ IsCausedBy source source_now sink sink_now Source = Rose source source_now × (s
 IsCausedBy source source_now sink sink_now Sink = Rose sink sink_now × (source_now ≡ source)
 
 -- so far: some lines were taken, and what they tell was written or waits to be
-pub record SoFar (told : List Line
+pub record SoFar (listing : List Line
     → List ℕ) (form : Form) (limit : ℕ) (bytes : List ℕ) (sink_before : Option (List ℕ))
     (lines : List Line) (taken : ℕ) (waiting : List ℕ) (left sink_now : Option (List ℕ)) (output : List ℕ)
     : Type 0 where
@@ -139,12 +139,12 @@ pub record SoFar (told : List Line
   pub counted : length lines ≡ taken
   pub within : taken ≤ limit
   pub few : length waiting ≤ 4096
-  pub written : Appends sink_before (append_known sink_now output) (told lines)
+  pub written : Appends sink_before (append_known sink_now output) (listing lines)
   pub grew : Grows sink_before sink_now
-  pub reads_ahead : ReadsAhead told form bytes left sink_before sink_now
+  pub reads_ahead : ReadsAhead listing form bytes left sink_before sink_now
 
 -- all lines were taken, and what they tell was written or waits to be; the source was read no further
-pub record Walks (told : List Line
+pub record Walks (listing : List Line
     → List ℕ) (form : Form) (limit : ℕ) (bytes : List ℕ) (sink_before : Option (List ℕ))
     (taken : ℕ) (left sink_now : Option (List ℕ)) (output : List ℕ) (end : End) : Type 0 where
   pub lines : List Line
@@ -153,15 +153,15 @@ pub record Walks (told : List Line
   pub reads : ReadsLines form lines bytes rest
   pub ends : EndsSo form limit taken rest end
   pub no_further : ReadsNoFurther rest left
-  pub written : Appends sink_before (append_known sink_now output) (told lines)
+  pub written : Appends sink_before (append_known sink_now output) (listing lines)
   pub grew : Grows sink_before sink_now
-  pub reads_ahead : ReadsAhead told form bytes left sink_before sink_now
+  pub reads_ahead : ReadsAhead listing form bytes left sink_before sink_now
 
 -- what a fault leaves
 abbrev pub Fails : Fault → (List Line → List ℕ) → (ℕ → List ℕ) → Form → ℕ → List ℕ
     → Option (List ℕ) → Option (List ℕ)
     → Option (List ℕ) → Type 0
-Fails Source told end form limit bytes left sink_before sink_now =
-    IsReadInPart told form limit bytes left sink_before sink_now
-Fails Sink told end form limit bytes left sink_before sink_now =
-    IsWrittenInPart told end form limit bytes left sink_before sink_now
+Fails Source listing end form limit bytes left sink_before sink_now =
+    IsReadInPart listing form limit bytes left sink_before sink_now
+Fails Sink listing end form limit bytes left sink_before sink_now =
+    IsWrittenInPart listing end form limit bytes left sink_before sink_now

@@ -13,10 +13,10 @@ use can_logs::laws::a_line_says_one_thing;
 
 /// A log has one report, with one status, whatever its lines tell.
 pub fn a_log_has_one_report()
-    ensures { (told : List Line → List ℕ) (end : ℕ → List ℕ) (form : Form) (limit : ℕ)
+    ensures { (listing : List Line → List ℕ) (end : ℕ → List ℕ) (form : Form) (limit : ℕ)
         (bytes report other : List ℕ) (status ending : Status) →
-        IsReport told end form limit bytes report status →
-        IsReport told end form limit bytes other ending →
+        IsReport listing end form limit bytes report status →
+        IsReport listing end form limit bytes other ending →
         (report ≡ other) × (status ≡ ending) }
 {
     a_line_says_one_thing();
@@ -24,10 +24,10 @@ pub fn a_log_has_one_report()
 
 /// What a sink has that failed is a front of the log's report.
 pub fn what_was_written_begins_the_report()
-    ensures { (told : List Line → List ℕ) (end : ℕ → List ℕ) (form : Form) (limit : ℕ)
+    ensures { (listing : List Line → List ℕ) (end : ℕ → List ℕ) (form : Form) (limit : ℕ)
         (bytes report : List ℕ) (status : Status) (left sink_before sink_now : Option (List ℕ)) →
-        TellsMore told → IsWrittenInPart told end form limit bytes left sink_before sink_now →
-        IsReport told end form limit bytes report status →
+        TellsMore listing → IsWrittenInPart listing end form limit bytes left sink_before sink_now →
+        IsReport listing end form limit bytes report status →
         WritesFront sink_before sink_now report }
 {
     a_line_says_one_thing();

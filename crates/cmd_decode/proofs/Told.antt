@@ -12,7 +12,7 @@ use Rattle.cmd_decode.specs.declared.answer.Answer.TheVariants.{Value, NoPart, N
 use Rattle.cmd_decode.specs.declared.ending.Ending.{Ending}
 use Rattle.cmd_decode.specs.Ends.{Decodes, Ends, IsOfDecode, IsReadInPart, IsTold, IsWrittenInPart}
 use Rattle.cmd_decode.specs.Report.{IsReport, Says, report_of, status_of}
-use Rattle.cmd_decode.specs.Taking.{EndsAt, ReadsText}
+use Rattle.cmd_decode.specs.Taking.{TextEndsAs, ReadsText}
 use Rattle.cmd_decode.proofs.OneReport.{ALineHasOneValue, one_report}
 
 pub some_of : {A : Type 0} (o : Option A) → IsSome o → (x : A) × (o ≡ Some x)
@@ -21,7 +21,7 @@ some_of (Some x) some = (x, refl)
 
 -- the answer to a text that was read
 abbrev pub AnswersAll : List ℕ → ℕ → List ℕ → Ending → Answer → Type 0
-AnswersAll name part payload end answer = (now : Text) (count : ℕ) (rest : List ℕ) → EndsAt end now count rest
+AnswersAll name part payload end answer = (now : Text) (count : ℕ) (rest : List ℕ) → TextEndsAs end now count rest
     → Says name part payload now count rest answer
 
 is_of_decode : (answer : Answer) → IsOfDecode (status_of answer)

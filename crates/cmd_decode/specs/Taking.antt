@@ -52,10 +52,10 @@ pub record HasTaken (bytes waiting : List ℕ) (left : Option (List ℕ)) (now :
   pub comes : Comes bytes (text_in now) now.count (waiting ++ ahead)
 
 -- what a text came to, behind so many lines that make this text
-abbrev pub EndsAt : Ending → Text → ℕ → List ℕ → Type 0
-EndsAt (ending.Whole texts) now count rest = (rest ≡ []) × (data_types texts ≡ types_in now)
-EndsAt (ending.Bad row) now count rest = IsBadLine now count rest × (row ≡ count + 1)
-EndsAt ending.Beyond now count rest = IsBeyond count rest
+abbrev pub TextEndsAs : Ending → Text → ℕ → List ℕ → Type 0
+TextEndsAs (ending.Whole texts) now count rest = (rest ≡ []) × (data_types texts ≡ types_in now)
+TextEndsAs (ending.Bad row) now count rest = IsBadLine now count rest × (row ≡ count + 1)
+TextEndsAs ending.Beyond now count rest = IsBeyond count rest
 
 -- the lines of a text were taken as far as they go
 pub record ReadsText (bytes : List ℕ) (left : Option (List ℕ)) (end : Ending) : Type 0 where
@@ -64,5 +64,5 @@ pub record ReadsText (bytes : List ℕ) (left : Option (List ℕ)) (end : Ending
   pub rest : List ℕ
   pub comes : Comes bytes now count rest
   pub within : count ≤ 1000
-  pub ends : EndsAt end now count rest
+  pub ends : TextEndsAs end now count rest
   pub no_further : ReadsNoFurther rest left

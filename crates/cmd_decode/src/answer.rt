@@ -28,12 +28,12 @@ pub(crate) enum Answer {
 
 impl Answer {
     ghost use Rattle.cmd_decode.specs.Report.{Says, status_of};
-    ghost use Rattle.cmd_decode.specs.Taking.{EndsAt};
+    ghost use Rattle.cmd_decode.specs.Taking.{TextEndsAs};
 
     /// What is answered where a text came to this.
     pub fn new(ending: Ending, name: &[u8], part: u8, payload: &[u8]) -> Answer
         requires { length payload.now ≤ longest_payload }
-        ensures { (now : Text) (count : ℕ) (rest : List ℕ) → EndsAt ending now count rest →
+        ensures { (now : Text) (count : ℕ) (rest : List ℕ) → TextEndsAs ending now count rest →
             Says name.now part payload.now now count rest result }
     {
         match ending {

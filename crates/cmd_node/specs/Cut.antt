@@ -54,8 +54,8 @@ module _ {D F : Type 0} {disk : Ghosts D} {L : Type 0} (coming : L → Option (L
     pub within : length runners < length ids
     pub id_is : slice_index ids (length runners) ≡ fault_id fault
     pub untouched : links ≡ links_old
-    pub readings_are : (told : List ℕ) → readings_old ≡ Some told →
-        readings ≡ Some (readings_after (suc (length runners)) told)
+    pub readings_are : (known : List ℕ) → readings_old ≡ Some known →
+        readings ≡ Some (readings_after (suc (length runners)) known)
     pub opened : AreOpened runners disks_old ids
     pub refused : let place = length runners in IsRefused disk (slice_index_or disks_old place None)
         (slice_index_or disks place None) (slice_index ids place) fault

@@ -19,8 +19,8 @@ use Rattle.cmd_node.specs.Turns.{AreStored, Together, all_turns, first_turns, tu
 use Rattle.cmd_node.specs.WholeRun.{HoldsState, TellsState}
 
 -- the status of a run that ended at this node
-abbrev pub EndsAt : ℕ → Status → Type 0
-EndsAt id status =
+abbrev pub RunEndsAtNode : ℕ → Status → Type 0
+RunEndsAtNode id status =
     (status ≡ LinkFault id) ⊎ ((status ≡ DiskFault id) ⊎ ((key : ℕ) × (status ≡ Damaged id key)))
 
 -- ---- at an opening
@@ -46,8 +46,8 @@ pub record IsCutAtOpening {L D : Type 0} (disk : Ghosts D) (ids : List ℕ) (lin
   pub within : place < length ids
   pub id_is : slice_index ids place ≡ id
   pub untouched : links ≡ links_old
-  pub readings_are : (told : List ℕ) → readings_old ≡ Some told
-      → readings ≡ Some (readings_after (suc place) told)
+  pub readings_are : (known : List ℕ) → readings_old ≡ Some known
+      → readings ≡ Some (readings_after (suc place) known)
   pub stored_is : (i : ℕ) (before after : D) (state : Stored) → i < place →
       slice_index_or disks_old i None ≡ Some before → slice_index_or disks i None ≡ Some after →
       TellsState disk before state → HoldsState disk after (after_puts (opening_puts state) state)

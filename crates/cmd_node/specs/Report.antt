@@ -4,7 +4,7 @@ use Rattle.cmd_base.specs.declared.status.Status.{Status}
 use Rattle.cmd_base.specs.declared.status.Status.TheVariants.{LinkFault, DiskFault, Damaged}
 use Rattle.cluster_spec.specs.Report.{end_line}
 
--- how many steps are told of, the last ones
+-- a run reports so many steps at most, the last ones
 abbrev pub steps_told : ℕ
 steps_told = 256
 

@@ -29,7 +29,7 @@ use Rattle.cmd_node_laws.specs.Alike.{Alike, AsRead, Likeness, Whole}
 use Rattle.cmd_node_laws.specs.Mirrored.{AreCalm, Carries, IsMirrored, raw_by}
 use Rattle.cmd_node_laws.specs.Processes.{GoesOn, HasStoredAt, IsWaiting, Point, StandAt, place_of, together_at}
 use Rattle.cmd_node_laws.specs.Processes as at_point
-use Rattle.cmd_node_laws.specs.Stands.{BeganAlike, IsCutAsTold, IsCutOpeningAsTold, IsFollowed, IsFound, IsFoundKilled, IsRunIn, LeavesAsTold, MayBeKilled, opening_kill_of, world_after}
+use Rattle.cmd_node_laws.specs.Stands.{BeganAlike, IsCutAsInWorld, IsCutOpeningAsInWorld, IsFollowed, IsFoundStopped, IsFoundKilled, IsRunIn, LeavesAsInWorld, MayBeKilled, opening_kill_of, world_after}
 use Rattle.cmd_node_laws.proofs.Final.{at_place, same_ids_of, some_found}
 use Rattle.cmd_node_laws.proofs.OpeningKilled.{opened_in_part, opening_killed}
 use Rattle.cmd_node_laws.proofs.Places.{after_both}
@@ -132,7 +132,7 @@ is_listed (id ∷ ids) n (inr rest) = either (id == n) (is_listed ids n rest)
 module _ (laws : FollowLaws) {L D : Type 0} (coming : L → Option (List Received)) (sent : L → Option (List RawFrame)) (disk : Ghosts D) where
   pub left_as_told : (ids mine : List ℕ) (before during : List Event) (rules : Rules) (turns : ℕ) (given : RunInput) (links : List L) (disks : List (Option D)) (readings : Option (List ℕ))
       → IsRunIn ids before during rules mine given (at_point.Turning turns 0) → LeavesAll coming sent disk links disks readings (length mine) (after_turns rules turns mine given)
-      → let w = world_after ids before in LeavesAsTold sent disk links disks mine given w (world_after ids (before ++ during)) (all_rows during w)
+      → let w = world_after ids before in LeavesAsInWorld sent disk links disks mine given w (world_after ids (before ++ during)) (all_rows during w)
   left_as_told ids mine before during rules turns given links disks readings is left = record {
     sent_is = λ i link low. left.sent_is i link low ∙ ap (λ (l : List RawFrame). some l) (follow i low).frames;
     stored_is = λ likeness i after low began there. record {
@@ -160,7 +160,7 @@ module _ (laws : FollowLaws) {L D : Type 0} (coming : L → Option (List Receive
   pub cut_as_told : (ids mine : List ℕ) (before during : List Event) (rules : Rules) (taken place : ℕ) (given : RunInput) (links : List L) (disks : List (Option D)) (readings : Option (List ℕ))
       → place < length mine → IsRunIn ids before during rules mine given (at_point.Turning taken place) → let all = together_at rules mine given taken place in
       IsCutAtTurn coming sent disk links disks readings (length mine) all place
-      → let w = world_after ids before in IsCutAsTold coming sent disk links disks mine given w (world_after ids (before ++ during)) (all_rows during w) all place
+      → let w = world_after ids before in IsCutAsInWorld coming sent disk links disks mine given w (world_after ids (before ++ during)) (all_rows during w) all place
   cut_as_told ids mine before during rules taken place given links disks readings within is left = record {
     sent_is = λ i link low. left.sent_is i link low ∙ ap (λ (l : List RawFrame). some l) (follow i low).frames;
     stored_is = λ likeness i after low began apart there. record { held = (all.running i).stored; holds = left.stored_is i low apart after there; same = alike likeness i low began };
@@ -226,7 +226,7 @@ module _ (laws : FollowLaws) {L D : Type 0} (coming : L → Option (List Receive
         (readings_old readings : Option (List ℕ)) (id : ℕ) → Tell coming sent disk links_old disks_old readings_old given
         → (cut : IsCutAtOpening disk mine links_old links disks_old disks readings_old readings (KeepsOrOpens disk) id)
         → IsRunIn ids before during rules mine given (at_point.Opening cut.place)
-        → let w = world_after ids before in IsCutOpeningAsTold disk disks_old disks rules mine given w (world_after ids (before ++ during)) (all_rows during w) cut.place
+        → let w = world_after ids before in IsCutOpeningAsInWorld disk disks_old disks rules mine given w (world_after ids (before ++ during)) (all_rows during w) cut.place
     opened_as_told ids mine before during rules given links_old links disks_old disks readings_old readings id tell cut is = record {
       silent = λ i low. nothing_more (given.sent i) (raw_by (slice_index mine i) (world_after ids before) (all_rows during (world_after ids before))) (follow i low).frames;
       stored_is = λ likeness i first after low began was there.
@@ -285,7 +285,7 @@ module _ (laws : FollowLaws) {L D : Type 0} (coming : L → Option (List Receive
 
         in_part : (likeness : Likeness) (image : List ℕ) (state : Stored) → Alike likeness (v.member n).disk.store (given.stored place) → state ≡ given.stored place
             → AfterSome (StandsForState image) (opening_puts state) state
-            → (puts : ℕ) × IsFound likeness image (after_rows v (rows_of (opening_kill_of rules mine given place puts) v)) n
+            → (puts : ℕ) × IsFoundStopped likeness image (after_rows v (rows_of (opening_kill_of rules mine given place puts) v)) n
         in_part likeness image state began same after =
             let found = some_found (StandsForState image) (opening_puts state) state after in
             let ends = opening_killed n (tells rules) (next_reading (readings_after place given.readings)) (word_at (next_state n)) found.0 v (laws.calm ids (before ++ during) is.may) may in (

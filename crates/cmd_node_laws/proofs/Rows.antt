@@ -11,7 +11,8 @@ use Rattle.alloc_spec.specs.StepState.{StepState}
 use Rattle.alloc_spec.specs.Step.{Event, after_pop, step}
 use Rattle.alloc_spec.specs.AllocatorState.{AllocatorState}
 use Rattle.cluster_spec.specs.declared.unlawful.Unlawful.{Unlawful}
-use Rattle.cluster_spec.specs.declared.unlawful.Unlawful.TheVariants.{Forged, NoFrame, NoNode, Running, Stale as IsStale, Stopped}
+use Rattle.cluster_spec.specs.declared.unlawful.Unlawful.TheVariants.{Forged, NoFrame, NoNode, Running, Stopped}
+use Rattle.cluster_spec.specs.declared.unlawful.Unlawful.TheVariants as unlawful
 use Rattle.cluster_spec.specs.Cluster.{Cluster, arrival_at, frame_at, from_outside, in_list, is_member, after_row, no_frame, rules_of, with_member}
 use Rattle.cluster_spec.specs.Lawful.{DoesNoHarm, IsHarmlessAt, because, cause, is_forged, arrival_refusal, no_such_frame, nothing_to_send, or_else}
 use Rattle.cluster_spec.specs.Members.{MemberStatus, Member, after_sending, is_running, next_frame, member_after_step, puts_of, stopped_with}
@@ -88,7 +89,7 @@ rx_cause w n k moment server runs there why is =
 pub rx_harmless : (w : Cluster) (n k moment : ℕ) (server : AllocatorState) → Runs n w server → no_such_frame w k ≡ None
     → IsHarmlessAt (w.member n).status (arrival_at (frame_at w.frames k) moment) → DoesNoHarm w (Rx n k moment)
 rx_harmless w n k moment server runs there (inl fine) = inl (rx_cause w n k moment server runs there None fine)
-rx_harmless w n k moment server runs there (inr late) = inr (rx_cause w n k moment server runs there (Some IsStale) late.0, late.1)
+rx_harmless w n k moment server runs there (inr late) = inr (rx_cause w n k moment server runs there (Some unlawful.Stale) late.0, late.1)
 
 -- ---- its next frame
 

@@ -5,7 +5,7 @@ use Rattle.raft_core.specs.StoredPuts.{PutWithOrigin, number_of_vote, put_from, 
 use Rattle.raft_log.specs.Stored.{Put, Stored, after_put, after_puts}
 use Rattle.raft_model.specs.Server.{Store}
 use Rattle.raft_model.specs.Server.Put.{PutCommit, PutEntry, PutLonger, PutShorter, PutTerm, PutVote}
-use Rattle.raft_model.specs.Server as machine
+use Rattle.raft_model.specs.Server as raft
 use Rattle.cmd_node_laws.specs.Alike.{Alike, AsRead, Likeness, Whole}
 
 pub as_many : (puts : List PutWithOrigin) (state : Stored) → length (stored_puts puts state) ≡ length puts
@@ -38,7 +38,7 @@ all_of puts count state h = ap (λ (l : List Put). after_puts l state) (take_all
 one_alike : (put : PutWithOrigin) (a b : Stored) → store_of a ≡ store_of b → store_of (after_put (stored_put put a) a) ≡ store_of (after_put (stored_put put b) b)
 one_alike put a b e = by put.put put.origin
   where
-    by : (p : machine.Put) (origin : ℕ) → store_of (after_put (put_from origin p a) a) ≡ store_of (after_put (put_from origin p b) b)
+    by : (p : raft.Put) (origin : ℕ) → store_of (after_put (put_from origin p a) a) ≡ store_of (after_put (put_from origin p b) b)
     by (PutTerm term) origin = ap (λ (s : Store). record s { term = term }) e
     by (PutVote vote) origin = λ i. record (e i) { vote = vote_of (number_of_vote vote) }
     by (PutEntry entry) origin = e

@@ -38,7 +38,7 @@ pub record IsFollowed (rules : Rules) (mine : List ℕ) (given : RunInput) (w v 
   pub stored : HasStoredAt rules mine given w from i → HasStoredAt rules mine given v to i
 
 -- a member is stopped, and what an image stands for is like what it has stored
-pub record IsFound (likeness : Likeness) (image : List ℕ) (w : Cluster) (n : ℕ) : Type 0 where
+pub record IsFoundStopped (likeness : Likeness) (image : List ℕ) (w : Cluster) (n : ℕ) : Type 0 where
   pub down : (w.member n).status ≡ Down
   pub found : Stored
   pub stands : StandsForState image found
@@ -66,7 +66,7 @@ BeganAlike likeness w mine given i = Alike likeness (w.member (slice_index mine 
 
 -- Each link was sent, behind what it was sent before, what these rows send of its member; and whatever a stop leaves of
 -- each disk stands for what is like what the member has stored in the world, where it was so before.
-pub record LeavesAsTold {L D : Type 0} (sent : L → Option (List RawFrame)) (disk : Ghosts D) (links : List L)
+pub record LeavesAsInWorld {L D : Type 0} (sent : L → Option (List RawFrame)) (disk : Ghosts D) (links : List L)
     (disks : List (Option D)) (mine : List ℕ) (given : RunInput) (w v : Cluster) (rows : List Row) : Type 0 where
   pub sent_is : (i : ℕ) (link : L) → i < length mine →
       sent (slice_index_or links i link) ≡ Some (given.sent i ++ raw_by (slice_index mine i) w rows)
@@ -81,7 +81,7 @@ kill_of r moment came puts = DiesInTurn r.id moment (word_at (next_state r.draws
 -- for some number of puts it leaves the member with what the image stands for
 abbrev pub IsFoundKilled : Likeness → List ℕ → Cluster → Running → ℕ → Came → Type 0
 IsFoundKilled likeness image w r moment came =
-    (puts : ℕ) × IsFound likeness image (after_rows w (rows_of (kill_of r moment came puts) w)) r.id
+    (puts : ℕ) × IsFoundStopped likeness image (after_rows w (rows_of (kill_of r moment came puts) w)) r.id
 
 -- the premises hold of it
 abbrev pub MayBeKilled : Cluster → Running → ℕ → Came → Type 0
@@ -91,7 +91,7 @@ MayBeKilled w r moment came = (puts : ℕ) → MayHappen (kill_of r moment came 
 -- of the world sent by then, and each other disk holds what they had stored. Whatever a stop leaves of that member's
 -- own disk, a kill leaves it with that in the world: a kill in a turn in which nothing comes, where the next item of
 -- its link was not taken; else one in a turn in which that item comes, where the premises hold of it.
-pub record IsCutAsTold {L D : Type 0} (coming : L → Option (List Received)) (sent : L → Option (List RawFrame))
+pub record IsCutAsInWorld {L D : Type 0} (coming : L → Option (List Received)) (sent : L → Option (List RawFrame))
     (disk : Ghosts D) (links : List L) (disks : List (Option D)) (mine : List ℕ) (given : RunInput) (w v : Cluster)
     (rows : List Row) (all : Together) (place : ℕ) : Type 0 where
   pub sent_is : (i : ℕ) (link : L) → i < length mine →
@@ -116,7 +116,7 @@ opening_kill_of rules mine given place puts = let id = slice_index mine place in
 -- A run was cut off at the opening of the member at a place, before which its members in the world had sent nothing.
 -- Each disk before its own holds what its member has stored; its member and those behind it wait as they did. Whatever
 -- a stop leaves of its own disk it could leave before the run, or a kill in that opening leaves it in the world.
-pub record IsCutOpeningAsTold {D : Type 0} (disk : Ghosts D) (disks_old disks : List (Option D)) (rules : Rules)
+pub record IsCutOpeningAsInWorld {D : Type 0} (disk : Ghosts D) (disks_old disks : List (Option D)) (rules : Rules)
     (mine : List ℕ) (given : RunInput) (w v : Cluster) (rows : List Row) (place : ℕ) : Type 0 where
   pub silent : (i : ℕ) → i < length mine → raw_by (slice_index mine i) w rows ≡ []
   pub stored_is : (likeness : Likeness) (i : ℕ) (before after : D) → i < place → BeganAlike likeness w mine given i →
@@ -126,5 +126,5 @@ pub record IsCutOpeningAsTold {D : Type 0} (disk : Ghosts D) (disks_old disks : 
   pub killed : (likeness : Likeness) (before after : D) (image : List ℕ) → BeganAlike likeness w mine given place →
       slice_index_or disks_old place None ≡ Some before → slice_index_or disks place None ≡ Some after →
       MayLeave (disk.contents after) image → MayLeave (disk.contents before) image ⊎ ((puts : ℕ) ×
-      IsFound likeness image (after_rows v (rows_of (opening_kill_of rules mine given place puts) v))
+      IsFoundStopped likeness image (after_rows v (rows_of (opening_kill_of rules mine given place puts) v))
       (slice_index mine place))

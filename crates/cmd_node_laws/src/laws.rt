@@ -23,8 +23,8 @@ ghost use Rattle.cmd_node_laws.specs.Alike.{Alike, Likeness};
 ghost use Rattle.cmd_node_laws.specs.Example.{first_events, given_then, later_events, two, world_by_then};
 ghost use Rattle.cmd_node_laws.specs.Mirrored.{AreCalm, Carries, IsMirrored, raw_by};
 ghost use Rattle.cmd_node_laws.specs.Processes.{GoesOn, Opening, Point, StandAt, Turning, place_of, together_at};
-ghost use Rattle.cmd_node_laws.specs.Stands.{IsCutAsTold, IsCutOpeningAsTold, IsFollowed, IsFoundKilled, IsRunIn};
-ghost use Rattle.cmd_node_laws.specs.Stands.{LeavesAsTold, MayBeKilled, world_after};
+ghost use Rattle.cmd_node_laws.specs.Stands.{IsCutAsInWorld, IsCutOpeningAsInWorld, IsFollowed, IsFoundKilled, IsRunIn};
+ghost use Rattle.cmd_node_laws.specs.Stands.{LeavesAsInWorld, MayBeKilled, world_after};
 
 use alloc_ghost_erasure::laws::marks_change_marks_alone;
 use cluster_agreement::allocatees::the_allocatees;
@@ -36,8 +36,8 @@ use raft_log::laws::an_image_stands_for_one_state;
 use transfer_rx::laws::deliveries_are_whole_transfers;
 
 /// Every trace of a cluster of processes that meets the premises stands for a list of rows that do no harm. So along
-/// these rows the headline holds, what an allocatee holds is a pair of the list, and the run of the message
-/// machine that they show is safe. Between any two events no call of a disk is set to fail.
+/// these rows the headline holds, what an allocatee holds is a pair of the list, and the run of the Raft
+/// model that they show is safe. Between any two events no call of a disk is set to fail.
 pub fn traces_do_no_harm()
     ensures rows { (ids : List ℕ) (trace : List Event) →
         MayAllHappen trace (cluster ids) → DoNoHarm (cluster ids) (all_rows trace (cluster ids)) }
@@ -103,7 +103,7 @@ pub fn runs_of_node_are_rows<L: Link, D: Disk>()
         IsRunIn ids before during rules mine given (Turning turns 0) →
         LeavesAll L.coming L.sent D.Disk links disks readings (length mine)
         (after_turns rules turns mine given) → let w = world_after ids before in
-        LeavesAsTold L.sent D.Disk links disks mine given w (world_after ids (before ++ during))
+        LeavesAsInWorld L.sent D.Disk links disks mine given w (world_after ids (before ++ during))
         (all_rows during w) }
     ensures cut { (ids mine : List ℕ) (before during : List Event) (rules : Rules) (taken place : ℕ)
         (given : RunInput) (links : List L) (disks : List (Option D)) (readings : Option (List ℕ)) →
@@ -111,7 +111,7 @@ pub fn runs_of_node_are_rows<L: Link, D: Disk>()
         let all = together_at rules mine given taken place in
         IsCutAtTurn L.coming L.sent D.Disk links disks readings (length mine) all place →
         let w = world_after ids before in
-        IsCutAsTold L.coming L.sent D.Disk links disks mine given w
+        IsCutAsInWorld L.coming L.sent D.Disk links disks mine given w
         (world_after ids (before ++ during)) (all_rows during w) all place }
     ensures opening { (ids mine : List ℕ) (before during : List Event) (rules : Rules) (given : RunInput)
         (links_old links : List L) (disks_old disks : List (Option D))
@@ -120,7 +120,7 @@ pub fn runs_of_node_are_rows<L: Link, D: Disk>()
         (cut : IsCutAtOpening D.Disk mine links_old links disks_old disks readings_old readings
         (KeepsOrOpens D.Disk) id) →
         IsRunIn ids before during rules mine given (Opening cut.place) → let w = world_after ids before in
-        IsCutOpeningAsTold D.Disk disks_old disks rules mine given w
+        IsCutOpeningAsInWorld D.Disk disks_old disks rules mine given w
         (world_after ids (before ++ during)) (all_rows during w) cut.place }
 {
     an_image_stands_for_one_state();

@@ -5,7 +5,7 @@ use Rattle.replay_text.specs.declared.row.Row.{Row}
 use Rattle.replay_text.specs.declared.row.Row.TheVariants.{Open, Tick, Rx, Send, Ext}
 use Rattle.cluster_spec.specs.declared.unlawful.Unlawful.{Unlawful}
 use Rattle.cluster_spec.specs.Cluster.{Cluster, after_rows, cluster, after_row}
-use Rattle.cluster_spec.specs.Lawful.{Lawful, cause}
+use Rattle.cluster_spec.specs.Lawful.{AreLawful, cause}
 use Rattle.cmd_soak.specs.Leading.{HasNoFault, IsLed, is_fault}
 use Rattle.cmd_soak.specs.Requests.{request}
 use Rattle.cmd_soak.specs.Rounds.{Soak, arms, arms_by_chance, asks_in_time, begins, draws, drawn, each, for_each, gives, has_round, has_turn, hears, hears_all, is_refused, members, opens, repeats, seeded, sends, sends_some, shows, soaked, stop, takes, ticks, word}
@@ -18,7 +18,7 @@ after_more : (w : Cluster) (rows : List Row) (row : Row) → after_rows w (rows 
 after_more w [] row = refl
 after_more w (first ∷ rows) row = after_more (after_row w first) rows row
 
-lawful_more : (w : Cluster) (rows : List Row) (row : Row) → Lawful w rows → cause (after_rows w rows) row ≡ None → Lawful w (rows ++ row ∷ [])
+lawful_more : (w : Cluster) (rows : List Row) (row : Row) → AreLawful w rows → cause (after_rows w rows) row ≡ None → AreLawful w (rows ++ row ∷ [])
 lawful_more w [] row each last = (last, tt)
 lawful_more w (first ∷ rows) row each last = (each.0, lawful_more (after_row w first) rows row each.1 last)
 

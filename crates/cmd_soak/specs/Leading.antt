@@ -3,7 +3,7 @@ use Rattle.std.specs.Prelude.{⊤, ◌≡◌, ℕ, Bool, true, false, List, [], 
 use Rattle.replay_text.specs.declared.row.Row.{Row}
 use Rattle.replay_text.specs.declared.row.Row.TheVariants.{Open, Tick, Rx, Send, Ext, Crash, Fault, AOpen, ATick, ARx, ASend, AEnd}
 use Rattle.cluster_spec.specs.Cluster.{cluster, world_of}
-use Rattle.cluster_spec.specs.Lawful.{Lawful}
+use Rattle.cluster_spec.specs.Lawful.{AreLawful}
 use Rattle.cmd_soak.specs.Rounds.{Soak}
 
 -- none of the rows lets a call of a disk fail
@@ -27,6 +27,6 @@ HasNoFault (row ∷ rows) = (is_fault row ≡ false) × HasNoFault rows
 
 -- a lawful list of rows of these members, which leads to the world
 pub record IsLed (ids : List ℕ) (s : Soak) : Type 0 where
-  pub lawful : Lawful (cluster ids) s.rows
+  pub lawful : AreLawful (cluster ids) s.rows
   pub leads : world_of ids s.rows ≡ s.world
   pub faultless : HasNoFault s.rows

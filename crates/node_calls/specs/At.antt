@@ -139,7 +139,7 @@ pub record Hears (old new : Node) (now head bytes result : ℕ) : Type 0 where
   pub no_frame : (result ≡ 4) ↔ (IsFrame head → ⊥)
   pub kept : result ≡ 4 → new ≡ old
 
--- ---- calls 4 and 5: the next frame of its queue is taken, and its bytes are told
+-- ---- calls 4 and 5: the next frame of its queue is taken, and its bytes are given
 
 -- the highest bit, the number of bytes, and the identifier
 abbrev pub head_of : Queued → ℕ

@@ -10,7 +10,7 @@ use Rattle.cmd_base.specs.declared.status.Status.{Status}
 use Rattle.cmd_base.specs.declared.status.Status.TheVariants.{DiskFault}
 use Rattle.raft_log.specs.declared.stored.Stored.{Stored}
 use Rattle.raft_log.specs.Reading.{IsReadable}
-use Rattle.store_audit.specs.Audits.{CountsOne, EndsAt, EndsAtDamage, NamesLast}
+use Rattle.store_audit.specs.Audits.{CountsOne, AuditEndsAtDisk, AuditEndsAtDamage, NamesLast}
 use Rattle.store_audit.specs.Reads.{AllStay, AreReadUpTo, AreStoresOf, IsDamagedDisk, IsReadOnce, IsStoreOf, StaysAs}
 use Rattle.store_audit.specs.Stores.{AreReadable, store_at}
 
@@ -101,12 +101,12 @@ module _ {D : Type 0} (ghosts : Ghosts D) where
   }
 
   -- the others before this one are stores
-  pub ends_at : (ids : List ℕ) (disks : List (Option D)) (stores : List Stored) (p : ℕ) → AreStoresOf ghosts disks stores → length stores ≡ p → p < length ids → EndsAt ghosts ids disks (slice_index ids p)
+  pub ends_at : (ids : List ℕ) (disks : List (Option D)) (stores : List Stored) (p : ℕ) → AreStoresOf ghosts disks stores → length stores ≡ p → p < length ids → AuditEndsAtDisk ghosts ids disks (slice_index ids p)
   ends_at ids disks stores p read count within = record { stores = stores; read = read; within = rw count within; is = ap (slice_index ids) (sym count) }
 
   -- the disks before this one have stores, and it is damaged
   pub ends_at_damage : (ids : List ℕ) (disks : List (Option D)) (stores : List Stored) (p : ℕ) (disk : D) (key : ℕ) → AreStoresOf ghosts disks stores → length stores ≡ p → p < length ids
-      → slice_index_or disks p None ≡ Some disk → IsDamagedDisk ghosts disk key → EndsAtDamage ghosts ids disks (slice_index ids p) key
+      → slice_index_or disks p None ≡ Some disk → IsDamagedDisk ghosts disk key → AuditEndsAtDamage ghosts ids disks (slice_index ids p) key
   unfolding ends_at
   ends_at_damage ids disks stores p disk key read count within there damaged = record {
     at = ends_at ids disks stores p read count within;

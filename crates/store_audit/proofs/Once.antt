@@ -12,7 +12,7 @@ use Rattle.cmd_base.specs.declared.status.Status.TheVariants.{Damaged, Differ, D
 use Rattle.raft_log.specs.declared.stored.Stored.{Stored}
 use Rattle.raft_log.specs.Reading.{IsReadFrom}
 use Rattle.raft_log.specs.Rules.{IsDamagedAt}
-use Rattle.store_audit.specs.Audits.{AllTell, Audits, Comes, Compares, CountsOne, EndsAtDamage, HasFailed, IsCompared, IsOfStores}
+use Rattle.store_audit.specs.Audits.{AllTell, Audits, Comes, Compares, CountsOne, AuditEndsAtDamage, HasFailed, IsCompared, IsOfStores}
 use Rattle.store_audit.specs.Reads.{AreStoresOf, IsDamagedDisk, IsStoreOf}
 use Rattle.store_audit.specs.Report.{AgreeOn, agreed_report, line_of}
 use Rattle.store_audit.specs.Stores.{AreCommitted, committed, store_at}
@@ -122,14 +122,14 @@ module _ {D : Type 0} (ghosts : Ghosts D) (laws : ReadingLaws) (ids : List ℕ) 
       rw (read.tells.commit, read.tells.entries) read.stands.stores.storable.commit
 
   -- a disk that is read as a store is not damaged
-  not_both : (id key : ℕ) (end : EndsAtDamage ghosts ids disks id key) (xs : List Stored) → AreStoresOf ghosts disks xs → length end.at.stores < length xs → ⊥
+  not_both : (id key : ℕ) (end : AuditEndsAtDamage ghosts ids disks id key) (xs : List Stored) → AreStoresOf ghosts disks xs → length end.at.stores < length xs → ⊥
   not_both id key end xs are below =
       let tells = told (length end.at.stores) end.disk end.at.within end.there in
       let x = are (length end.at.stores) end.disk below end.there in
       let y = end.damaged in
       laws.either y.image (store_at xs (length end.at.stores)) key (subst (λ i. IsReadFrom i (store_at xs (length end.at.stores))) (x.seen tells ∙ sym (y.seen tells)) x.read) y.damaged
 
-  one_damage : (i k j l : ℕ) → EndsAtDamage ghosts ids disks i k → EndsAtDamage ghosts ids disks j l → (i ≡ j) × (k ≡ l)
+  one_damage : (i k j l : ℕ) → AuditEndsAtDamage ghosts ids disks i k → AuditEndsAtDamage ghosts ids disks j l → (i ≡ j) × (k ≡ l)
   one_damage i k j l e f =
       let place = apart (length e.at.stores) (length f.at.stores) (not_both i k e f.at.stores f.at.read) (not_both j l f e.at.stores e.at.read) in
       let there : slice_index_or disks (length e.at.stores) None ≡ Some f.disk = subst (λ n. slice_index_or disks n None ≡ Some f.disk) (sym place) f.there in
@@ -146,7 +146,7 @@ module _ {D : Type 0} (ghosts : Ghosts D) (laws : ReadingLaws) (ids : List ℕ) 
     id : ℕ
     key : ℕ
     is : s ≡ Damaged id key
-    end : EndsAtDamage ghosts ids disks id key
+    end : AuditEndsAtDamage ghosts ids disks id key
     line : x ≡ line_of (Damaged id key)
 
   which : (s : Status) (x : List ℕ) → Comes ghosts ids disks s x → IsOfStores s → IsCompared ghosts ids disks s x ⊎ AtDamage s x

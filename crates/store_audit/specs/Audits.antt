@@ -74,15 +74,15 @@ module _ {D : Type 0} (ghosts : Ghosts D) (ids : List ℕ) (disks : List (Option
     pub compares : Compares ids stores status report
 
   -- the disks before that of this node have stores
-  pub record EndsAt (id : ℕ) : Type 0 where
+  pub record AuditEndsAtDisk (id : ℕ) : Type 0 where
     pub stores : List Stored
     pub read : AreStoresOf ghosts disks stores
     pub within : length stores < length ids
     pub is : id ≡ slice_index ids (length stores)
 
   -- the disks before that of this node have stores, and its own is damaged, first at this key
-  pub record EndsAtDamage (id key : ℕ) : Type 0 where
-    pub at : EndsAt id
+  pub record AuditEndsAtDamage (id key : ℕ) : Type 0 where
+    pub at : AuditEndsAtDisk id
     pub disk : D
     pub there : slice_index_or disks (length at.stores) None ≡ Some disk
     pub damaged : IsDamagedDisk ghosts disk key
@@ -91,8 +91,8 @@ module _ {D : Type 0} (ghosts : Ghosts D) (ids : List ℕ) (disks : List (Option
   abbrev pub Comes : Status → List ℕ → Type 0
   Comes Done report = IsCompared Done report
   Comes (Differ place first second) report = IsCompared (Differ place first second) report
-  Comes (Damaged id key) report = EndsAtDamage id key × (report ≡ line_of (Damaged id key))
-  Comes (DiskFault id) report = EndsAt id × (report ≡ line_of (DiskFault id))
+  Comes (Damaged id key) report = AuditEndsAtDamage id key × (report ≡ line_of (Damaged id key))
+  Comes (DiskFault id) report = AuditEndsAtDisk id × (report ≡ line_of (DiskFault id))
   Comes _ report = ⊥
 
   -- the disk of this node counted a fault

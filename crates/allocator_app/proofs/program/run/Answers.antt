@@ -1,7 +1,7 @@
 use Rattle.std.proofs.Common.{inl, inr, refl}
 use Rattle.cluster_spec.specs.Cluster.{cluster}
 use Rattle.allocator_app.specs.Promise.{KeepsPromise}
-use Rattle.allocator_app.specs.Told.{rules_of}
+use Rattle.allocator_app.specs.Told.{told_rules}
 use Rattle.allocator_app.specs.declared.plans.Plan.TheVariants.{Replay}
 use Rattle.allocator_app.proofs.Ending.{all_lawful, completed, holds_along}
 use Rattle.allocator_app.proofs.Needs.{no_disks_used, no_links_used}
@@ -55,14 +55,14 @@ returns-clause-soak g c = λ told seed rounds size asks.
 
 pub returns-clause-nodes : goal.returns-clause-nodes
 returns-clause-nodes g c = λ told base turns ids asks.
-    inr (in_traces g.L.Link.coming g.L.Link.sent g.L.Link.faults g.D.Disk (rules_of told) turns ids c.args.links.now c.follow.new.links
+    inr (in_traces g.L.Link.coming g.L.Link.sent g.L.Link.faults g.D.Disk (told_rules told) turns ids c.args.links.now c.follow.new.links
     c.args.disks.now c.follow.new.disks (g.C.Clock.readings c.args.clock.now) (g.C.Clock.readings c.follow.new.clock)
     (g.K.Sink.faults c.args.sink.now) (g.K.Sink.faults c.follow.new.sink) (g.K.Sink.written c.args.sink.now) (g.K.Sink.written c.follow.new.sink) c.follow.result
     c.runs_of_node_are_rows.ensures.done c.runs_of_node_are_rows.ensures.cut c.runs_of_node_are_rows.ensures.opening (λ ids trace members may. record {
       headline = c.traces_do_no_harm.ensures.headline ids trace members may;
       allocatees = c.traces_do_no_harm.ensures.allocatees ids trace members may;
       safe = c.traces_do_no_harm.ensures.safe ids trace members may;
-    }) (c.runs_stand_on_a_bus.ensures (rules_of told) ids) (rw (only_node c.in-Some.plan _ c.in-Some.ensures.some told base turns ids asks) at c.follow.ensures.followed))
+    }) (c.runs_stand_on_a_bus.ensures (told_rules told) ids) (rw (only_node c.in-Some.plan _ c.in-Some.ensures.some told base turns ids asks) at c.follow.ensures.followed))
 
 pub returns-clause-new : goal.returns-clause-new
 returns-clause-new g c = λ ids asks.

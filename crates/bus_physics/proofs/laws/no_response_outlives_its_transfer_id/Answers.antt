@@ -7,7 +7,7 @@ use Rattle.bus_physics.proofs.Answering.{IsMadeSoon, all_soon}
 use Rattle.bus_physics.proofs.Members.{MemberLaws, along}
 use Rattle.bus_physics.proofs.Now.{now_of_a_step}
 use Rattle.can_frame.specs.declared.step.Judged.TheVariants.{Stale}
-use Rattle.cluster_spec.specs.declared.unlawful.Unlawful.TheVariants.{Stale as IsStale}
+use Rattle.cluster_spec.specs.declared.unlawful.Unlawful.TheVariants as unlawful
 use Rattle.bus_physics.proofs.Refusals.{of_stale, refused}
 use Rattle.bus_physics.proofs.Torn.{of_its_key}
 use Rattle.bus_physics.proofs.Unstale.{not_stale}
@@ -21,7 +21,7 @@ returns c = λ limits ids before now n k ms members enough row lawful comes cloc
     let waits = c.calls_come_round_late.ensures limits ids before now n members enough lawful slow rests in
     let steps = c.what_is_said_of_a_step.ensures in
     let laws : MemberLaws = record { heard = steps.heard; ticked = steps.ticked; me = steps.me; called = steps.called; now = now_of_a_step } in
-    let order = c.answers_come_in_order.ensures ids rows n k members lawful (refused IsStale Stale of_stale (world_of ids rows) n k ms e).there turns turn in
+    let order = c.answers_come_in_order.ensures ids rows n k members lawful (refused unlawful.Stale Stale of_stale (world_of ids rows) n k ms e).there turns turn in
     let chosen = c.a_choice_fits.ensures ids rows members (c.lawful_rows_do_no_harm.ensures (cluster ids) rows lawful) in
     let shows = (c.rows_are_shown.ensures chosen.0 ids rows members (c.lawful_rows_do_no_harm.ensures (cluster ids) rows lawful) chosen.1).shows in
     let stale = c.what_is_refused.ensures.stale ids rows n k ms members lawful e in

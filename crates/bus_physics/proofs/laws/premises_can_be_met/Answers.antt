@@ -17,7 +17,7 @@ use Rattle.alloc_spec.specs.Step.{all_nodes, step}
 use Rattle.alloc_spec.specs.Transfers.{SentTransfer}
 use Rattle.replay_text.specs.declared.row.Row.{Row}
 use Rattle.cluster_spec.specs.Cluster.{Cluster, after_row, cluster}
-use Rattle.cluster_spec.specs.Lawful.{Lawful}
+use Rattle.cluster_spec.specs.Lawful.{AreLawful}
 use Rattle.cluster_spec.specs.Refinement.{transfers_of_rows}
 use Rattle.bus_physics.specs.Example.{at_allocatee, at_member, before, everything, limits, two}
 use Rattle.bus_physics.specs.Physics.{GoesOn, Reading, rows_in}
@@ -107,11 +107,11 @@ unfolding step frame_step outcome fits_no_payload all_nodes delivery_phase devic
 returns-clause-allocatee c = refl
 
 -- lawful rows are so in any case
-but : (w : Cluster) (rows : List Row) → Lawful w rows → LawfulButForBus w rows
+but : (w : Cluster) (rows : List Row) → AreLawful w rows → LawfulButForBus w rows
 but w [] lawful = tt
 but w (row ∷ rows) lawful = ((λ why e. absurd (cc (sym lawful.0 ∙ e))), but (after_row w row) rows lawful.1)
 
-all_lawful : Lawful (cluster two) (rows_in everything)
+all_lawful : AreLawful (cluster two) (rows_in everything)
 unfolding step frame_step outcome fits_no_payload all_nodes delivery_phase arrival_judgement device_judgement session_for session_step wanted queued_frames next_out left_behind frames_of identifier_of payload_of rows device_rows
 all_lawful = (refl, (refl, (refl, (refl, (refl, (refl, (refl, tt)))))))
 

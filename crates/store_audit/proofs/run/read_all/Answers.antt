@@ -1,7 +1,7 @@
 use Rattle.std.proofs.Common.{◌≡◌, ◌<◌, suc, ◌+◌, [], ◌∷◌, length, refl, sym, ap, subst, ◌∙◌, arith}
 use Rattle.std.specs.Prelude.{None, Some, slice_index, slice_index_or}
 use Rattle.std.proofs.lemmas.List.{get_or_default, length-append}
-use Rattle.store_audit.specs.Audits.{EndsAtDamage}
+use Rattle.store_audit.specs.Audits.{AuditEndsAtDamage}
 use Rattle.store_audit.specs.Reads.{AreStoresOf}
 use Rattle.store_audit.specs.Stores.{AreReadable}
 use Rattle.store_audit.proofs.Disks.{all_stay, counts_one, ends_at_damage, names_last, none_read, quiet_all, quiet_more, read_more, readable_more, stay_more, stores_more, there_is}
@@ -60,7 +60,7 @@ returns-in-Err-Damaged-clause-ended g c =
     let within : p < length disks = omega (arith, so_far.stay.count, c.requires.disks) in
     let there = get_or_default disks p c.index-disks-place.result None within ∙ so_far.order.others p (omega arith) in
     let found = there_is g.D.Disk (slice_index_or old p None) (c.requires.present p below) in (
-      subst (EndsAtDamage g.D.Disk c.args.ids.now old (slice_index c.args.ids.now p)) (sym c.in-Err-Damaged.key-is)
+      subst (AuditEndsAtDamage g.D.Disk c.args.ids.now old (slice_index c.args.ids.now p)) (sym c.in-Err-Damaged.key-is)
           (ends_at_damage g.D.Disk c.args.ids.now old c.loop-place.stores.items p found.0 c.in-Err-Damaged.key so_far.read so_far.count below found.1
           (c.in-Err-Damaged.ensures.damaged c.in-Err-Damaged.key found.0 c.in-Err-Damaged.field-0-is (there ∙ found.1))),
       refl,
