@@ -121,7 +121,7 @@ class Pages(ViewCase):
         self.assertIn("stops inside its", facts["said"][stops[0][0] - 1])
 
     def test_what_a_step_stored_before_its_stop_is_said_at_the_next_opening(self) -> None:
-        """The worked case of docs/FORMATS.md, "Device calls", and a stop at the first call after the term."""
+        """The worked case of docs/FORMATS.md, "Where a stop or a failure falls", and one whose term is not kept."""
         rows = ["open 1 0 0", "crash 1 12 00", "tick 1 2000 0", "open 1 3000 0"]
         for opened, stored in [("1 1 0 0", "the term"), ("0 0 0 0", "neither term, entries nor commit index")]:
             lines = ["1 open 0 0 0 0", "1 armed", "1 stop", f"1 open {opened}", "log 1 0", "end 4"]
