@@ -307,10 +307,12 @@ class Scene:
             self.lead = None
         return events
 
-    def take(self, moment: float, frame: wire.Frame) -> List[Event]:
-        """A frame was on the bus."""
-        self.begin = moment if self.begin is None else self.begin
+    def take(self, moment: float, frame: Optional[wire.Frame]) -> List[Event]:
+        """A frame was on the bus, or time went by without one."""
         events = self.pass_time(moment)
+        if frame is None:
+            return events
+        self.begin = moment if self.begin is None else self.begin
         self.frames += 1
         heading = frame.heading
         if heading.kind == wire.OTHER:

@@ -2,17 +2,20 @@
 from __future__ import annotations
 
 import argparse
+import contextlib
 import errno
+import math
 import os
 import re
+import shutil
 import sys
-from typing import Callable, List, NoReturn, Sequence, Tuple
+import time
+from typing import Callable, Iterator, List, NoReturn, Optional, Sequence, Tuple
 
-from . import buses, stores, table
+from . import buses, logs, stores, table, wire
 
 DONE, FOUND, WORDS, CANNOT, PROGRAM, WRITE = 0, 1, 2, 3, 4, 6  # exit codes
-MOST_MEMBERS = 5
-MEMBERS_ARE = f"a cluster has 1 to {MOST_MEMBERS} different members, of 1 to {table.LAST}"
+MEMBERS_ARE = f"a cluster has 1 to {table.MOST_MEMBERS} different members, of 1 to {table.LAST}"
 
 
 class Ended(Exception):
@@ -55,7 +58,7 @@ def run(name: str, main: Callable[[], int]) -> NoReturn:
 
 def are_members(nodes: Sequence[int]) -> bool:
     """Whether a cluster may have these members."""
-    return len(set(nodes)) == len(nodes) <= MOST_MEMBERS and all(1 <= node <= table.LAST for node in nodes)
+    return len(set(nodes)) == len(nodes) <= table.MOST_MEMBERS and all(1 <= node <= table.LAST for node in nodes)
 
 
 def node_ids(text: str) -> List[int]:
@@ -80,26 +83,66 @@ def seconds(text: str) -> float:
     return value
 
 
-def open_bus(word: str, sends: bool = False) -> buses.Bus:
-    """A bus that is there now."""
+@contextlib.contextmanager
+def naming(name: str, status: int = CANNOT) -> Iterator[None]:
+    """Ends the tool where what has this name cannot be opened, read or sent to within."""
     try:
+        yield
+    except (OSError, stores.Damaged) as error:
+        why = str(error.strerror) if isinstance(error, OSError) else str(error)
+        hint = ": is the kernel's module `can` there?" if getattr(error, "errno", 0) == errno.EAFNOSUPPORT else ""
+        raise Ended(status, f"{name}: {why}{hint}") from None
+
+
+def open_bus(word: str, sends: bool = False, status: int = CANNOT) -> buses.Bus:
+    """A bus that is there now."""
+    with naming(word, status):
         return buses.open_bus(word, sends)
-    except OSError as error:
-        hint = ": is the kernel's module `can` there?" if error.errno == errno.EAFNOSUPPORT else ""
-        raise Ended(CANNOT, f"{word}: {error.strerror}{hint}") from None
+
+
+def hear(
+    bus: buses.Bus, name: str, seconds: float = math.inf, tick: float = 0.2
+) -> Iterator[Tuple[float, Optional[wire.Frame]]]:
+    """What comes to a bus within so many seconds, each with its moment; None, where nothing came for a tick."""
+    end = time.monotonic() + seconds
+    while (left := end - time.monotonic()) > 0:
+        with naming(name):
+            frame = bus.receive(min(tick, left))
+        yield time.monotonic(), frame
+
+
+def read_log(path: str, status: int = CANNOT) -> logs.Log:
+    """A log that has frames; the status is that of one that cannot be read."""
+    try:
+        log = logs.read(path)
+    except logs.CannotRead as error:
+        raise Ended(status, str(error)) from None
+    if not log.frames:
+        what = "no line of it is one of `candump -L`" if log.broken else "it has no data frame with 29 bits"
+        raise Ended(status if log.broken else CANNOT, f"{path}: {what}")
+    return log
+
+
+def stores_of(folder: str) -> List[Tuple[int, str]]:
+    """The stores of a folder that has some."""
+    with naming(folder):
+        found = stores.in_folder(folder)
+    if not found:
+        raise Ended(CANNOT, f"{folder}: no store (alloc-<id>.store) is in this folder")
+    return found
 
 
 def read_stores(paths: Sequence[str]) -> List[Tuple[str, stores.Store]]:
     """The stores of files, and those in folders, with their names."""
     found = []
     for path in paths:
-        try:
-            files = [file for _, file in stores.in_folder(path)] if os.path.isdir(path) else [path]
-            if not files:
-                raise Ended(CANNOT, f"{path}: no store (alloc-<id>.store) is in this folder")
-            found += [(os.path.basename(file), stores.read(file)) for file in files]
-        except stores.Damaged as why:
-            raise Ended(CANNOT, f"{path}: {why}") from None
-        except OSError as error:
-            raise Ended(CANNOT, f"{error.filename or path}: {error.strerror}") from None
+        for file in [file for _, file in stores_of(path)] if os.path.isdir(path) else [path]:
+            with naming(file):
+                found.append((os.path.basename(file), stores.read(file)))
     return found
+
+
+def default_program() -> str:
+    """The repository's ./allocator, or the one that is installed."""
+    here = os.path.join(os.path.dirname(os.path.dirname(os.path.realpath(sys.argv[0]))), "allocator")
+    return here if os.path.exists(here) else shutil.which("allocator") or "allocator"
