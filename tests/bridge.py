@@ -23,6 +23,8 @@ from typing import Any, Callable
 
 import support
 
+from caldrouz.words import Ended
+
 BRIDGE = str(support.ROOT / "tools" / "can_bridge")
 MEMBERS = [1, 2]
 NODE_STATUS_OF_7 = 0x10015507
@@ -113,7 +115,7 @@ class Case(unittest.TestCase):
                 self.bridge = bridge.Bridge(base, bus, MEMBERS)
                 self.base = base
                 return
-            except (OSError, bridge.Stop):
+            except (OSError, Ended):
                 self.close()
         self.fail("no ports are free")
 
@@ -267,7 +269,7 @@ class OneAtATime(Case):
 
     def test_another_error_ends_the_bridge(self) -> None:
         self.raw.has.append(OSError(errno.ENODEV, "No such device"))
-        with self.assertRaisesRegex(bridge.Stop, "can0: No such device"):
+        with self.assertRaisesRegex(Ended, "can0: No such device"):
             self.turn()
 
 
@@ -351,7 +353,7 @@ class SerialLine(Case):
 
     def test_the_adapter_is_opened_with_its_rate(self) -> None:
         self.assertEqual(os.read(self.adapter, 64), b"C\rS6\rO\r")
-        with self.assertRaisesRegex(bridge.Stop, "no bit rate 300000"):
+        with self.assertRaisesRegex(Ended, "no bit rate 300000"):
             bridge.Serial("/dev/null", 300_000, settle=0)
 
     def test_a_wanted_line_behind_three_others_in_one_write(self) -> None:
@@ -383,7 +385,7 @@ class SerialLine(Case):
 
     def test_what_came_while_the_process_did_not_run_is_old(self) -> None:
         """The thread was last seen to look at an empty line 2 s ago."""
-        self.bus.mailbox.put(time.monotonic() - 2, [self.line_of(NODE_STATUS_OF_7)[:-1]])
+        self.bus.put(time.monotonic() - 2, [self.line_of(NODE_STATUS_OF_7)[:-1]])
         self.assertEqual((self.after(), self.counts("too_old")), ([], [1]))
 
     def test_a_frame_is_written(self) -> None:
@@ -405,7 +407,7 @@ class SerialLine(Case):
 
     def test_an_adapter_that_goes_away_ends_the_bridge(self) -> None:
         os.close(self.adapter)
-        with self.assertRaises(bridge.Stop):
+        with self.assertRaises(Ended):
             self.after()
 
 

@@ -8,6 +8,7 @@ import math
 import os
 import re
 import shutil
+import signal
 import sys
 import time
 from typing import Callable, Iterator, List, NoReturn, Optional, Sequence, Tuple
@@ -54,6 +55,12 @@ def run(name: str, main: Callable[[], int]) -> NoReturn:
         os.dup2(os.open(os.devnull, os.O_WRONLY), sys.stdout.fileno())
         status = WRITE
     sys.exit(status)
+
+
+def end_by_signals() -> None:
+    """From here on SIGTERM and SIGINT end the tool, and nothing is wrong then."""
+    for number in (signal.SIGTERM, signal.SIGINT):
+        signal.signal(number, lambda *_: sys.exit(DONE))
 
 
 def are_members(nodes: Sequence[int]) -> bool:
