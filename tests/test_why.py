@@ -195,7 +195,7 @@ class WhatIsHeard(unittest.TestCase):
         heard.tells(0.1, 42, ONE, "org.example")
         self.assertIn("wrong-address", heard.names(stores.Entry(1, TWO, 42, 1)))
         self.assertNotIn("wrong-address", heard.names(stores.Entry(1, ONE, 42, 1)))
-        self.assertEqual(heard.scene.nodes[42].identity, scene.Introduction(ONE, "org.example", 0.1))
+        self.assertEqual(heard.scene.nodes[42].identity, scene.Introduced(42, ONE, "org.example"))
 
     def test_two_nodes_that_tell_one_unique_id(self) -> None:
         heard = Heard()

@@ -226,18 +226,18 @@ def _majority(scene: Scene, _: Sequence[NamedStore]) -> Iterator[Cause]:
 
 
 def _no_leader(scene: Scene) -> Iterator[Cause]:
-    elections = [it for it in scene.elections if scene.now - it.moment <= 2 * RECENT]
+    since = scene.now - 2 * RECENT
+    elections = [(moment, stood) for moment, stood in scene.elections if moment >= since]
     if elections:
-        terms = sorted({it.term for it in elections})
-        votes = [vote for vote in scene.votes if scene.now - vote.moment <= 2 * RECENT]
-        granted = sum(vote.granted for vote in votes)
-        answers = f"of the {len(votes)} answers {granted} were votes" if votes else "no answer was heard"
+        terms = sorted({stood.term for _, stood in elections})
+        votes = [granted for moment, granted in scene.votes if moment >= since]
+        answers = f"of the {len(votes)} answers {sum(votes)} were votes" if votes else "no answer was heard"
         text = f"terms {terms[0]} to {terms[-1]}" if len(terms) > 1 else f"term {terms[0]}"
-        if len(elections) == 1 and scene.now - elections[0].moment < ELECTED_BY:
+        if len(elections) == 1 and scene.now - elections[0][0] < ELECTED_BY:
             return
         yield Cause(
             "no-leader",
-            f"Nobody leads: {_ids({it.node for it in elections})} stood in {text}, and {answers}",
+            f"Nobody leads: {_ids({stood.node for _, stood in elections})} stood in {text}, and {answers}",
             "frames between the members are lost, or come late: look at the counts of the bridges and the load of the "
             "machines. Members whose IDs are 15 apart stand at one moment again and again: take others",
         )

@@ -3,7 +3,7 @@
     scene = scene.Scene()
     events = scene.take(12.5, frame)      # at a moment in seconds: what this frame tells that is new, mostly nothing
     events = scene.pass_time(13.0)        # what is so since nothing came
-    scene.members(), scene.nodes[50], scene.leader(), scene.requests, scene.told()
+    scene.members(), scene.nodes[50], scene.leader(), scene.requests
 
 It keeps no more than a bounded number of whatever comes again and again, so it can listen for months.
 """
@@ -123,19 +123,10 @@ Event = Union[Appeared, Vanished, Restarted, Doubled, Introduced, Led, Unled, St
 # --- what is kept
 
 
-class Introduction(NamedTuple):
-    """What a node told of itself: its unique ID, its name, and when."""
-
-    unique_id: str
-    name: str
-    moment: float
-
-
 @dataclass
 class Node:
     """What was heard of a node ID."""
 
-    first: float
     last: float  # its last NodeStatus, or its first frame
     uptime: Optional[int] = None
     health: int = 0
@@ -146,13 +137,12 @@ class Node:
     doubled: Optional[float] = None  # when it was last seen that two nodes use this ID
     transfer_id: Optional[int] = None
     repeats: int = 0  # 2 for each NodeStatus whose transfer ID did not go on, less 1 for each other one
-    told: List[Introduction] = field(default_factory=list)  # the latest last; another unique ID is another line
+    told: List[Introduced] = field(default_factory=list)  # the latest last; another unique ID is another line
     asked: int = 0  # how often a member asked it for its unique ID since it last answered
-    asked_first: float = 0.0
     asked_last: float = 0.0
 
     @property
-    def identity(self) -> Optional[Introduction]:
+    def identity(self) -> Optional[Introduced]:
         return self.told[-1] if self.told else None
 
 
@@ -166,14 +156,13 @@ class Listing(NamedTuple):
 
 @dataclass
 class Call:
-    """The calls of a leader to one member: what the last one said, and since when none was answered."""
+    """The calls of a leader to one member: what the last one said, how many were not answered since, and when one was
+    agreed to."""
 
-    moment: float
     term: int
-    place: int  # the place that the call goes on behind, or that of its entry
-    commit: int
+    place: int = 0  # the place that the call goes on behind, or that of its entry
+    commit: int = 0
     unanswered: int = 0
-    answered: Optional[float] = None
     agreed: Optional[float] = None
 
 
@@ -203,23 +192,6 @@ class Answer(NamedTuple):
     node: int
 
 
-class Election(NamedTuple):
-    """A member stands for election."""
-
-    moment: float
-    node: int
-    term: int
-
-
-class Vote(NamedTuple):
-    """A member's answer to one that stands."""
-
-    moment: float
-    by: int
-    to: int
-    granted: bool
-
-
 class Scene:
     """What was heard so far. `members` are those that are known beforehand, `size` how many there are."""
 
@@ -232,12 +204,12 @@ class Scene:
         self.listings: Dict[int, Listing] = {}
         self.calls: Dict[Tuple[int, int], Call] = {}
         self.lead: Optional[Lead] = None
-        self.elections: Deque[Election] = deque(maxlen=KEPT)
-        self.votes: Deque[Vote] = deque(maxlen=KEPT)
+        self.elections: Deque[Tuple[float, Stood]] = deque(maxlen=KEPT)
+        self.votes: Deque[Tuple[float, bool]] = deque(maxlen=KEPT)  # when, and whether it was granted
         self.requests: Deque[Request] = deque(maxlen=KEPT)
         self.answers: Deque[Answer] = deque(maxlen=KEPT)
         self.log: Dict[int, wire.Entry] = {}  # by place, as leaders handed it on
-        self.strangers: Dict[Tuple[int, str], float] = {}
+        self.strangers: Set[Tuple[int, str]] = set()  # nodes, and the kinds of their transfers
         self._transfers = wire.Transfers()
         self._led: Set[int] = set()  # leaders, and whom they call: all members
         self._stood: Set[int] = set()  # who asks for votes, and who is asked: may be of another cluster
@@ -288,10 +260,6 @@ class Scene:
         """Who leads now, as far as it was heard; a cluster of one calls nobody."""
         return self.lead if self.lead and self.now - self.lead.moment <= LEADS_FOR else None
 
-    def told(self) -> Dict[str, int]:
-        """The node IDs that devices were told, by unique ID."""
-        return {answer.part: answer.node for answer in self.answers if answer.node}
-
     # --- what comes
 
     def pass_time(self, now: float) -> List[Event]:
@@ -315,18 +283,13 @@ class Scene:
         self.begin = moment if self.begin is None else self.begin
         self.frames += 1
         heading = frame.heading
-        if heading.kind == wire.OTHER:
-            return events
-        payload = self._transfers.take(heading.source, frame)
-        if payload is None:
-            return events
-        handle = getattr(self, f"_{heading.kind}")
-        events += handle(heading, payload, frame.tail.transfer_id)
+        if heading.kind != wire.OTHER:
+            payload = self._transfers.take(heading.source, frame)
+            if payload is not None and len(payload) in wire.SIZES[heading.kind]:
+                events += getattr(self, f"_{heading.kind}")(heading, payload, frame.tail.transfer_id)
         return events
 
     def _stat(self, heading: wire.Heading, payload: bytes, transfer_id: int) -> List[Event]:
-        if len(payload) < 5:
-            return []
         events: List[Event] = []
         uptime, node = wire.number(payload), self._node(heading.source)
         if not node.here:
@@ -339,7 +302,7 @@ class Scene:
         return events
 
     def _node(self, number: int) -> Node:
-        return self.nodes.setdefault(number, Node(self.now, self.now))
+        return self.nodes.setdefault(number, Node(self.now))
 
     def _note_opening(self, number: int, node: Node, uptime: int, transfer_id: int) -> List[Event]:
         """Uptimes tell when a node was opened. Where an earlier opening speaks again, there are two nodes; and so there
@@ -367,8 +330,6 @@ class Scene:
         return [Doubled(number)] if is_new else []
 
     def _disc(self, heading: wire.Heading, payload: bytes, __: int) -> List[Event]:
-        if not payload or len(payload) > 6:
-            return []
         listing = Listing(self.now, payload[0], tuple(payload[1:]))
         before, events = self.listings.get(heading.source), self._strange(heading)
         self.listings[heading.source] = listing
@@ -387,49 +348,39 @@ class Scene:
         is_new = key not in self.strangers
         if is_new and len(self.strangers) >= KEPT:
             return []
-        self.strangers[key] = self.now
+        self.strangers.add(key)
         return [Strange(*key)] if is_new else []
 
     def _infoq(self, heading: wire.Heading, _: bytes, __: int) -> List[Event]:
         node = self._node(heading.destination)
-        node.asked_first = self.now if node.asked == 0 else node.asked_first
-        node.asked += 1
-        node.asked_last = self.now
+        node.asked, node.asked_last = node.asked + 1, self.now
         return []
 
     def _info(self, heading: wire.Heading, payload: bytes, __: int) -> List[Event]:
-        if len(payload) < 41:
-            return []
         node = self._node(heading.source)
         name = payload[41 + payload[40] :].decode("ascii", "replace")
         name = "".join(letter if letter.isprintable() else "?" for letter in name)
         node.asked = 0
-        told = Introduction(payload[24:40].hex(), name, self.now)
-        is_new = not any(it[:2] == told[:2] for it in node.told)
+        told = Introduced(heading.source, payload[24:40].hex(), name)
+        is_new = told not in node.told
         node.told = [it for it in node.told if it.unique_id != told.unique_id][-3:] + [told]
-        return [Introduced(heading.source, told.unique_id, told.name)] if is_new else []
+        return [told] if is_new else []
 
     def _voteq(self, heading: wire.Heading, payload: bytes, __: int) -> List[Event]:
-        if len(payload) < 9:
-            return []
         events = self._strange(heading)
         if not events and (heading.source, heading.kind) not in self.strangers:
             self._stood |= {heading.source, heading.destination}
-        election = Election(self.now, heading.source, wire.number(payload))
-        is_new = not any(before[1:] == election[1:] for before in self.elections)
-        if is_new:
-            self.elections.append(election)
-            events.append(Stood(election.node, election.term))
+        stood = Stood(heading.source, wire.number(payload))
+        if not any(before == stood for _, before in self.elections):
+            self.elections.append((self.now, stood))
+            events.append(stood)
         return events
 
     def _vote(self, heading: wire.Heading, payload: bytes, __: int) -> List[Event]:
-        if len(payload) >= 5:
-            self.votes.append(Vote(self.now, heading.source, heading.destination, bool(payload[4] & 0x80)))
+        self.votes.append((self.now, bool(payload[4] & 0x80)))
         return []
 
     def _appq(self, heading: wire.Heading, payload: bytes, __: int) -> List[Event]:
-        if len(payload) < 10:
-            return []
         events = self._strange(heading)
         if not events and (heading.source, heading.kind) not in self.strangers:
             self._led |= {heading.source, heading.destination}
@@ -442,9 +393,8 @@ class Scene:
                 events.append(Recorded(place, entry))
         call = self.calls.get((heading.source, heading.destination))
         if call is None or call.term != term:
-            call = self.calls[heading.source, heading.destination] = Call(self.now, term, place, commit)
-        call.moment, call.place, call.commit = self.now, place, commit
-        call.unanswered += 1
+            call = self.calls[heading.source, heading.destination] = Call(term)
+        call.place, call.commit, call.unanswered = place, commit, call.unanswered + 1
         if self.lead is None or (term, heading.source) != (self.lead.term, self.lead.node):
             if self.lead is None or term > self.lead.term:
                 events.append(Led(heading.source, term))
@@ -455,15 +405,12 @@ class Scene:
 
     def _app(self, heading: wire.Heading, payload: bytes, __: int) -> List[Event]:
         call = self.calls.get((heading.destination, heading.source))
-        if call is not None and len(payload) >= 5:
-            call.unanswered, call.answered = 0, self.now
-            if payload[4] & 0x80:
-                call.agreed = self.now
+        if call is not None:
+            call.unanswered = 0
+            call.agreed = self.now if payload[4] & 0x80 else call.agreed
         return []
 
     def _alloc(self, heading: wire.Heading, payload: bytes, __: int) -> List[Event]:
-        if not payload or len(payload) > 17:
-            return []
         node, part = payload[0] >> 1, payload[1:].hex()
         if heading.source == 0:
             asked = wire.asked_part(heading, payload)

@@ -14,7 +14,9 @@ import functools
 import struct
 from typing import Dict, Hashable, Iterable, List, NamedTuple, Optional, Tuple
 
-from .table import CRC_BYTES, DATAGRAM_HEAD, DATAGRAM_MOST_DATA, FRAME_BYTES, TRANSFER_IDS, TRANSFERS, DataType
+from .table import (
+    CRC_BYTES, DATAGRAM_HEAD, DATAGRAM_MOST_DATA, FRAME_BYTES, LONGEST_PAYLOAD, TRANSFER_IDS, TRANSFERS, DataType,
+)
 
 PRIORITY = 30  # of whatever a member sends
 START, END, TOGGLE = 0x80, 0x40, 0x20
@@ -28,6 +30,11 @@ RESPONSES = {  # request: response
     name: _NUMBERS["response", kind.data_type.number] for name, kind in TRANSFERS.items() if kind.kind == "request"
 }
 REQUESTS = {response: request for request, response in RESPONSES.items()}
+MOST = LONGEST_PAYLOAD + 1
+SIZES = {  # of the payloads that say what they should
+    "alloc": range(1, 18), "disc": range(1, 7), "stat": range(5, MOST), "infoq": range(MOST), "info": range(41, MOST),
+    "voteq": range(9, MOST), "vote": range(5, MOST), "appq": range(10, MOST), "app": range(5, MOST),
+}
 
 CAN_FRAME = struct.Struct("=IB3x8s")  # struct can_frame of linux/can.h
 EXTENDED, REMOTE, ERROR = 1 << 31, 1 << 30, 1 << 29  # in its identifier

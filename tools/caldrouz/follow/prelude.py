@@ -25,7 +25,6 @@ MOST_ELECTIONS = 20_000  # by which terms are raised
 MOST_TRIES = 8  # with other leaders
 EACH_NODE = 50  # milliseconds between two nodes: a member has sessions for some 80 of them at a time
 TERM_AND_NO_VOTE = 9  # the device call of an election before which the term is stored, and no vote
-LEAST_BYTES = {"appq": 10, "app": 5, "vote": 5}  # of the transfers that are looked into
 
 
 class CannotReach(Exception):
@@ -211,7 +210,7 @@ class Prelude:
         payload = self._transfers.take(None, frame)
         if not frame.tail.ends:
             return None
-        if payload is None or len(payload) < LEAST_BYTES.get(frame.heading.kind, 0):
+        if payload is None or len(payload) not in wire.SIZES.get(frame.heading.kind, ()):
             raise Broken(f"the program sends {frame}, which ends nothing that a member says")
         return Offer(frame.heading, frame.tail.transfer_id, payload, numbers)
 
