@@ -196,9 +196,9 @@ class Timings(unittest.TestCase):
         for record in logs.read_lines(lines).frames:
             said.take(record)
         way = timing.Way(1, "appq", 2)
-        self.assertEqual(said.reuse[way], timing.Least(1000, 4))
-        self.assertEqual(said.unanswered, {way: timing.Least(3000, 5)})
-        self.assertEqual(said.answers, {way: timing.Late(2, 3)})
+        self.assertEqual(said.reuse[way], timing.Span(1000, 4))
+        self.assertEqual(said.unanswered, {way: timing.Span(3000, 5)})
+        self.assertEqual(said.answers, {way: timing.Span(2, 3)})
 
     def test_a_member_that_answers_before_its_first_status_was_silent_until_then(self) -> None:
         lines = [
@@ -210,7 +210,7 @@ class Timings(unittest.TestCase):
         said = timing.Timing([1, 2])
         for record in logs.read_lines(lines).frames:
             said.take(record)
-        self.assertEqual(said.pauses, {1: [timing.Late(12500, 4)]})
+        self.assertEqual(said.pauses, {1: [timing.Span(12500, 4)]})
 
 
 class Settings(unittest.TestCase):

@@ -96,11 +96,19 @@ class Interface(NamedTuple):
     state: Optional[str]
 
 
+def _said(*words: str) -> Optional[str]:
+    """What a command of the system wrote; None where it is not there, or cannot tell."""
+    try:
+        done = subprocess.run(words, capture_output=True, text=True, errors="replace", timeout=30)
+    except (OSError, subprocess.TimeoutExpired):
+        return None
+    return done.stdout if done.returncode == 0 and done.stdout.strip() else None
+
+
 def interface(name: str) -> Optional[Interface]:
     try:
-        done = subprocess.run(["ip", "-json", "-details", "link", "show", "dev", name], capture_output=True, text=True)
-        told = json.loads(done.stdout)[0] if done.returncode == 0 else None
-    except (OSError, ValueError, LookupError):
+        told = json.loads(_said("ip", "-json", "-details", "link", "show", "dev", name) or "")[0]
+    except (ValueError, LookupError):
         return None
     info = _part(told, "linkinfo")
     data = _part(info, "info_data")
@@ -141,20 +149,9 @@ def settings(path: str) -> Dict[str, str]:
 
 def journal(unit: str) -> Optional[str]:
     """What a unit wrote to the journal since the machine's start, or None where that is not told."""
-    try:
-        words = ["journalctl", "-q", "-b", "-o", "cat", "--no-pager", "-n", "5000", "-u", unit]
-        done = subprocess.run(words, capture_output=True, text=True, errors="replace", timeout=30)
-    except (OSError, subprocess.TimeoutExpired):
-        return None
-    return done.stdout if done.returncode == 0 and done.stdout.strip() else None
+    return _said("journalctl", "-q", "-b", "-o", "cat", "--no-pager", "-n", "5000", "-u", unit)
 
 
 def unit_value(unit: str, name: str) -> Optional[str]:
     """A property of a unit of systemd, or None where that is not told."""
-    try:
-        done = subprocess.run(
-            ["systemctl", "show", "-p", name, "--value", unit], capture_output=True, text=True, timeout=30
-        )
-    except (OSError, subprocess.TimeoutExpired):
-        return None
-    return done.stdout.strip() or None if done.returncode == 0 else None
+    return _said("systemctl", "show", "-p", name, "--value", unit)

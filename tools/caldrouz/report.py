@@ -1,9 +1,7 @@
 """Rows of schedules and lines of reports, by docs/FORMATS.md: the one reader of both. Not proved.
 
     row = report.read_row("rx 1 7 2010")               # a Row; NotARow
-    line = report.read_line("12 1 L 1 1 1 4 took +alloc:0")
-    line.row, line.subject                             # 12, "1" ("a1": a device; "ext": the outside)
-    line.event                                         # one of the types of Event, here a Step
+    event = report.read_line("12 1 L 1 1 1 4 took +alloc:0")   # one of the types of Event, here a Step; NotALine
     report.End().take(line)                            # the lines behind those of the rows
 """
 from __future__ import annotations
@@ -167,19 +165,12 @@ class Plain(NamedTuple):
 Event = Union[Opening, Step, DeviceStep, Sent, Outside, Plain]
 
 
-class Line(NamedTuple):
-    """A line of a report: of a row, about a member, a device or the outside."""
-
-    row: int
-    subject: str
-    event: Event
-
-
-def read_line(text: str) -> Line:
-    words = text.split(" ")
+def read_line(text: str) -> Event:
+    """What a line says behind the number of its row and its subject (a member; `a1`, a device; `ext`)."""
     try:
-        row, subject, event = words[0], words[1], words[2:]
-        return Line(number(row), subject, _read_event(subject, event))
+        row, subject, *words = text.split(" ")
+        number(row)
+        return _read_event(subject, words)
     except (ValueError, IndexError):
         raise NotALine(f"'{text}' is no line of a row") from None
 
@@ -226,18 +217,11 @@ def _read_marks(words: List[str]) -> List[Mark]:
 # --- what stands behind the lines of the rows
 
 
-class LogEntry(NamedTuple):
-    """An entry of a committed log at the end of a report."""
-
-    node: int
-    unique_id: str
-
-
 @dataclass
 class End:
-    """The lines behind those of the rows: the committed logs by member, and the last line."""
+    """The lines behind those of the rows: the committed logs by member, as (node ID, unique ID), and the last line."""
 
-    logs: Dict[int, List[LogEntry]] = field(default_factory=dict)
+    logs: Dict[int, List[Tuple[int, str]]] = field(default_factory=dict)
     last: List[str] = field(default_factory=list)
     _member: Optional[int] = None
 
@@ -250,7 +234,7 @@ class End:
                 self._member = number(words[1])
                 self.logs[self._member] = []
             elif self._member is not None and number(words[0]):
-                self.logs[self._member].append(LogEntry(number(words[1]), words[2]))
+                self.logs[self._member].append((number(words[1]), words[2]))
         except ValueError:
             return
 

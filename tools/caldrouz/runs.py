@@ -254,7 +254,7 @@ class _Reader:
                 f"line {number} of the report, '{line_text}', is not that of row {number} of the schedule, '{text}'"
             )
         try:
-            said = self._change(number, row, report.read_line(line_text).event)
+            said = self._change(number, row, report.read_line(line_text))
         except (LookupError, ValueError):
             raise Mismatch(f"line {number} of the report, '{line_text}', is none of row '{text}'") from None
         counts = self.run.counts

@@ -30,8 +30,8 @@ class Way(NamedTuple):
         return f"{self.source} {NAMES[self.kind]}" + (f" to {self.destination}" if self.destination else "")
 
 
-class Least(NamedTuple):
-    """The least time after which a transfer ID was used again, in milliseconds, and the line where it was."""
+class Span(NamedTuple):
+    """How many milliseconds went by up to a line of the log."""
 
     time: int
     line: int
@@ -45,24 +45,17 @@ class Sent:
     answered: bool = False
 
 
-class Late(NamedTuple):
-    """An answer, and how many milliseconds after its request it came."""
-
-    time: int
-    line: int
-
-
 class Timing:
     """What was found so far, for these members."""
 
     def __init__(self, members: Collection[int]) -> None:
         self.members = members
-        self.reuse: Dict[Way, Optional[Least]] = {}  # by the way: the least time, or None where no ID came round
-        self.unanswered: Dict[Way, Least] = {}  # of requests: the least time of those whose last use had no answer
-        self.answers: Dict[Way, Late] = {}  # of requests: the latest answer
+        self.reuse: Dict[Way, Optional[Span]] = {}  # the least time after which an ID was used again; None: none was
+        self.unanswered: Dict[Way, Span] = {}  # of requests: the least time of those whose last use had no answer
+        self.answers: Dict[Way, Span] = {}  # of requests: the latest answer, from its request on
         self.repeats: List[int] = []  # lines with a frame that came twice
         self.disorder: List[int] = []  # lines with a frame that does not go on where its transfer stands
-        self.pauses: Dict[int, List[Late]] = {}  # by member: for how long it was silent before it began anew
+        self.pauses: Dict[int, List[Span]] = {}  # by member: for how long it was silent before it began anew
         self._used: Dict[Tuple[Way, int], Sent] = {}
         self._last: Dict[int, logs.Record] = {}  # by identifier: the last frame
         self._since: Dict[int, List[int]] = {}  # by member: when its frames came, from its last NodeStatus on
@@ -82,12 +75,10 @@ class Timing:
         before = self._used.get((way, tail.transfer_id))
         least = self.reuse.setdefault(way, None)
         if before is not None:
-            time = stamp - before.stamp
-            if least is None or time < least.time:
-                self.reuse[way] = Least(time, record.line)
+            span = Span(stamp - before.stamp, record.line)
+            self.reuse[way] = min(span, least or span)
             if way.kind in wire.RESPONSES and not before.answered:
-                if way not in self.unanswered or time < self.unanswered[way].time:
-                    self.unanswered[way] = Least(time, record.line)
+                self.unanswered[way] = min(span, self.unanswered.get(way, span))
         self._used[way, tail.transfer_id] = Sent(stamp)
         if way.kind in wire.REQUESTS:
             self._look_at_answer(way, tail.transfer_id, record)
@@ -97,7 +88,7 @@ class Timing:
         request = self._used.get((asked, transfer_id))
         if request is not None and not request.answered:
             request.answered = True
-            late = Late(record.stamp - request.stamp, record.line)
+            late = Span(record.stamp - request.stamp, record.line)
             self.answers[asked] = max(self.answers.get(asked, late), late)
 
     def _look_at_order(self, record: logs.Record) -> None:
@@ -121,6 +112,6 @@ class Timing:
             # the last one of the old life is that behind which it was silent for longest.
             opened, came = record.stamp - 1000 * uptime, self._since[member]
             pause = max(min(after, opened) - before for before, after in zip(came, came[1:]))
-            self.pauses.setdefault(member, []).append(Late(pause, record.line))
+            self.pauses.setdefault(member, []).append(Span(pause, record.line))
         self._up[member] = uptime
         self._since[member] = [record.stamp]

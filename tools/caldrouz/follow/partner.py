@@ -2,7 +2,7 @@
 from __future__ import annotations
 
 import subprocess
-from typing import IO, List, Optional, Sequence, Tuple
+from typing import List, Optional, Sequence
 
 from .. import report
 
@@ -47,21 +47,17 @@ class Process:
             raise Broken(f"{words[0]}: {error.strerror}") from None
         self.taken = 0
 
-    @property
-    def _pipes(self) -> Tuple[IO[bytes], IO[bytes]]:
-        assert self.running.stdin and self.running.stdout
-        return self.running.stdin, self.running.stdout
-
     def write(self, rows: List[str]) -> None:
-        given, _ = self._pipes
+        assert self.running.stdin
         try:
-            given.write("".join(row + "\n" for row in rows).encode())
-            given.flush()
+            self.running.stdin.write("".join(row + "\n" for row in rows).encode())
+            self.running.stdin.flush()
         except OSError:
             raise Broken("the program took no more rows") from None
 
     def read(self) -> str:
-        line = self._pipes[1].readline().decode("ascii", "replace")
+        assert self.running.stdout
+        line = self.running.stdout.readline().decode("ascii", "replace")
         if not line.endswith("\n"):
             raise Broken(f"the program ended at row {self.taken + 1}")
         return line[:-1]
@@ -114,7 +110,7 @@ class Partner:
             self.drop()
             raise Refused(f"'{text}' would be refused: {line}")
         try:
-            event = report.read_line(line).event
+            event = report.read_line(line)
         except report.NotALine as error:
             raise Broken(str(error)) from None
         self.rows.append(text)

@@ -214,8 +214,8 @@ class Prelude:
             raise Broken(f"the program sends {frame}, which ends nothing that a member says")
         return Offer(frame.heading, frame.tail.transfer_id, payload, numbers)
 
-    def _tick(self, member: int, word: int = 0) -> List[Offer]:
-        return self._step(member, f"tick {member} {self.now} {word}")
+    def _tick(self, member: int) -> List[Offer]:
+        return self._step(member, f"tick {member} {self.now} 0")
 
     def _give(self, member: int, offer: Offer) -> List[Offer]:
         """A member receives a whole transfer."""
