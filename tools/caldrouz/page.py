@@ -38,10 +38,7 @@ def facts(run: Run, title: str) -> Dict[str, Any]:
             [it.frame.row, it.row, index[it.frame.lane], index[it.to], it.frame.heading.kind, it.how, it.frame.number]
             for it in run.arrows
         ],
-        "lost": [
-            [it.frame.row, index[it.frame.lane], index[it.to], it.frame.heading.kind, it.frame.number]
-            for it in run.lost
-        ],
+        "lost": [[it.row, index[it.lane], index[to], it.heading.kind, it.number] for it, to in run.lost],
         "marks": [[mark.row, index[mark.lane], mark.what, mark.text] for mark in run.marks],
         "events": sorted(run.events),
         "places": run.tail.places(),

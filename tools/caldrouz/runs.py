@@ -99,13 +99,6 @@ class Arrow(NamedTuple):
     how: str
 
 
-class Lost(NamedTuple):
-    """A frame that was never given to a member that it was for."""
-
-    frame: BusFrame
-    to: Lane
-
-
 class Mark(NamedTuple):
     """What happened at a row. `what` is open, stop, fault, armed, full, told, commit or hold."""
 
@@ -128,33 +121,23 @@ class Counts:
 
 @dataclass
 class Run:
-    """A run, as far as it goes, and all of the rows of a window.
-
-    rows      the rows of the window as they are
-    lines     their lines, without their numbers
-    said      a sentence for each ("" where it changed nothing to speak of, and of frames that come on the bus)
-    moments   the moment of each: its own, else the latest of its member, else that of the row before
-    marks, events, arrows, lost    of these rows
-    frames    all frames of the run by number
-    given     of the frames of these rows, by number: the lanes that were given them
-    end       how the report ends: whole, refused or cut; and a sentence of it
-    """
+    """A run, as far as it goes, and all of the rows of a window."""
 
     window: Window
-    rows: List[str] = field(default_factory=list)
-    lines: List[str] = field(default_factory=list)
-    said: List[str] = field(default_factory=list)
-    moments: List[int] = field(default_factory=list)
+    rows: List[str] = field(default_factory=list)  # of the window, as they are
+    lines: List[str] = field(default_factory=list)  # theirs, without their numbers
+    said: List[str] = field(default_factory=list)  # a sentence for each; "" where it changed nothing, and of frames
+    moments: List[int] = field(default_factory=list)  # of each: its own, its member's latest, or that of the row before
     arrows: List[Arrow] = field(default_factory=list)
-    lost: List[Lost] = field(default_factory=list)
+    lost: List[Tuple[BusFrame, Lane]] = field(default_factory=list)  # a frame, and a member that was never given it
     marks: List[Mark] = field(default_factory=list)
     events: Set[int] = field(default_factory=set)
-    frames: Dict[int, BusFrame] = field(default_factory=dict)
-    given: Dict[int, Set[Lane]] = field(default_factory=dict)
+    frames: Dict[int, BusFrame] = field(default_factory=dict)  # of the whole run, by number
+    given: Dict[int, Set[Lane]] = field(default_factory=dict)  # by number: who was given a frame of the window
     member_lanes: Dict[int, Lane] = field(default_factory=dict)
     device_lanes: List[Lane] = field(default_factory=list)
     counts: Counts = field(default_factory=Counts)
-    end: str = ""
+    end: str = ""  # whole, refused or cut
     end_words: str = ""
     tail: report.End = field(default_factory=report.End)
 
@@ -467,7 +450,7 @@ def _hear(lane: Lane, frame: BusFrame) -> None:
 # --- the whole run
 
 
-def _find_lost(run: Run) -> Iterator[Lost]:
+def _find_lost(run: Run) -> Iterator[Tuple[BusFrame, Lane]]:
     for frame in run.frames.values():
         kind, to = frame.heading.kind, frame.heading.destination
         if not run.window.has(frame.row) or kind == wire.OTHER or kind == "alloc" and frame.heading.source:
@@ -475,7 +458,7 @@ def _find_lost(run: Run) -> Iterator[Lost]:
         for member in [to] if to else run.member_lanes:
             lane = run.member_lanes.get(member)
             if lane and lane not in run.given.get(frame.number, ()) and lane is not frame.lane:
-                yield Lost(frame, lane)
+                yield frame, lane
 
 
 def _give_devices_their_lanes(run: Run) -> None:

@@ -7,7 +7,7 @@ from __future__ import annotations
 
 import bisect
 import functools
-from typing import Dict, Iterator, List, Optional, Tuple
+from typing import Dict, Iterator, List, NamedTuple, Optional, Tuple
 
 from .. import logs, wire
 from ..logs import Log, Record
@@ -31,27 +31,13 @@ class Logged:
         self.spell: Optional[Spell] = None
 
 
-class Shown:
-    """A transfer that the log has: its transfer ID, and the stamps of its first and of its last frame there."""
+class Shown(NamedTuple):
+    """A transfer that the log has: the index and the stamp of its last frame there, and the stamp of its first one."""
 
-    __slots__ = ("transfer_id", "first_stamp", "stamp")
-
-    def __init__(self, frame: Logged) -> None:
-        self.transfer_id, self.first_stamp, self.stamp = frame.tail.transfer_id, frame.stamp, frame.stamp
-
-
-class Transfers:
-    """The transfers of one identifier that the log has, and the indices of their last frames."""
-
-    def __init__(self) -> None:
-        self.shown: List[Shown] = []
-        self.ends: List[int] = []
-
-    def take(self, frame: Logged) -> None:
-        if frame.tail.starts or not self.shown or self.shown[-1].transfer_id != frame.tail.transfer_id:
-            self.shown.append(Shown(frame))
-            self.ends.append(frame.index)
-        self.shown[-1].stamp, self.ends[-1] = frame.stamp, frame.index
+    end: int
+    stamp: int
+    first_stamp: int
+    transfer_id: int
 
 
 class Spell:
@@ -66,10 +52,13 @@ class Spell:
         self.late = [frame.stamp - STATUS_INTERVAL * uptime - self.opened for uptime, frame in statuses]
         self.first, self.last = frames[0], frames[-1]
         self.late_start = not self.first.tail.starts or min(self.statuses) > 1  # its first frames never came to the log
-        self.transfers: Dict[int, Transfers] = {}  # by identifier
+        self.shown: Dict[int, List[Shown]] = {}  # by identifier
         for frame in frames:
-            frame.spell = self
-            self.transfers.setdefault(frame.frame.identifier, Transfers()).take(frame)
+            frame.spell, transfer_id = self, frame.tail.transfer_id
+            shown = self.shown.setdefault(frame.frame.identifier, [])
+            begins = frame.tail.starts or not shown or shown[-1].transfer_id != transfer_id
+            first_stamp = frame.stamp if begins else shown.pop().first_stamp
+            shown.append(Shown(frame.index, frame.stamp, first_stamp, transfer_id))
 
     def clock(self, stamp: int) -> int:
         """The member's clock, as a moment of the log, when a frame was made that has this stamp."""
@@ -93,9 +82,8 @@ class Spell:
 
     def _from(self, identifier: int, index: int) -> Iterator[Shown]:
         """The transfers of this identifier that are not over before this index."""
-        transfers = self.transfers.get(identifier, Transfers())
-        for at in range(bisect.bisect_left(transfers.ends, index), len(transfers.ends)):
-            yield transfers.shown[at]
+        shown = self.shown.get(identifier, [])
+        return (shown[at] for at in range(bisect.bisect_left(shown, (index,)), len(shown)))
 
 
 def _opened(statuses: List[Tuple[int, Logged]]) -> int:
