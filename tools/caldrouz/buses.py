@@ -48,8 +48,6 @@ class UdpBus:
 
 
 class CanBus:
-    """A CAN interface of the system."""
-
     def __init__(self, channel: str) -> None:
         self.link = socket.socket(socket.AF_CAN, socket.SOCK_RAW, socket.CAN_RAW)
         self.link.setsockopt(socket.SOL_SOCKET, socket.SO_RCVBUF, ROOM)

@@ -39,7 +39,6 @@ class Log:
     broken: List[int] = field(default_factory=list)
 
     def take(self, number: int, line: str) -> None:
-        """A line of `candump -L`."""
         line = line.strip()
         found = _LINE.fullmatch(line)
         if found and int(found[4], 16) < FIRST_WIDE:
@@ -53,7 +52,6 @@ class Log:
 
 
 def read(path: str) -> Log:
-    """The log of a file."""
     if path.lower().endswith(BY_PYTHON_CAN):
         return _read_by_python_can(path)
     try:
@@ -64,7 +62,6 @@ def read(path: str) -> Log:
 
 
 def read_lines(lines: Iterable[str]) -> Log:
-    """The log of lines of `candump -L`."""
     log = Log()
     for number, line in enumerate(lines, 1):
         log.take(number, line)

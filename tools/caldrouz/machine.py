@@ -23,8 +23,6 @@ SETTING = re.compile(r"\s*([A-Z_]+)=(.*)")
 
 
 class Disk(NamedTuple):
-    """The file system of a file."""
-
     kind: str
     mounted: str
     options: List[str]

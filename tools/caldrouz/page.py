@@ -52,7 +52,6 @@ def _count(number: int, one: str, many: str = "") -> str:
 
 
 def summary(run: Run) -> str:
-    """The run in one sentence."""
     counts = run.counts
     nothing = counts.first_moment is None
     devices = sum(lane.kind in ("device", "heard") for lane in run.lanes)

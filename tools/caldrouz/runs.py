@@ -71,7 +71,6 @@ class Lane:
         return self.role if self.mode == "run" else self.mode
 
     def note(self, row: int) -> None:
-        """Keeps what the row changed."""
         what = self.what()
         if self.spans.note(row, what, self.term):
             self.wins += what == report.LEADER
@@ -81,8 +80,6 @@ class Lane:
 
 
 class BusFrame:
-    """A frame on the bus of a run."""
-
     __slots__ = ("number", "row", "lane", "heading", "payload")
 
     def __init__(self, number: int, row: int, lane: Lane, heading: wire.Heading, payload: Optional[bytes]) -> None:
@@ -150,7 +147,6 @@ class Run:
         return [self.outside, *self.device_lanes, *self.member_lanes.values()]
 
     def words(self, frame: BusFrame) -> str:
-        """What a frame says."""
         teller = wire.Teller(self.member_lanes)
         if frame.payload is not None:
             return teller.says(frame.heading, frame.payload)
@@ -214,8 +210,6 @@ def _read_end(run: Run, unfinished: str, following: Optional[str]) -> Tuple[str,
 
 
 class _Reader:
-    """Goes through the rows and their lines."""
-
     def __init__(self, run: Run) -> None:
         self.run, self.window = run, run.window
         self.slots: Dict[str, Lane] = {}  # the devices that are there, by their subject
@@ -250,7 +244,6 @@ class _Reader:
             self.run.moments.append(self.now)
 
     def _change(self, number: int, row: Row, event: report.Event) -> str:
-        """What a row did, in words."""
         if isinstance(event, report.Outside):
             self._put(number, self.run.outside, event.number, report.frame(row.words[1], row.words[2]))
             return ""
@@ -280,7 +273,6 @@ class _Reader:
             self.run.events.add(number)
 
     def _put(self, number: int, lane: Lane, frame_number: int, frame: wire.Frame) -> None:
-        """A frame comes on the bus."""
         heading, payload = frame.heading, self.transfers.take(lane, frame)
         if payload is not None and lane.kind == "member":
             pair = wire.told(heading, payload)

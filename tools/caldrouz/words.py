@@ -102,7 +102,6 @@ def naming(name: str, status: int = CANNOT) -> Iterator[None]:
 
 
 def open_bus(word: str, sends: bool = False, status: int = CANNOT) -> buses.Bus:
-    """A bus that is there now."""
     with naming(word, status):
         return buses.open_bus(word, sends)
 

@@ -151,7 +151,6 @@ class Cluster:
                     raise Conflict(f"the run has an election of term {member.term} there, of which the log has nothing")
 
     def receive(self, member: Member, position: int) -> None:
-        """The member is given a frame of the bus."""
         on_bus = self.bus[position]
         moment = self.clock(member, on_bus.stamp) - self.early
         self.tick_unshown(member, moment)

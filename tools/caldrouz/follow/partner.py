@@ -36,8 +36,6 @@ def _ended_with(words: List[str], errors: Optional[int] = None) -> int:
 
 
 class Process:
-    """A process of the program, and how many rows it has."""
-
     def __init__(self, words: List[str]) -> None:
         try:
             self.running = subprocess.Popen(

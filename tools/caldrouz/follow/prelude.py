@@ -218,7 +218,6 @@ class Prelude:
         return self._step(member, f"tick {member} {self.now} 0")
 
     def _give(self, member: int, offer: Offer) -> List[Offer]:
-        """A member receives a whole transfer."""
         offered: List[Offer] = []
         for number in offer.frames:
             offered += self._step(member, f"rx {member} {number} {self.now}")
@@ -386,7 +385,6 @@ class Prelude:
             raise CannotReach(f"member {leader} does not record node {node} at place {place}")
 
     def _call(self, leader: int, member: int) -> Offer:
-        """The leader's next call to a member."""
         call = self.lives[leader].calls.pop(member, None)
         for _ in range(2):
             if call is not None:

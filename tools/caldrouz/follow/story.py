@@ -17,7 +17,6 @@ def some(items: List[str]) -> str:
 
 
 def tell(log: Log, recording: Recording, found: Found) -> Iterator[str]:
-    """The lines that are printed."""
     total = len(recording.frames)
     yield (
         f"{total:,} frames of the log are a matter of allocators; "
