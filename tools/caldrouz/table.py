@@ -48,14 +48,10 @@ DISCOVERY_INTERVAL = 1000  # The time between two Discoveries.
 STATUS_INTERVAL = 1000  # The time between two NodeStatus.
 TRANSFER_TIMEOUT = 2000
 
-# The sizes that bound an allocator (can_frame)
+# Sizes of an allocator (can_frame)
 MOST_MEMBERS = 5  # A cluster has at most so many members: a Discovery of the standard names up to five.
 LOG_LIMIT = 127  # A log has at most so many entries.
-NODE_IDS = 128  # Node IDs and what is counted by node: 0 is anonymous, 1 to 127 are nodes.
 LONGEST_PAYLOAD = 376  # The longest payload of a transfer, in bytes.
-LONGEST_TRANSFER = 378  # The longest payload with the CRC that stands before it, in bytes.
-SESSIONS = 160  # The receiver of an allocator follows at most so many transfers at once.
-BLOCKS = 128  # The receiver of an allocator has so many blocks of memory for them.
 
 # The CAN bus transport layer of UAVCAN v0 (transfer_rx)
 TRANSFER_IDS = 32  # Transfer IDs are counted modulo this.
@@ -101,6 +97,3 @@ ORIGIN_WIN = 4  # A leader's blank, which this member appended as the leader.
 
 # The version of a store (raft_log)
 NEWEST = 2  # The version of a store in which each entry has its origin.
-
-# The most devices of a schedule (bus_world)
-SEATS = 8  # How many allocatees there may be at once.

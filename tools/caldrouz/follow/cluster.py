@@ -2,7 +2,7 @@
 from __future__ import annotations
 
 import itertools
-from typing import Dict, List, NamedTuple, Optional
+from typing import Dict, List, NamedTuple, Optional, Tuple
 
 from .. import report, wire
 from ..report import Opening, Outside, Plain, Sent, Step
@@ -37,12 +37,7 @@ class OnBus(NamedTuple):
     heard: bool = True
 
 
-class Unlogged(NamedTuple):
-    """A frame of the run that never came to the log."""
-
-    row: int
-    node: int
-    frame: wire.Frame
+Unlogged = Tuple[int, int, wire.Frame]  # a row, its member, and a frame of the run that never came to the log
 
 
 class Kept(NamedTuple):
@@ -201,7 +196,7 @@ class Cluster:
         sent = self._send(member)
         stamp = self.recording.begin + member.clock
         heard = self.heard or not member.spell.late_start or stamp >= member.spell.first.stamp
-        self.unlogged.append(Unlogged(len(self.partner.rows), member.node, sent.frame))
+        self.unlogged.append((len(self.partner.rows), member.node, sent.frame))
         self.bus.append(OnBus(sent.number, sent.frame, stamp, None, heard))
 
     def is_sent(self, member: Member, logged: Logged) -> bool:
@@ -217,7 +212,7 @@ class Cluster:
                     return True
                 if logged.tail.starts or sent.frame.tail.ends:
                     raise Conflict(f"the run has {sent.frame} there", head.row)
-                self.unlogged.append(Unlogged(len(self.partner.rows), member.node, sent.frame))
+                self.unlogged.append((len(self.partner.rows), member.node, sent.frame))
                 self.bus.append(OnBus(sent.number, sent.frame, logged.stamp, None))
             elif self._is_shown(member, head):
                 before = head.identifier < logged.frame.identifier

@@ -88,15 +88,6 @@ class Plan(NamedTuple):
         return list(dict.fromkeys(max(member.clock, min(moment, bound)) for moment in moments))
 
 
-class Opening(NamedTuple):
-    """A member opens, for the spell at this place."""
-
-    place: int
-
-    def act(self, cluster: Cluster, node: int) -> None:
-        cluster.open(node, self.place)
-
-
 class Stop(NamedTuple):
     """A member stops after the frames at these positions; with calls, inside the step of the next one."""
 

@@ -6,8 +6,9 @@ more is received before, or an earlier choice of this member is taken back. Only
 """
 from __future__ import annotations
 
+import functools
 from dataclasses import dataclass
-from typing import Callable, Dict, List, NamedTuple, Optional, Sequence, Tuple, Union
+from typing import Callable, Dict, List, NamedTuple, Optional, Sequence, Tuple
 
 from .. import wire
 from . import plans
@@ -25,7 +26,7 @@ BEGINNINGS = 40  # how often the run is begun anew for one line of the log
 OPEN, STOP = 0, 1
 Key = Tuple[str, int]  # a place of the search: "frame" or "happening", and which
 Progress = Callable[[int, int], None]  # is told which frame is looked for, of how many
-AnyPlan = Union[plans.Plan, plans.Opening, plans.Stop]
+Act = Callable[[Cluster, int], None]  # tries a plan of a member
 
 
 class Happening(NamedTuple):
@@ -122,15 +123,14 @@ class Search:
         happening = self.happenings[self.happened] if self.happened < len(self.happenings) else None
         if happening and (frame is None or happening.stamp <= frame.stamp):
             key, node = ("happening", self.happened), happening.node
-            if happening.what == OPEN:
-                tried: Sequence[AnyPlan] = [plans.Opening(happening.place)]
-            else:
-                tried = plans.of_stop(cluster, node)
+            tried: List[Act] = [functools.partial(Cluster.open, place=happening.place)]
+            if happening.what == STOP:
+                tried = [plan.act for plan in plans.of_stop(cluster, node)]
         elif frame is None:
             return False
         elif frame.heading.source in cluster.recording.members:
             key, node = ("frame", cluster.index), frame.heading.source
-            tried = plans.of_frame(cluster, frame)
+            tried = [plan.act for plan in plans.of_frame(cluster, frame)]
         else:
             try:
                 cluster.outside(frame)
@@ -156,12 +156,12 @@ class Search:
             reason = self.reasons.get(key, unasked if is_answer else "it is not what this member has next")
             self._note(Failure(frame, reason))
 
-    def _choose(self, key: Key, node: int, tried: Sequence[AnyPlan]) -> bool:
+    def _choose(self, key: Key, node: int, tried: Sequence[Act]) -> bool:
         """Takes the first plan that goes, of those that were not taken back."""
         kept, first, self.blamed = self.cluster.keep(), self.chosen.get(key, 0), None
         for number in range(first, len(tried)):
             try:
-                tried[number].act(self.cluster, node)
+                tried[number](self.cluster, node)
             except (Conflict, Refused) as reason:
                 self.reasons.setdefault(key, str(reason))
                 self.blamed = reason.row if isinstance(reason, Conflict) and len(tried) == 1 else None
@@ -262,14 +262,12 @@ def _happenings(recording: Recording) -> List[Happening]:
 def search(recording: Recording, words: List[str], before: Before, progress: Progress) -> Found:
     """The run that goes furthest, of those by different delays; the first that explains the whole log."""
     recording.begin -= before.moment
-    best: Optional[Found] = None
+    failed: Dict[int, Found] = {}  # by the index of the frame that is not explained
     for heard in (False, True) if recording.begins_late else (False,):
         for early in DELAYS:
             partner = Partner(words, before.rows, before.lines)
             found = Search(recording, partner, early, heard, progress).follow()
             if found.failure is None:
                 return found
-            if best is None or best.failure is None or found.failure.frame.index > best.failure.frame.index:
-                best = found
-    assert best is not None
-    return best
+            failed.setdefault(found.failure.frame.index, found)
+    return failed[max(failed)]
