@@ -38,18 +38,6 @@ class Log:
     passed_over: int = 0
     broken: List[int] = field(default_factory=list)
 
-    def take(self, number: int, line: str) -> None:
-        line = line.strip()
-        found = _LINE.fullmatch(line)
-        if found and int(found[4], 16) < FIRST_WIDE:
-            stamp = int(found[1]) * 1000 + int((found[2] + "000")[:3])
-            frame = Frame(int(found[4], 16), bytes.fromhex(found[5]))
-            self.frames.append(Record(number, stamp, found[3], frame))
-        elif found or _OTHER_LINE.match(line) or not line:
-            self.passed_over += 1
-        else:
-            self.broken.append(number)
-
 
 def read(path: str) -> Log:
     if path.lower().endswith(BY_PYTHON_CAN):
@@ -63,8 +51,15 @@ def read(path: str) -> Log:
 
 def read_lines(lines: Iterable[str]) -> Log:
     log = Log()
-    for number, line in enumerate(lines, 1):
-        log.take(number, line)
+    for number, line in enumerate(map(str.strip, lines), 1):
+        found = _LINE.fullmatch(line)
+        if found and int(found[4], 16) < FIRST_WIDE:
+            stamp = int(found[1]) * 1000 + int((found[2] + "000")[:3])
+            log.frames.append(Record(number, stamp, found[3], Frame(int(found[4], 16), bytes.fromhex(found[5]))))
+        elif found or _OTHER_LINE.match(line) or not line:
+            log.passed_over += 1
+        else:
+            log.broken.append(number)
     return log
 
 
@@ -122,9 +117,7 @@ def mend_stamps(frames: List[Record], uptimes: List[Uptime]) -> Tuple[List[Recor
             continue  # one that is late alone
         if abs(by) <= JUMP + 10 * (seconds - had):
             continue
-        steps = [
-            (frames[at].stamp - frames[at - 1].stamp - moved.get(at, 0), at) for at in range(was + 1, index + 1)
-        ]
+        steps = [(frames[at].stamp - frames[at - 1].stamp - moved.get(at, 0), at) for at in range(was + 1, index + 1)]
         step, at = max(steps) if by > 0 else min(steps)
         if step * by > 0 and abs(step) > abs(by) / 2:
             moved[at] = moved.get(at, 0) + by

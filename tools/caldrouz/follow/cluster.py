@@ -84,9 +84,6 @@ class Cluster:
     def clock(self, member: Member, stamp: int) -> int:
         return self.moment(member.spell.clock(stamp))
 
-    def bound(self, member: Member) -> int:
-        return member.bound(self.index)
-
     # --- rows
 
     def outside(self, logged: Logged) -> None:
@@ -149,7 +146,7 @@ class Cluster:
         on_bus = self.bus[position]
         moment = self.clock(member, on_bus.stamp) - self.early
         self.tick_unshown(member, moment)
-        member.clock = max(member.clock, min(moment, self.bound(member), member.before_calls()))
+        member.clock = max(member.clock, min(moment, member.bound(self.index), member.before_calls()))
         term = member.term
         step = self._step(member, f"rx {member.node} {on_bus.number} {member.clock}", on_bus.frame)
         member.at = position + 1
@@ -286,7 +283,7 @@ class Cluster:
 
     def elect(self, member: Member, frame: Logged) -> None:
         """A tick at which the member stands for election. The word that it had before makes it wait until then."""
-        moment = max(member.clock, min(self.clock(member, frame.stamp), self.bound(member)))
+        moment = max(member.clock, min(self.clock(member, frame.stamp), member.bound(self.index)))
         wait = moment - member.since
         if wait < ELECTION_WAIT:
             raise Conflict(

@@ -57,7 +57,7 @@ class Plan(NamedTuple):
         """Ticks where the frame is due before this receipt, and says whether it is sent then."""
         moment = cluster.clock(member, cluster.bus[position].stamp) - cluster.early
         for due in member.due(self.frame):
-            if member.clock <= due <= min(moment, cluster.bound(member)):
+            if member.clock <= due <= min(moment, member.bound(cluster.index)):
                 cluster.tick(member, due)
                 if cluster.is_sent(member, self.frame):
                     return True
@@ -82,7 +82,7 @@ class Plan(NamedTuple):
         if kind == "voteq" and self.frame.tail.starts and wire.number(data, 2) > member.term:
             cluster.elect(member, self.frame)
             return []
-        clock, bound, due = cluster.clock(member, self.frame.stamp), cluster.bound(member), member.due(self.frame)
+        clock, bound, due = cluster.clock(member, self.frame.stamp), member.bound(cluster.index), member.due(self.frame)
         first = max([clock - EARLY] + [moment for moment in due if moment <= clock])
         moments = [first, clock] + sorted(moment for moment in due if moment > clock)
         return list(dict.fromkeys(max(member.clock, min(moment, bound)) for moment in moments))
