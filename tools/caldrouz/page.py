@@ -21,8 +21,8 @@ def facts(run: Run, title: str) -> Dict[str, Any]:
     return {
         "title": title,
         "first": run.window.first,
-        "last": min(run.window.last, run.counts.rows),
-        "total": run.counts.rows,
+        "last": min(run.window.last, run.total),
+        "total": run.total,
         "end": run.end,
         "end_words": run.end_words,
         "lanes": [
@@ -52,15 +52,13 @@ def _count(number: int, one: str, many: str = "") -> str:
 
 
 def summary(run: Run) -> str:
-    counts = run.counts
-    nothing = counts.first_moment is None
     devices = sum(lane.kind in ("device", "heard") for lane in run.lanes)
     parts = [
-        f"{counts.rows:,} row{'s' * (counts.rows != 1)}",
+        f"{run.total:,} row{'s' * (run.total != 1)}",
         _count(len(run.member_lanes), "member"),
-        "no moment" if nothing else f"{counts.first_moment:,} to {counts.last_moment:,} ms",
-        _count(counts.stops, "stop"),
-        _count(counts.faults, "failure"),
+        "no moment" if run.first_moment is None else f"{run.first_moment:,} to {run.last_moment:,} ms",
+        _count(run.stops, "stop"),
+        _count(run.faults, "failure"),
         _count(sum(lane.wins for lane in run.lanes), "election won", "elections won"),
         _count(devices, "device known by unique ID", "devices known by unique ID"),
     ]

@@ -106,17 +106,6 @@ class Mark(NamedTuple):
 
 
 @dataclass
-class Counts:
-    """Of the whole run."""
-
-    rows: int = 0
-    stops: int = 0  # of members
-    faults: int = 0
-    first_moment: Optional[int] = None
-    last_moment: int = 0
-
-
-@dataclass
 class Run:
     """A run, as far as it goes, and all of the rows of a window."""
 
@@ -133,7 +122,11 @@ class Run:
     given: Dict[int, Set[Lane]] = field(default_factory=dict)  # by number: who was given a frame of the window
     member_lanes: Dict[int, Lane] = field(default_factory=dict)
     device_lanes: List[Lane] = field(default_factory=list)
-    counts: Counts = field(default_factory=Counts)
+    total: int = 0  # rows of the whole run
+    stops: int = 0  # of members, as faults are
+    faults: int = 0
+    first_moment: Optional[int] = None
+    last_moment: int = 0
     end: str = ""  # whole, refused or cut
     end_words: str = ""
     tail: report.End = field(default_factory=report.End)
@@ -167,15 +160,15 @@ def read(rows: Iterable[str], lines: Iterable[str], window: Window = EVERYTHING)
             break
         text = line[:-1]
         first, _, rest = text.partition(" ")
-        if in_tail or first != str(run.counts.rows + 1) or " " not in rest:
+        if in_tail or first != str(run.total + 1) or " " not in rest:
             in_tail = True
             run.tail.take(text)
             continue
         row = next(schedule, None)
         if row is None:
-            raise Mismatch(f"the report has a line for row {first}, and the schedule has {run.counts.rows} rows")
-        run.counts.rows += 1
-        reader.take(run.counts.rows, row, text)
+            raise Mismatch(f"the report has a line for row {first}, and the schedule has {run.total} rows")
+        run.total += 1
+        reader.take(run.total, row, text)
     run.end, run.end_words = _read_end(run, unfinished, next(schedule, None))
     run.member_lanes = dict(sorted(run.member_lanes.items()))
     _give_devices_their_lanes(run)
@@ -185,7 +178,7 @@ def read(rows: Iterable[str], lines: Iterable[str], window: Window = EVERYTHING)
 
 def _read_end(run: Run, unfinished: str, following: Optional[str]) -> Tuple[str, str]:
     """How the report ends: a key, and a sentence. `following` is the row behind those that have a line."""
-    count, last = run.counts.rows, run.tail.last
+    count, last = run.total, run.tail.last
 
     def row(word: str) -> str:
         return f"row {word}" + (f", `{following}`," if following and word == str(count + 1) else "")
@@ -234,14 +227,14 @@ class _Reader:
             said = self._change(number, row, report.read_line(line_text))
         except (LookupError, ValueError):
             raise Mismatch(f"line {number} of the report, '{line_text}', is none of row '{text}'") from None
-        counts = self.run.counts
-        counts.first_moment = self.now if counts.first_moment is None else min(counts.first_moment, self.now)
-        counts.last_moment = max(counts.last_moment, self.now)
+        run = self.run
+        run.first_moment = self.now if run.first_moment is None else min(run.first_moment, self.now)
+        run.last_moment = max(run.last_moment, self.now)
         if self.window.has(number):
-            self.run.rows.append(text)
-            self.run.lines.append(line_text.partition(" ")[2])
-            self.run.said.append(said)
-            self.run.moments.append(self.now)
+            run.rows.append(text)
+            run.lines.append(line_text.partition(" ")[2])
+            run.said.append(said)
+            run.moments.append(self.now)
 
     def _change(self, number: int, row: Row, event: report.Event) -> str:
         if isinstance(event, report.Outside):
@@ -262,8 +255,8 @@ class _Reader:
 
     def _mark(self, number: int, lane: Lane, what: str, text: str = "") -> None:
         if lane.kind == "member":
-            self.run.counts.stops += what == "stop"
-            self.run.counts.faults += what == "fault"
+            self.run.stops += what == "stop"
+            self.run.faults += what == "fault"
         if self.window.has(number):
             self.run.marks.append(Mark(number, lane, what, text))
         self._event(number)
