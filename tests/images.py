@@ -3,13 +3,13 @@ import os
 import sys
 
 sys.path.insert(0, os.path.join(os.path.dirname(os.path.dirname(os.path.abspath(__file__))), "tools"))
-from caldrouz import stores, table  # noqa: E402
+from caldrouz import stores, table, wire  # noqa: E402
 
 
 def image(store: stores.Store) -> bytes:
     """The bytes of a store: each value stands in copy A."""
 
-    def entry(it: stores.Entry) -> bytes:
+    def entry(it: wire.Entry) -> bytes:
         return it.term.to_bytes(4, "little") + bytes.fromhex(it.unique_id) + bytes([it.node, it.origin])
 
     values = {

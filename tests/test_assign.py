@@ -77,7 +77,7 @@ class WithMembers(unittest.TestCase):
         """120 pairs: from stores by export, by assign to a new cluster, and by export from its stores."""
         draw = random.Random(7)
         pairs = [(node, draw.randbytes(16).hex()) for node in draw.sample(range(4, 126), 120)]
-        entries = [stores.Entry(1, unique_id, node, 0) for node, unique_id in pairs]
+        entries = [wire.Entry(1, unique_id, node, 0) for node, unique_id in pairs]
         with tempfile.TemporaryDirectory() as name, members.three() as cluster:
             old = pathlib.Path(name)
             for member in (1, 2, 3):

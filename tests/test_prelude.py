@@ -20,7 +20,7 @@ Entry = Tuple[int, int]  # term, node ID: 0 of a blank, below 0 of one that is k
 def store(term: int, vote: int, commit: int, *entries: Entry) -> stores.Store:
     """A store whose entries have unique IDs that follow from their node IDs."""
     made = [
-        stores.Entry(of, f"{node:032x}" if node > 0 else wire.NO_UNIQUE_ID, abs(node), 0) for of, node in entries
+        wire.Entry(of, f"{node:032x}" if node > 0 else wire.NO_UNIQUE_ID, abs(node), 0) for of, node in entries
     ]
     return stores.Store(2, term, vote, commit, made)
 

@@ -131,7 +131,7 @@ class Heard:
     def tells(self, moment: float, node: int, unique_id: str, name: str = "") -> None:
         self.take(moment, node, "info", bytes(24) + bytes.fromhex(unique_id) + bytes(1) + name.encode(), 1)
 
-    def names(self, *entries: stores.Entry) -> List[str]:
+    def names(self, *entries: wire.Entry) -> List[str]:
         store = stores.Store(2, 1, 0, len(entries), list(entries))
         return [cause.name for cause in causes.find(self.scene, [("alloc-1.store", store)] if entries else [])]
 
@@ -193,8 +193,8 @@ class WhatIsHeard(unittest.TestCase):
         heard = Heard(1, 2, 3)
         heard.status(0, 42, 5)
         heard.tells(0.1, 42, ONE, "org.example")
-        self.assertIn("wrong-address", heard.names(stores.Entry(1, TWO, 42, 1)))
-        self.assertNotIn("wrong-address", heard.names(stores.Entry(1, ONE, 42, 1)))
+        self.assertIn("wrong-address", heard.names(wire.Entry(1, TWO, 42, 1)))
+        self.assertNotIn("wrong-address", heard.names(wire.Entry(1, ONE, 42, 1)))
         self.assertEqual(heard.scene.nodes[42].identity, scene.Introduced(42, ONE, "org.example"))
 
     def test_two_nodes_that_tell_one_unique_id(self) -> None:
@@ -279,7 +279,7 @@ class WhatIsHeard(unittest.TestCase):
 
 class Images(unittest.TestCase):
     def test_an_image_reads_as_its_store(self) -> None:
-        store = stores.Store(2, 7, 3, 1, [stores.Entry(5, ONE, 42, 1), stores.Entry(7, wire.NO_UNIQUE_ID, 0, 4)])
+        store = stores.Store(2, 7, 3, 1, [wire.Entry(5, ONE, 42, 1), wire.Entry(7, wire.NO_UNIQUE_ID, 0, 4)])
         self.assertEqual(stores.read_image(images.image(store)), store)
 
 

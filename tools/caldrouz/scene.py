@@ -387,7 +387,7 @@ class Scene:
         term, place, commit = wire.number(payload), payload[8], payload[9]
         if len(payload) >= 31:
             place += 1
-            entry = wire.read_entry(payload[10:])
+            entry = wire.read_entry(payload[10:31])
             if self.log.get(place) != entry:
                 self.log[place] = entry
                 events.append(Recorded(place, entry))

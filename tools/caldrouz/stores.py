@@ -21,18 +21,6 @@ class Damaged(Exception):
     """A store that no member opens; it says why."""
 
 
-class Entry(NamedTuple):
-    """An entry of a store. `origin` is how it came there, one of ORIGINS."""
-
-    term: int
-    unique_id: str
-    node: int
-    origin: int
-
-    def __str__(self) -> str:
-        return wire.entry_words(self.node, self.unique_id)
-
-
 class Store(NamedTuple):
     """What a store has. Place 1 is the first of the entries."""
 
@@ -40,10 +28,10 @@ class Store(NamedTuple):
     term: int
     vote: int
     commit: int
-    entries: List[Entry]
+    entries: List[wire.Entry]
 
     @property
-    def committed(self) -> List[Entry]:
+    def committed(self) -> List[wire.Entry]:
         return self.entries[: self.commit]
 
     @property
@@ -88,10 +76,10 @@ def read_image(image: bytes) -> Store:
     vote = rule(table.KEY_VOTE, (0, 1), lambda it: not it or it[0] <= table.LAST)
     last = rule(table.KEY_LAST, (0, 1), lambda it: not it or it[0] <= table.LOG_LIMIT)
     commit = rule(table.KEY_COMMIT, (0, 1), lambda it: not it or it[0] <= last)
-    entries: List[Entry] = []
+    entries: List[wire.Entry] = []
     for key in range(table.KEY_FIRST_ENTRY, table.KEY_FIRST_ENTRY + last):
         rule(key, (22,) if version == table.NEWEST else (21, 22))
-        entry = _entry(values[key])
+        entry = wire.read_entry(values[key])
         if not _follows(entries, entry, term):
             raise Damaged(f"damaged at key {key}")
         entries.append(entry)
@@ -107,11 +95,7 @@ def _value(image: bytes, key: int) -> bytes:
     return image[copy + 1 : copy + 1 + image[copy]]
 
 
-def _entry(value: bytes) -> Entry:
-    return Entry(*wire.read_entry(value), value[21] if len(value) > 21 else table.ORIGIN_LEADER)
-
-
-def _follows(entries: List[Entry], entry: Entry, term: int) -> bool:
+def _follows(entries: List[wire.Entry], entry: wire.Entry, term: int) -> bool:
     """Whether a log may go on with this entry: it is well formed, its term does not fall, and no ID stands twice."""
     blank, reserves = entry.node == 0, entry.unique_id == wire.NO_UNIQUE_ID
     return (

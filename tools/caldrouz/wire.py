@@ -15,7 +15,8 @@ import struct
 from typing import Dict, Hashable, Iterable, List, NamedTuple, Optional, Tuple
 
 from .table import (
-    CRC_BYTES, DATAGRAM_HEAD, DATAGRAM_MOST_DATA, FRAME_BYTES, LONGEST_PAYLOAD, TRANSFER_IDS, TRANSFERS, DataType,
+    CRC_BYTES, DATAGRAM_HEAD, DATAGRAM_MOST_DATA, FRAME_BYTES, LONGEST_PAYLOAD, ORIGIN_LEADER, TRANSFER_IDS, TRANSFERS,
+    DataType,
 )
 
 PRIORITY = 30  # of whatever a member sends
@@ -187,18 +188,19 @@ def number(data: bytes, at: int = 0) -> int:
 
 
 class Entry(NamedTuple):
-    """An entry of a log, as it stands in 21 bytes of a request or a store."""
+    """An entry of a log, as it stands in 21 bytes of a request or a store. A store has its origin behind these."""
 
     term: int
     unique_id: str
     node: int
+    origin: int = ORIGIN_LEADER  # how it came into the store, one of stores.ORIGINS
 
     def __str__(self) -> str:
         return entry_words(self.node, self.unique_id)
 
 
 def read_entry(data: bytes) -> Entry:
-    return Entry(number(data), data[4:20].hex(), data[20] & 0x7F)
+    return Entry(number(data), data[4:20].hex(), data[20] & 0x7F, *data[21:22])
 
 
 def entry_words(node: int, unique_id: str) -> str:
@@ -265,7 +267,7 @@ class Teller:
         if kind == "appq":
             what = f"{source} leads {to} in term {number(payload)}"
             if len(payload) > 10:
-                entry = read_entry(payload[10:])
+                entry = read_entry(payload[10:31])
                 return f"{what}, and hands on place {payload[8] + 1}: {entry}, of term {entry.term}"
             return f"{what}, behind place {payload[8]}, {payload[9]} committed"
         if kind == "app":

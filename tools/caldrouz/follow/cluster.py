@@ -156,13 +156,10 @@ class Cluster:
         kind = on_bus.frame.heading.kind
         if kind == "appq" and answers and self._term_of(position) >= term:
             member.since = member.clock
-        if kind in wire.RESPONSES and step.seen == "took" and self._is_unanswered(on_bus):
+        # (of a last frame of a request that the log has without an answer)
+        unanswered = on_bus.logged is not None and self.recording.answers.get(on_bus.logged, 0) is None
+        if kind in wire.RESPONSES and step.seen == "took" and unanswered:
             self.send_unshown(member)
-
-    def _is_unanswered(self, request: OnBus) -> bool:
-        """Whether the log has this last frame of a request, and no answer to it."""
-        answers = self.recording.answers
-        return request.logged is not None and answers.get(request.logged, 0) is None
 
     def _term_of(self, position: int) -> int:
         """The term in a request of more than one frame that ends at this position of the bus."""

@@ -47,10 +47,8 @@ class Aim:
         self.members = sorted(stores)
         self.quorum = len(stores) // 2 + 1
         self.stores = stores
-        self.logs = {
-            member: [wire.Entry(it.term, it.unique_id, it.node) for it in store.entries]
-            for member, store in stores.items()
-        }
+        # (without origins: these are local)
+        self.logs = {member: [wire.Entry(*it[:3]) for it in store.entries] for member, store in stores.items()}
         terms = {entry.term for log in self.logs.values() for entry in log}
         self.terms = sorted(terms | {store.term for store in stores.values()} - {0})
         self.leads = {term: self._log_of(term) for term in sorted(terms)}
@@ -372,7 +370,7 @@ class Prelude:
 
     def _record(self, leader: int, entry: wire.Entry, place: int) -> None:
         """A node tells its unique ID, and the leader makes the entry of it."""
-        _, unique_id, node = entry
+        unique_id, node = entry.unique_id, entry.node
         self.now += EACH_NODE
         self._outside(leader, node, "stat", 0, bytes([1]) + bytes(6))
         asked = [it for it in self._tick(leader) if it.heading.kind == "infoq" and it.heading.destination == node]

@@ -96,7 +96,8 @@ class Recording:
     def __init__(self, log: Log, members: List[int]) -> None:
         self.members = members
         records, self.repeated = without_repeats(log.frames)
-        records, self.jumps = _mend(records)
+        told = [(at, it.frame.heading.source, _uptime(it.frame)) for at, it in enumerate(records)]
+        records, self.jumps = logs.mend_stamps(records, [(at, node, up) for at, node, up in told if up is not None])
         self.frames: List[Logged] = []
         for record in records:
             heading = record.frame.heading
@@ -154,12 +155,6 @@ class Recording:
 def _uptime(frame: wire.Frame) -> Optional[int]:
     """The seconds that a NodeStatus tells; None of another frame."""
     return wire.number(frame.data) if frame.heading.kind == "stat" and len(frame.data) == 8 else None
-
-
-def _mend(records: List[Record]) -> Tuple[List[Record], List[Tuple[int, int]]]:
-    uptimes = [(index, record.frame, _uptime(record.frame)) for index, record in enumerate(records)]
-    found = [(index, frame.heading.source, uptime) for index, frame, uptime in uptimes if uptime is not None]
-    return logs.mend_stamps(records, found)
 
 
 def without_repeats(records: List[Record]) -> Tuple[List[Record], List[int]]:
