@@ -1,6 +1,7 @@
 """Tests of tools/view: the facts of pages, beside the schedules and reports that they are of."""
 from __future__ import annotations
 
+import json
 import pathlib
 import re
 import sys
@@ -10,10 +11,15 @@ from typing import Any, Dict, List, Sequence, Tuple
 
 from support import EXAMPLES, ROOT, Ended, read, read_lines, run_tool, write_lines
 
-from caldrouz import page
-
 ENDS = {"0": "whole", "3": "refused", "4": "refused", "8": "refused"}  # by the exit code of the run
 Facts = Dict[str, Any]
+
+
+def read_facts(text: str) -> Facts:
+    """The JSON block of a page."""
+    begin = '<script type="application/json" id="facts">'
+    facts: Facts = json.loads(text.split(begin, 1)[1].split("</script>", 1)[0])
+    return facts
 
 
 def lane(facts: Facts, name: str) -> Dict[str, Any]:
@@ -33,8 +39,7 @@ class ViewCase(unittest.TestCase):
     def view(self, schedule: pathlib.Path, report: pathlib.Path, *words: str) -> Facts:
         made = run_tool("view", schedule, report, *words)
         self.assertEqual((made.status, made.errors), (0, ""))
-        facts: Facts = page.read_facts(made.written)
-        return facts
+        return read_facts(made.written)
 
     def view_example(self, name: str, *words: str) -> Facts:
         return self.view(EXAMPLES / name / "schedule", EXAMPLES / name / "report", *words)
@@ -153,7 +158,7 @@ class Pages(ViewCase):
         self.assertLess(kilobytes(200_000) - kilobytes(20_000), 4096)
 
     def test_the_page_of_a_real_bus_is_the_one_that_is_stored(self) -> None:
-        stored = page.read_facts(read(EXAMPLES / "a_real_bus/page.html"))
+        stored = read_facts(read(EXAMPLES / "a_real_bus/page.html"))
         self.assertEqual(self.view_example("a_real_bus", "--title", stored["title"]), stored)
 
 

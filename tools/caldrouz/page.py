@@ -84,9 +84,3 @@ def page(run: Run, title: str) -> str:
         "SCRIPT": part("picture.js"),
     }
     return FIELD.sub(lambda field: fields[field[1]], part("view.html"))
-
-
-def read_facts(text: str) -> Any:
-    """The JSON block of a page."""
-    begin = '<script type="application/json" id="facts">'
-    return json.loads(text.split(begin, 1)[1].split("</script>", 1)[0])

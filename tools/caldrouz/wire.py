@@ -14,10 +14,7 @@ import functools
 import struct
 from typing import Dict, Hashable, Iterable, List, NamedTuple, Optional, Tuple
 
-from .table import (
-    CRC_BYTES, DATAGRAM_HEAD, DATAGRAM_MOST_DATA, FRAME_BYTES, LONGEST_PAYLOAD, ORIGIN_LEADER, TRANSFER_IDS, TRANSFERS,
-    DataType,
-)
+from . import table
 
 PRIORITY = 30  # of whatever a member sends
 START, END, TOGGLE = 0x80, 0x40, 0x20
@@ -26,12 +23,12 @@ FIRST_WIDE = 1 << 29  # identifiers are below it
 NO_UNIQUE_ID = "0" * 32
 OTHER = "other"  # the kind of a frame that no allocator takes
 
-_NUMBERS = {(kind.kind, kind.data_type.number): name for name, kind in TRANSFERS.items()}
+_NUMBERS = {(kind.kind, kind.data_type.number): name for name, kind in table.TRANSFERS.items()}
 RESPONSES = {  # request: response
-    name: _NUMBERS["response", kind.data_type.number] for name, kind in TRANSFERS.items() if kind.kind == "request"
+    name: _NUMBERS["response", it.data_type.number] for name, it in table.TRANSFERS.items() if it.kind == "request"
 }
 REQUESTS = {response: request for request, response in RESPONSES.items()}
-MOST = LONGEST_PAYLOAD + 1
+MOST = table.LONGEST_PAYLOAD + 1
 SIZES = {  # of the payloads that say what they should
     "alloc": range(1, 18), "disc": range(1, 7), "stat": range(5, MOST), "infoq": range(MOST), "info": range(41, MOST),
     "voteq": range(9, MOST), "vote": range(5, MOST), "appq": range(10, MOST), "app": range(5, MOST),
@@ -85,7 +82,7 @@ def read_heading(identifier: int) -> Heading:
         part = "request" if identifier & REQUEST else "response"
         kind = _NUMBERS.get((part, identifier >> 16 & 0xFF), OTHER) if source and destination else OTHER
     elif source == 0:  # it tells the two low bits of its number alone, behind a discriminator
-        kind = "alloc" if identifier >> 8 & 3 == TRANSFERS["alloc"].data_type.number else OTHER
+        kind = "alloc" if identifier >> 8 & 3 == table.TRANSFERS["alloc"].data_type.number else OTHER
     else:
         kind = _NUMBERS.get(("message", identifier >> 8 & 0xFFFF), OTHER)
     return Heading(identifier, kind, source, destination)
@@ -93,12 +90,12 @@ def read_heading(identifier: int) -> Heading:
 
 @functools.lru_cache(maxsize=None)
 def read_tail(tail: int) -> Tail:
-    return Tail(bool(tail & START), bool(tail & END), bool(tail & TOGGLE), tail % TRANSFER_IDS)
+    return Tail(bool(tail & START), bool(tail & END), bool(tail & TOGGLE), tail % table.TRANSFER_IDS)
 
 
 def identifier_of(source: int, name: str, destination: int = 0) -> int:
     """The identifier of a transfer that a member offers, from the name and the destination of a mark."""
-    kind, data_type = TRANSFERS[name]
+    kind, data_type = table.TRANSFERS[name]
     if kind == "message":
         return PRIORITY << 24 | data_type.number << 8 | source
     request = REQUEST if kind == "request" else 0
@@ -110,8 +107,8 @@ def identifier_of(source: int, name: str, destination: int = 0) -> int:
 
 def from_datagram(datagram: bytes) -> Optional[Frame]:
     """The frame of a datagram (docs/FORMATS.md, "Datagrams"), or None where it is none."""
-    identifier, data = int.from_bytes(datagram[:4], "big"), datagram[DATAGRAM_HEAD:]
-    whole = 1 <= len(data) <= DATAGRAM_MOST_DATA and datagram[DATAGRAM_HEAD - 1] == len(data)
+    identifier, data = int.from_bytes(datagram[:4], "big"), datagram[table.DATAGRAM_HEAD:]
+    whole = 1 <= len(data) <= table.DATAGRAM_MOST_DATA and datagram[table.DATAGRAM_HEAD - 1] == len(data)
     return Frame(identifier, data) if whole and identifier < FIRST_WIDE else None
 
 
@@ -136,17 +133,17 @@ def to_can(frame: Frame) -> bytes:
 # --- transfers
 
 
-def transfer_crc(data_type: DataType, payload: bytes) -> bytes:
+def transfer_crc(data_type: table.DataType, payload: bytes) -> bytes:
     """CRC-16/CCITT-FALSE over the signature of the type and the payload."""
     crc = binascii.crc_hqx(data_type.signature.to_bytes(8, "little") + payload, 0xFFFF)
-    return crc.to_bytes(CRC_BYTES, "little")
+    return crc.to_bytes(table.CRC_BYTES, "little")
 
 
-def cut(data_type: DataType, transfer_id: int, payload: bytes) -> List[bytes]:
+def cut(data_type: table.DataType, transfer_id: int, payload: bytes) -> List[bytes]:
     """The data of the frames of a transfer."""
-    if len(payload) > FRAME_BYTES:
+    if len(payload) > table.FRAME_BYTES:
         payload = transfer_crc(data_type, payload) + payload
-    pieces = [payload[at : at + FRAME_BYTES] for at in range(0, len(payload), FRAME_BYTES)] or [b""]
+    pieces = [payload[at : at + table.FRAME_BYTES] for at in range(0, len(payload), table.FRAME_BYTES)] or [b""]
     last = len(pieces) - 1
     return [
         piece + bytes([(at == 0) * START | (at == last) * END | (at % 2) * TOGGLE | transfer_id])
@@ -175,8 +172,8 @@ class Transfers:
             return None
         if tail.starts:
             return body
-        crc, payload = body[:CRC_BYTES], body[CRC_BYTES:]
-        return payload if kind == OTHER or crc == transfer_crc(TRANSFERS[kind].data_type, payload) else None
+        crc, payload = body[:table.CRC_BYTES], body[table.CRC_BYTES:]
+        return payload if kind == OTHER or crc == transfer_crc(table.TRANSFERS[kind].data_type, payload) else None
 
 
 # --- what transfers say
@@ -193,7 +190,7 @@ class Entry(NamedTuple):
     term: int
     unique_id: str
     node: int
-    origin: int = ORIGIN_LEADER  # how it came into the store, one of stores.ORIGINS
+    origin: int = table.ORIGIN_LEADER  # how it came into the store, one of stores.ORIGINS
 
     def __str__(self) -> str:
         return entry_words(self.node, self.unique_id)
