@@ -263,7 +263,7 @@ class WhatIsHeard(unittest.TestCase):
                 heard.take(0, 0 if name == "alloc" else 5, name, bytes(length), to)
         heard.scene.take(1, wire.Frame(0x1FFFFFFF, b"\xc0"))
         causes.find(heard.scene)
-        causes.notes(heard.scene)
+        list(causes.notes(heard.scene))
 
     def test_what_is_kept_is_bounded(self) -> None:
         heard = Heard()

@@ -12,7 +12,8 @@ matters, the program is the judge.
     buses     a bus that is there now: buses.open_bus(word), with receive and send
     scene     what is heard on a bus, and the events of it; causes: why devices get no node ID; asking: asks for one
     timing    how late frames of a log are; machine: what a machine tells of its disks, processes and interfaces
-    words     the command lines of the tools: their parser, their exit codes, and how they end
+    words     the command lines of the tools: their parser, their exit codes, how they end, and the buses, logs and
+              stores that they are given
 
 Each module says at its head how it is called. A tool that stands alone is made of its script and of this package by
 tools/make_standalone.

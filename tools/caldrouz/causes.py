@@ -211,7 +211,7 @@ def _majority(scene: Scene, _: Sequence[NamedStore]) -> Iterator[Cause]:
     if not size or not members or size == 1:
         return
     quorum = size // 2 + 1
-    there = {node for node in members if scene.is_online(node)}
+    there = set(filter(scene.is_online, members))
     short = _searching(scene)
     if len(there) < quorum:
         yield Cause(
@@ -452,22 +452,19 @@ def _unanswered_device(scene: Scene) -> Iterator[Cause]:
             return
 
 
-def notes(scene: Scene) -> List[str]:
+def notes(scene: Scene) -> Iterator[str]:
     """What is so, in sentences, whether or not there is a cause."""
-    said = []
     size, members, lead = scene.size(), scene.members(), scene.leader()
-    there = sorted(node for node in members if scene.is_online(node))
     if members:
-        of = f" (of {size})" if size else ""
-        said.append(f"Members that are there: {_ids(there)}{of}.")
+        there, of = filter(scene.is_online, members), f" (of {size})" if size else ""
+        yield f"Members that are there: {_ids(there)}{of}."
     if lead:
-        said.append(f"Member {lead.node} leads in term {lead.term}.")
+        yield f"Member {lead.node} leads in term {lead.term}."
     others = [node for node in scene.online() if node not in members]
     if others:
-        said.append(f"Other nodes that are there: {_ids(others)}.")
+        yield f"Other nodes that are there: {_ids(others)}."
     told = {answer.part: answer for answer in scene.answers if answer.node}
     for unique_id, answer in told.items():
-        said.append(f"Node {answer.by} told node ID {answer.node} to {unique_id}.")
+        yield f"Node {answer.by} told node ID {answer.node} to {unique_id}."
     if scene.frames and not scene.requests:
-        said.append("No device asked for an ID: it has one, or it is not on this bus, or it is set to a fixed address.")
-    return said
+        yield "No device asked for an ID: it has one, or it is not on this bus, or it is set to a fixed address."

@@ -367,10 +367,9 @@ class _Reader:
         if row.name != "aopen":
             return self.slots[row.subject]
         unique_id = row.words[2].lower()
-        for lane in self.run.device_lanes:
-            if lane.key == unique_id and lane not in self.slots.values():
-                break
-        else:
+        there = self.slots.values()
+        lane = next((it for it in self.run.device_lanes if it.key == unique_id and it not in there), None)
+        if lane is None:
             lane = Lane("device", unique_id, unique_id, self.window)
             lane.note(1)
             self.run.device_lanes.append(lane)

@@ -1,4 +1,4 @@
-"""The command lines of the tools: their words, their exit codes, and how they end. Not proved."""
+"""The command lines of the tools: their words, their exit codes, how they end, and what they are given. Not proved."""
 from __future__ import annotations
 
 import argparse
