@@ -28,10 +28,11 @@ RESPONSES = {  # request: response
     name: _NUMBERS["response", it.data_type.number] for name, it in table.TRANSFERS.items() if it.kind == "request"
 }
 REQUESTS = {response: request for request, response in RESPONSES.items()}
-MOST = table.LONGEST_PAYLOAD + 1
-SIZES = {  # of the payloads that say what they should
-    "alloc": range(1, 18), "disc": range(1, 7), "stat": range(5, MOST), "infoq": range(MOST), "info": range(41, MOST),
-    "voteq": range(9, MOST), "vote": range(5, MOST), "appq": range(10, MOST), "app": range(5, MOST),
+_MOST = table.LONGEST_PAYLOAD + 1
+SIZES = {  # by the name of a transfer: the sizes of payloads that have a reading
+    "alloc": range(1, 18), "disc": range(1, 7), "stat": range(5, _MOST), "infoq": range(_MOST),
+    "info": range(41, _MOST), "voteq": range(9, _MOST), "vote": range(5, _MOST), "appq": range(10, _MOST),
+    "app": range(5, _MOST),
 }
 
 CAN_FRAME = struct.Struct("=IB3x8s")  # struct can_frame of linux/can.h
