@@ -102,11 +102,11 @@ member_less Down some = absurd (some refl)
 member_less (Up t) some = one_less_left t.queue some
 member_less (Failed failure) some = absurd (some refl)
 
-device_next : (x : Option Device) → queue_at x ≢ [] → is_some (next_from x) ≡ true
+pub device_next : (x : Option Device) → queue_at x ≢ [] → is_some (next_from x) ≡ true
 device_next None some = absurd (some refl)
 device_next (Some d) some = some_next d.asking.queue some
 
-device_less : (x : Option Device) → queue_at x ≢ [] → suc (length (queue_at (after_sending_from x))) ≡ length (queue_at x)
+pub device_less : (x : Option Device) → queue_at x ≢ [] → suc (length (queue_at (after_sending_from x))) ≡ length (queue_at x)
 device_less None some = absurd (some refl)
 device_less (Some d) some = one_less_left d.asking.queue some
 

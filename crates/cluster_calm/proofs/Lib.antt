@@ -1,0 +1,17 @@
+pub mod Begins
+pub mod Takes
+pub mod Frames
+pub mod Pending
+pub mod Ways
+pub mod Counting
+pub mod Group
+pub mod Others
+pub mod GoesOn
+pub mod Pair
+pub mod Heard
+pub mod Follows
+pub mod Start
+pub mod Whole
+pub mod CallsKept
+pub mod Calls
+pub mod CallsRead

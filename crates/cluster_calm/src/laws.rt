@@ -1,0 +1,128 @@
+//! The laws of this crate, each the contract of a function that does nothing.
+
+ghost use Rattle.std.specs.Prelude.{◌≢◌, ◌*◌, ◌≤◌, ◌∷◌, ◌++◌, ℕ, List, []};
+ghost use Rattle.can_frame.specs.Timing.{transfer_timeout};
+ghost use Rattle.raft_model.specs.Lists.{In};
+ghost use Rattle.cluster_calm.specs.Calls.{Calls, CallsAreHeard, CallsReadAsSaid, CalmLeavesFollowers, ListsStay};
+ghost use Rattle.cluster_calm.specs.Calm.{AreCalm, AreRunning, Member, no_traffic};
+ghost use Rattle.cluster_calm.specs.CalmExample.{IsOffered, append_offer, append_rows, append_said, calm_rows, clocks};
+ghost use Rattle.cluster_calm.specs.CalmExample.{first_rows, group, leading_row, leading_world, pace, receiver, sender};
+ghost use Rattle.cluster_calm.specs.CalmExample.{sending_row, start, status_offer, then_world, two, vote_offer};
+ghost use Rattle.cluster_calm.specs.CalmExample.{vote_rows};
+ghost use Rattle.cluster_calm.specs.Comes.{EachComesWhole, EachResponseComesWhole, HasMemory, Throughout};
+ghost use Rattle.cluster_calm.specs.GoesOn.{CalmGoesOn};
+ghost use Rattle.cluster_spec.specs.Cluster.{AreMembers, cluster};
+ghost use Rattle.cluster_spec.specs.Lawful.{DoNoHarm};
+ghost use Rattle.replay_text.specs.declared.row.Row.{Row};
+
+use alloc_spec_laws::laws::{
+    members_of_a_step, steps_stay_in_range, transfers_of_a_step_are_apart,
+};
+use allocatee::laws::its_frames_are_anonymous;
+use can_frame::laws::{frames_carry_what_is_cut, lengths_of_cuttings};
+use cluster_agreement::below::{
+    what_a_step_keeps, what_is_said_of_a_step, what_is_said_of_frames, what_is_said_of_messages,
+};
+use cluster_agreement::headline::{a_choice_fits, rows_are_shown, rows_grow_by_one};
+use cluster_progress::laws::{followers_follow_on, steps_are_in_time};
+use transfer_rx::laws::delivers_what_comes_whole;
+
+/// In a calm each message, each request and each response comes whole, and in time. After every list of rows that do no
+/// harm, members that run and devices may go on calmly: they read their clocks, send what waits, and receive each
+/// other's frames, each once and in the order of the bus, while nobody stops and nothing comes from outside. A transfer
+/// that a member sends then is delivered by each other member that hears it, with its payload and its transfer ID,
+/// within two delays, or the calm is over by then. This asks that two delays are no longer than a transfer is
+/// remembered; that the receiver has a session and nine blocks left all the time; and that no frame of the kind waits
+/// when the calm begins. The first transfer of its kind in the calm has to have an ID that the receiver's session does
+/// not refuse. Of messages and requests (`counted`) the IDs behind it follow, so they need no premise; of responses
+/// (`responses`) each has to have another ID than the one before it.
+pub fn each_transfer_comes_whole()
+    ensures counted { (ids : List ℕ) (rows : List Row) → AreMembers ids → DoNoHarm (cluster ids) rows →
+        EachComesWhole ids rows }
+    ensures responses { (ids : List ℕ) (rows : List Row) → AreMembers ids → DoNoHarm (cluster ids) rows →
+        EachResponseComesWhole ids rows }
+{
+    a_choice_fits();
+    delivers_what_comes_whole();
+    frames_carry_what_is_cut();
+    its_frames_are_anonymous();
+    lengths_of_cuttings();
+    rows_are_shown();
+    rows_grow_by_one();
+    steps_stay_in_range();
+    transfers_of_a_step_are_apart();
+    what_a_step_keeps();
+    what_is_said_of_a_step();
+    what_is_said_of_frames();
+}
+
+/// A calm can go on: behind any calm rows, from whatever world, there are calm rows to any later moment, where the group
+/// has a party, and the period and the delay are a millisecond at least.
+pub fn calm_goes_on()
+    ensures { CalmGoesOn }
+{}
+
+/// A leader's call is heard in time. In a calm as above, a member calls another: it sends an append request for which
+/// its queue has room. The call comes to the other within two delays, or the calm is over by then. Where the other lists
+/// the caller by then, and its term is below the call's, or the same while it does not lead, it hears a leader there: it
+/// follows when that row is over, and its wait for an election begins at that moment of its own clock.
+pub fn calls_are_heard()
+    ensures { (ids : List ℕ) (rows : List Row) → AreMembers ids → DoNoHarm (cluster ids) rows →
+        CallsAreHeard ids rows }
+{
+    a_choice_fits();
+    each_transfer_comes_whole();
+    rows_are_shown();
+    rows_grow_by_one();
+    steps_are_in_time();
+    what_is_said_of_a_step();
+}
+
+/// The bytes of a call read as the request of the Raft model that the call says. So it is behind all rows that do no
+/// harm, in a row that does none, where the caller runs and no call of its disk is set to fail.
+pub fn calls_read_as_said()
+    ensures { (ids : List ℕ) (rows : List Row) → AreMembers ids → DoNoHarm (cluster ids) rows →
+        CallsReadAsSaid ids rows }
+{
+    a_choice_fits();
+    rows_are_shown();
+    rows_grow_by_one();
+    what_is_said_of_messages();
+}
+
+/// Who is on the list of a member that runs stays there in a calm. So a member that lists the caller when the calm
+/// begins, or later, lists it when the call comes.
+pub fn who_is_listed_stays()
+    ensures { ListsStay }
+{
+    members_of_a_step();
+}
+
+/// A member that hears a leader follows on in a calm, as long as its clock reads less than the moment at which it heard
+/// the leader and the least wait more: it does not stand for election before.
+pub fn followers_follow_on_in_calm()
+    ensures { CalmLeavesFollowers }
+{
+    followers_follow_on();
+    steps_are_in_time();
+}
+
+/// The premises can be met: two members that are told their list run, a device comes, and in calm rows one member sends
+/// its NodeStatus (`status`) and asks the other one for its vote (`vote`), gets it, and calls it (`append`, `call`).
+/// The other one hears all three, and the rows go on for more than two delays.
+pub fn calm_can_be()
+    ensures members { AreMembers two }
+    ensures harmless { DoNoHarm (cluster two) first_rows }
+    ensures listed { (p : ℕ) → In (Member p) group → In p two }
+    ensures running { AreRunning group then_world }
+    ensures from { In (Member sender) group }
+    ensures to { In (Member receiver) group }
+    ensures apart { sender ≢ receiver }
+    ensures quick { 2 * pace.delay ≤ transfer_timeout }
+    ensures calm { AreCalm group clocks pace (no_traffic start) then_world calm_rows }
+    ensures memory { Throughout (HasMemory receiver) then_world calm_rows }
+    ensures status { IsOffered [] sending_row (vote_rows ++ leading_row ∷ append_rows) status_offer }
+    ensures vote { IsOffered [] sending_row (vote_rows ++ leading_row ∷ append_rows) vote_offer }
+    ensures append { IsOffered (sending_row ∷ vote_rows) leading_row append_rows append_offer }
+    ensures call { Calls sender receiver leading_world leading_row.row append_offer append_said }
+{}
