@@ -57,12 +57,8 @@ module _ (keeps_me : (t : AllocatorState) (number : ℕ) (event : Event) → (st
     heard : (w : Cluster) (timed : Timed) (rest : List Timed) → Goes w (timed ∷ rest) → Delivers m x w timed.row
         → HearsCall m (clocks (OfMember m)) x request w timed
     heard w timed rest goes comes = record {
-      k = comes.k;
-      ms = comes.ms;
-      comes = comes.comes;
+      delivers = comes;
       clock = (subst (λ (row : Row). IsCalmRow group clocks pace goes.traffic w timed.at row) comes.comes goes.calm.1).1;
-      server = comes.server;
-      runs = comes.runs;
       hears = hears;
       anew = λ may. subst (λ (row : Row). FollowsSince m (max comes.server.now comes.ms) (after_row w row)) (sym comes.comes) (follows (hears may));
     }

@@ -15,3 +15,5 @@ pub mod Whole
 pub mod CallsKept
 pub mod Calls
 pub mod CallsRead
+pub mod CallsOffered
+pub mod CallsInTime

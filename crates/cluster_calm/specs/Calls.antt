@@ -9,13 +9,12 @@ use Rattle.raft_model.specs.Lists.{In}
 use Rattle.raft_model.specs.Messages.Message.{Requests}
 use Rattle.raft_model.specs.Server.Role.{Follower, Leader}
 use Rattle.replay_text.specs.declared.row.Row.{Row}
-use Rattle.replay_text.specs.declared.row.Row.TheVariants.{Rx}
 use Rattle.alloc_spec.specs.AllocatorState.{AllocatorState, members_of}
 use Rattle.alloc_spec.specs.Transfers.{Offer, SentTransfer, id_of}
 use Rattle.cluster_progress.specs.InTime.{HearsLeader}
 use Rattle.cluster_recovery.specs.Calm.{Pace, Timed, end_of, rows_in}
 use Rattle.cluster_calm.specs.Calm.{AreCalm, AreRunning, IsRunning, Member, Party, Traffic, no_traffic}
-use Rattle.cluster_calm.specs.Comes.{AreReady, HasMemory, MayComeFirst, Sends, Throughout, delivery_of, sent_by}
+use Rattle.cluster_calm.specs.Comes.{AreReady, Delivers, HasMemory, MayComeFirst, Sends, Throughout, delivery_of, sent_by}
 use Rattle.cluster_spec.specs.Cluster.{Cluster, after_row, after_rows, arrival_at, frame_at, world_of}
 use Rattle.cluster_spec.specs.Lawful.{DoesNoHarm}
 use Rattle.cluster_spec.specs.Members.MemberStatus.{Up}
@@ -56,21 +55,18 @@ pub record FollowsSince (m moment : ℕ) (w : Cluster) : Type 0 where
   pub waits : running.server.times.since ≡ moment
   pub reads : running.server.now ≡ moment
 
--- In this row the call comes to member m, whose clock is ahead by `ahead`. Where the member may follow the caller, it
--- hears a leader, and follows when the row is over, and its wait begins anew.
+-- In this row the call is delivered to member m, whose clock is ahead by `ahead`. Where the member may follow the caller,
+-- it hears a leader, and follows when the row is over, and its wait begins anew.
 pub record HearsCall (m ahead : ℕ) (x : SentTransfer) (request : AppendRequest) (w : Cluster)
     (timed : Timed) : Type 0 where
-  pub k : ℕ
-  pub ms : ℕ
-  pub comes : timed.row ≡ Rx m k ms
-  pub clock : ms ≡ timed.at + ahead
-  pub server : AllocatorState
-  pub runs : (w.member m).status ≡ Up server
-  pub hears : MayFollow x.by request server →
-      HearsLeader server (arrival_at (frame_at w.frames k) ms) (delivery_of x) request
-  pub anew : MayFollow x.by request server → FollowsSince m (max server.now ms) (after_row w timed.row)
+  pub delivers : Delivers m x w timed.row
+  pub clock : delivers.ms ≡ timed.at + ahead
+  pub hears : MayFollow x.by request delivers.server →
+      HearsLeader delivers.server (arrival_at (frame_at w.frames delivers.k) delivers.ms) (delivery_of x) request
+  pub anew : MayFollow x.by request delivers.server →
+      FollowsSince m (max delivers.server.now delivers.ms) (after_row w timed.row)
 
--- the call comes to member m in one of these rows, by this moment
+-- the call is delivered to member m in one of these rows, by this moment
 pub record HearsCallBy (m ahead : ℕ) (x : SentTransfer) (request : AppendRequest) (last : ℕ) (w : Cluster)
     (whole : List Timed) : Type 0 where
   pub front : List Timed

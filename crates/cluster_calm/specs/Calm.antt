@@ -7,7 +7,8 @@ use Rattle.replay_text.specs.declared.row.Row.{Row}
 use Rattle.replay_text.specs.declared.row.Row.TheVariants.{ARx, ASend, ATick, Rx, Send, Tick}
 use Rattle.transfer_tx.specs.Queue.{Queued}
 use Rattle.alloc_spec.specs.AllocatorState.{AllocatorState}
-use Rattle.cluster_recovery.specs.Calm.{IsNext, NoneIsLate, OnItsWay, Pace, Timed, next_on_bus, queue_at, queue_of, waits_after}
+use Rattle.cluster_recovery.specs.Calm.{IsNext, NoneIsLate, OnItsWay, Pace, Timed, next_on_bus, queue_at, queue_of}
+use Rattle.cluster_recovery.specs.Calm.{waits_after}
 use Rattle.cluster_spec.specs.Allocatees.{next_from}
 use Rattle.cluster_spec.specs.Cluster.{Cluster, after_row}
 use Rattle.cluster_spec.specs.Members.{next_frame}

@@ -4,3 +4,4 @@ pub mod Comes
 pub mod GoesOn
 pub mod Calls
 pub mod CalmExample
+pub mod CallsInTime

@@ -4,6 +4,7 @@ ghost use Rattle.std.specs.Prelude.{◌≢◌, ◌*◌, ◌≤◌, ◌∷◌, �
 ghost use Rattle.can_frame.specs.Timing.{transfer_timeout};
 ghost use Rattle.raft_model.specs.Lists.{In};
 ghost use Rattle.cluster_calm.specs.Calls.{Calls, CallsAreHeard, CallsReadAsSaid, CalmLeavesFollowers, ListsStay};
+ghost use Rattle.cluster_calm.specs.CallsInTime.{LeadersCallInTime};
 ghost use Rattle.cluster_calm.specs.Calm.{AreCalm, AreRunning, Member, no_traffic};
 ghost use Rattle.cluster_calm.specs.CalmExample.{IsOffered, append_offer, append_rows, append_said, calm_rows, clocks};
 ghost use Rattle.cluster_calm.specs.CalmExample.{first_rows, group, leading_row, leading_world, pace, receiver, sender};
@@ -32,8 +33,8 @@ use transfer_rx::laws::delivers_what_comes_whole;
 /// other's frames, each once and in the order of the bus, while nobody stops and nothing comes from outside. A transfer
 /// that a member sends then is delivered by each other member that hears it, with its payload and its transfer ID,
 /// within two delays, or the calm is over by then. This asks that two delays are no longer than a transfer is
-/// remembered; that the receiver has a session and nine blocks left all the time; and that no frame of the kind waits
-/// when the calm begins. The first transfer of its kind in the calm has to have an ID that the receiver's session does
+/// remembered; that the receiver has a session and nine blocks left all the time; and that no frame with its
+/// identifier waits when the calm begins. The first transfer of its kind in the calm has to have an ID that the receiver's session does
 /// not refuse. Of messages and requests (`counted`) the IDs behind it follow, so they need no premise; of responses
 /// (`responses`) each has to have another ID than the one before it.
 pub fn each_transfer_comes_whole()
@@ -105,6 +106,19 @@ pub fn followers_follow_on_in_calm()
 {
     followers_follow_on();
     steps_are_in_time();
+}
+
+/// A leader calls each member often enough, in a calm. While a member leads, it offers an append request to each other
+/// member of its list by a period behind the moment at which its clock reads the call timeout more than at its last call
+/// to that member, or the calm is over by then. The stretch begins at any row of the calm, so that moment is no earlier
+/// than the row before, and than the leader's last tick. The last call is what the leader keeps: the pending call, which
+/// may be a vote request from before it won, and its last append request. Its queue may have no room for what it offers.
+pub fn leaders_call_in_time()
+    ensures { LeadersCallInTime }
+{
+    members_of_a_step();
+    steps_are_in_time();
+    what_is_said_of_a_step();
 }
 
 /// The premises can be met: two members that are told their list run, a device comes, and in calm rows one member sends

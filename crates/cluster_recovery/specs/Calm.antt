@@ -249,7 +249,8 @@ pub record HappensBy (start last : ℕ) (w : Cluster) (whole : List Timed) (Happ
 
 -- A device comes to this world, at the moment `start`. In each calm continuation, at a pace of which a period and four
 -- delays take 100 ms at most, this happens within 2,100 ms, or the calm is over by then. It is said of the device, of
--- what the allocator's clock reads then, and of the world. The device's own timers take 1,000 and twice 400 ms at most,
+-- what the allocator's clock reads then, and of the world. The row of its coming may be refused, where its place is
+-- taken: of that nothing is said. The device's own timers take 1,000 and twice 400 ms at most,
 -- and each stage of the exchange a period and four delays more.
 abbrev pub HappensToDevice : ℕ → Cluster → (start : ℕ) → Clocks → List ℕ → (ℕ → ℕ → Cluster → Type 0) → Type 0
 HappensToDevice n before start clocks uid Happens = (a preferred word : ℕ) (pace : Pace) (whole : List Timed) →

@@ -14,7 +14,8 @@ use Rattle.replay_text.specs.declared.row.Row.TheVariants.{Crash, Open, Send, Ti
 use Rattle.cluster_agreement.specs.Allocatees.{Holds}
 use Rattle.cluster_recovery.specs.Alone.{MayBeServed}
 use Rattle.cluster_progress.specs.ComingBack.{HasGrown}
-use Rattle.cluster_recovery.specs.Calm.{Clocks, HappensBy, HappensToDevice, HasComeToRest, HasServed, HasSettled, IsReady, NothingWaits, Pace, Timed, queue_of, rows_in, waits_after}
+use Rattle.cluster_recovery.specs.Calm.{Clocks, HappensBy, HappensToDevice, HasComeToRest, HasServed, HasSettled}
+use Rattle.cluster_recovery.specs.Calm.{IsReady, NothingWaits, Pace, Timed, queue_of, rows_in, waits_after}
 use Rattle.cluster_spec.specs.Cluster.{Cluster, after_row, after_rows, world_of}
 use Rattle.cluster_spec.specs.Lawful.{AreLawful, cause}
 use Rattle.cluster_spec.specs.Members.{is_running, next_frame}
@@ -140,19 +141,19 @@ abbrev pub StartsLawfully : ℕ → List Row → Type 0
 StartsLawfully n rows = (s : QuietStart n rows) →
     AreLawful (world_of (n ∷ []) rows) (Open n s.told (s.start + s.clocks.allocator) s.word ∷ rows_in s.whole)
 
--- from that moment on the allocator has settled: so whenever nothing waits in its queue it is at rest
+-- from `settled_from` on the allocator has settled: so whenever nothing waits in its queue it is at rest
 abbrev pub SettlesInTime : ℕ → List Row → Type 0
 SettlesInTime n rows = (s : QuietStart n rows) → settled_from n rows s ≤ s.last →
     HasSettledWith n s.store.log (s.last + s.clocks.allocator) (world_then n rows s)
 
--- and within a delay from then there is a moment at which nothing waits
+-- by a delay behind `settled_from` there is a moment at which the allocator has settled and nothing waits
 abbrev pub RestsSoon : ℕ → List Row → Type 0
 RestsSoon n rows = (s : QuietStart n rows) → let by = settled_from n rows s + s.pace.delay in by ≤ s.last →
     HappensBy s.start by (world_opened n rows s) s.whole
     (λ moment. HasComeToRest n s.store.log (moment + s.clocks.allocator))
 
--- A delay later the frames of its Allocations are gone too: from then on the allocator is ready, where a delay is 2,000
--- ms at most.
+-- A delay behind `settled_from` the frames of its Allocations are gone too: from then on the allocator is ready, where
+-- a delay is 2,000 ms at most.
 abbrev pub GetsReady : ℕ → List Row → Type 0
 GetsReady n rows = (s : QuietStart n rows) → s.pace.delay ≤ 2000 → settled_from n rows s + s.pace.delay ≤ s.last →
     (log : List Entry) × HasGrown s.store.log log
@@ -167,7 +168,7 @@ StaysSettled n rows = (log : List Entry) (start last ahead : ℕ) (pace : Pace) 
     AreQuiet n ahead pace last (no_own_traffic start) w whole →
     AreLawful w (rows_in whole) × HasSettled n log (last + ahead) (after_rows w (rows_in whole))
 
--- more than a delay later it is ready, and stays so, where a delay is 2,000 ms at most
+-- an allocator that has settled is ready more than a delay later, and stays so, where a delay is 2,000 ms at most
 abbrev pub StaysReady : ℕ → List Row → Type 0
 StaysReady n rows = (log : List Entry) (start last ahead : ℕ) (pace : Pace) (whole : List Timed) →
     let w = world_of (n ∷ []) rows in HasSettled n log (start + ahead) w →

@@ -2,9 +2,14 @@
 
 ghost use Rattle.std.specs.Prelude.{ℕ, ◌≤◌, false, List, [], ◌∷◌};
 ghost use Rattle.cluster_recovery.specs.Alone.{ComesBack, ServesDevices, TellsAgain};
-ghost use Rattle.cluster_recovery.specs.Calm.{AreCalm, CalmGoesOn, ComesToRest, HasPlaceFor, IsReady, ServesInTime, TellsInTime, no_traffic};
-ghost use Rattle.cluster_recovery.specs.CalmExample.{calm_rows, clocks, first_rows, pace, quiet_pace, quiet_rows, some_uid, then_world};
-ghost use Rattle.cluster_recovery.specs.CalmRecovery.{AreQuiet, GetsReady, MayStart, QuietGoesOn, RecoversForKnown, RecoversForNew, RestsSoon, SettlesInTime, StartsLawfully, StaysReady, StaysSettled, StopsAtOnce, no_own_traffic, time_to_settle};
+ghost use Rattle.cluster_recovery.specs.Calm.{AreCalm, CalmGoesOn, ComesToRest, HasPlaceFor, IsReady, ServesInTime};
+ghost use Rattle.cluster_recovery.specs.Calm.{TellsInTime, no_traffic};
+ghost use Rattle.cluster_recovery.specs.CalmExample.{calm_rows, clocks, first_rows, pace, quiet_pace, quiet_rows};
+ghost use Rattle.cluster_recovery.specs.CalmExample.{some_uid, then_world};
+ghost use Rattle.cluster_recovery.specs.CalmRecovery.{AreQuiet, GetsReady, MayStart, QuietGoesOn, RecoversForKnown};
+ghost use Rattle.cluster_recovery.specs.CalmRecovery.{RecoversForNew, RestsSoon, SettlesInTime, StartsLawfully};
+ghost use Rattle.cluster_recovery.specs.CalmRecovery.{StaysReady, StaysSettled, StopsAtOnce, no_own_traffic};
+ghost use Rattle.cluster_recovery.specs.CalmRecovery.{time_to_settle};
 ghost use Rattle.cluster_recovery.specs.Recovery.{AreNeverStuck};
 ghost use Rattle.cluster_spec.specs.Cluster.{AreMembers, after_row, cluster, world_of};
 ghost use Rattle.cluster_spec.specs.Lawful.{DoNoHarm};
@@ -142,8 +147,9 @@ pub fn calm_can_be()
 /// rows that do no harm, where it is stopped and no call of its disk is set to fail, and where on its bus nothing else
 /// happens, it reads its clock at least once in each period, and a queue in which frames wait is empty within a delay.
 /// From its wait for an election and a period behind its opening on, and a period and a delay more for each entry that
-/// it had not committed, it has settled: it leads, and has all committed and told. A delay later nothing waits in its
-/// queue but its NodeStatus, from then on, and there was a moment at which nothing did. A term must be left, and where
+/// it had not committed, it has settled: it leads, and has all committed and told. A delay later, where that
+/// is 2,000 ms at most, nothing waits in its queue but its NodeStatus, from then on; and there was a moment at which
+/// nothing did. A term must be left, and where
 /// an entry was not committed, room for a blank. These rows are lawful; and an allocator that runs, or has failed, is
 /// stopped by one lawful row.
 pub fn who_is_alone_rests_in_time()
@@ -167,7 +173,7 @@ pub fn who_is_alone_rests_in_time()
 }
 
 /// An allocator that is alone and has settled stays so for as long as nothing else happens on its bus. More than a delay
-/// later nothing waits in its queue but its NodeStatus: so a device that comes then is served in time, also behind
+/// later, where that is 2,000 ms at most, nothing waits in its queue but its NodeStatus: so a device that comes then is served in time, also behind
 /// another one.
 pub fn who_is_alone_stays_settled()
     ensures settled { (n : ℕ) (rows : List Row) → AreMembers (n ∷ []) → DoNoHarm (cluster (n ∷ [])) rows →
