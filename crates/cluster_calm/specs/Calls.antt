@@ -21,7 +21,8 @@ use Rattle.cluster_spec.specs.Members.MemberStatus.{Up}
 
 -- ---- a call
 
--- in this row member n calls member m: it offers an append request, for which its queue has room, and its bytes say this
+-- in this row member n calls member m: it offers an append request, for which its queue has room, and its bytes say
+-- this
 pub record Calls (n m : ℕ) (w : Cluster) (row : Row) (offer : Offer) (request : AppendRequest) : Type 0 where
   pub sends : Sends n w row offer
   pub what : offer.what ≡ AppQ
@@ -55,8 +56,8 @@ pub record FollowsSince (m moment : ℕ) (w : Cluster) : Type 0 where
   pub waits : running.server.times.since ≡ moment
   pub reads : running.server.now ≡ moment
 
--- In this row the call is delivered to member m, whose clock is ahead by `ahead`. Where the member may follow the caller,
--- it hears a leader, and follows when the row is over, and its wait begins anew.
+-- In this row the call is delivered to member m, whose clock is ahead by `ahead`. Where the member may follow the
+-- caller, it hears a leader, and follows when the row is over, and its wait begins anew.
 pub record HearsCall (m ahead : ℕ) (x : SentTransfer) (request : AppendRequest) (w : Cluster)
     (timed : Timed) : Type 0 where
   pub delivers : Delivers m x w timed.row
@@ -113,8 +114,8 @@ pub record FollowsFrom (m moment : ℕ) (w : Cluster) : Type 0 where
   pub follows : server.raft_server.memory.role ≡ Follower
   pub waits : moment ≤ server.times.since
 
--- In calm rows, from whatever moment on: a member whose wait begins then follows on as long as its clock reads less than
--- the least wait more.
+-- In calm rows, from whatever moment on: a member whose wait begins then follows on as long as its clock reads less
+-- than the least wait more.
 abbrev pub CalmLeavesFollowers : Type 0
 CalmLeavesFollowers = (group : List Party) (clocks : Party → ℕ) (pace : Pace) (traffic : Traffic) (m moment : ℕ)
     (front rest : List Timed) (w : Cluster) → FollowsSince m moment w →

@@ -47,10 +47,10 @@ pub record CalledUntil (moment peer : ℕ) (t : AllocatorState) : Type 0 where
       (call : Sending) × (t.times.sending peer ≡ Some call) × (call.moment ≤ moment)
   pub appended : (sent : ℕ) → t.times.appended peer ≡ Some sent → sent ≤ moment
 
--- In calm rows, from whatever moment on, in which a member of the group leads: it offers an append request to each other
--- member of its list by a period behind the moment `due`, or the rows are over by then. At `due` its clock, which by
--- `clocks` is ahead of the moments, reads the call timeout more than at its last call, or later; and `due` is no earlier
--- than the row before these, and than the member's last tick.
+-- In calm rows, from whatever moment on, in which a member of the group leads: it offers an append request to each
+-- other member of its list by a period behind the moment `due`, or the rows are over by then. At `due` its clock, which
+-- by `clocks` is ahead of the moments, reads the call timeout more than at its last call, or later; and `due` is no
+-- earlier than the row before these, and than the member's last tick.
 abbrev pub LeadersCallInTime : Type 0
 LeadersCallInTime = (group : List Party) (clocks : Party → ℕ) (pace : Pace) (traffic : Traffic) (n m moment due : ℕ)
     (whole : List Timed) (w : Cluster) → (running : IsRunning n w) → In (Member n) group →

@@ -26,7 +26,7 @@ receiver = 2
 abbrev pub some_uid : List ℕ
 some_uid = replicate 16 7
 
--- both open at the moment 0, and the device comes at the moment 1,900
+-- both members open at the moment 0, and the device comes at the moment 1,900
 abbrev pub first_rows : List Row
 first_rows = Open 1 true 100 0 ∷ Open 2 true 200 1000 ∷ AOpen 1 some_uid 0 1940 0 ∷ []
 
@@ -146,7 +146,7 @@ abbrev pub calm_rows : List Timed
 calm_rows = sending_row ∷ vote_rows ++ leading_row ∷ append_rows
 
 -- In this one of the calm rows the sender offers this message or request, more than two delays before they end. The
--- receiver hears it, and admits the first of its kind.
+-- receiver hears it, and admits the first of its sort.
 pub record IsOffered (front : List Timed) (timed : Timed) (rest : List Timed) (offer : Offer) : Type 0 where
   pub split : calm_rows ≡ front ++ timed ∷ rest
   pub counted : kind_of offer.what ≢ Response

@@ -40,7 +40,7 @@ pub record Sends (n : ℕ) (w : Cluster) (row : Row) (offer : Offer) : Type 0 wh
 abbrev pub sent_by : ℕ → Cluster → Offer → SentTransfer
 sent_by n w offer = record { step = w.rows + 1; by = n; offer = offer }
 
--- Member m hears transfers of this kind that go to this node: messages, which go to 0, and requests and responses to
+-- Member m hears transfers of this sort that go to this node: messages, which go to 0, and requests and responses to
 -- itself. Allocations are for devices.
 abbrev pub IsHeard : (m : ℕ) → What → (to : ℕ) → Type 0
 IsHeard m what to = (what ≢ Alloc) × (to ≡ (if is_service (kind_of what) then m else 0))
@@ -78,7 +78,7 @@ pub record ComesBy (m : ℕ) (x : SentTransfer) (last : ℕ) (w : Cluster) (whol
 
 -- ---- where each transfer does
 
--- the two run when the calm begins, and no frame of an earlier transfer of this kind, from n to this node, waits
+-- the two run when the calm begins, and no frame of an earlier transfer of this sort, from n to this node, waits
 pub record AreReady (n m : ℕ) (what : What) (to : ℕ) (w : Cluster) : Type 0 where
   pub sender : AllocatorState
   pub sends : (w.member n).status ≡ Up sender
@@ -86,12 +86,12 @@ pub record AreReady (n m : ℕ) (what : What) (to : ℕ) (w : Cluster) : Type 0 
   pub receiver : AllocatorState
   pub receives : (w.member m).status ≡ Up receiver
 
--- a transfer of this kind with this ID may begin, at this receiver, in the session of its key, where there is one that
+-- a transfer of this sort with this ID may begin, at this receiver, in the session of its key, where there is one that
 -- is not forgotten
 abbrev pub MayComeFirst : (n : ℕ) → What → (to : ℕ) → AllocatorState → (id : ℕ) → Type 0
 MayComeFirst n what to receiver id = AllAdmit receiver.now (key_of (ident_of n what to)) id receiver.sessions
 
--- Of the transfers of this kind that member n sends in these rows this holds of the ID of the first, and each other one
+-- Of the transfers of this sort that member n sends in these rows this holds of the ID of the first, and each other one
 -- has another ID than the one before it.
 abbrev pub NoneRepeats : (n : ℕ) → What → (to : ℕ) → (ℕ → Type 0) → Cluster → List Timed → Type 0
 NoneRepeats n what to Holds w [] = ⊤
@@ -116,8 +116,8 @@ Throughout Holds w [] = ⊤
 Throughout Holds w (timed ∷ rest) = Holds w × Throughout Holds (after_row w timed.row) rest
 
 -- In each calm from the world of these rows on, in which twice the delay is no longer than a transfer is remembered:
--- each transfer of some kinds that a member of the group sends comes whole to each other member that hears it, within
--- two delays, or the calm is over by then. This is asked of its kind, and of all rows, when the calm begins.
+-- each transfer of some sorts that a member of the group sends comes whole to each other member that hears it, within
+-- two delays, or the calm is over by then. This is asked of its sort, and of all rows, when the calm begins.
 abbrev pub ComesWholeWhere : List ℕ → List Row → (What → Type 0)
     → ((n m : ℕ) (what : What) (to : ℕ) (w : Cluster) (whole : List Timed) → AreReady n m what to w → Type 0) → Type 0
 ComesWholeWhere ids rows IsOfKind Asked = (group : List Party) (clocks : Party → ℕ) (pace : Pace) (start n m : ℕ)
@@ -130,13 +130,13 @@ ComesWholeWhere ids rows IsOfKind Asked = (group : List Party) (clocks : Party �
     timed.at + 2 * pace.delay < end_of timed.at rest → let x = sent_by n (after_rows w (rows_in front)) offer in
     ComesBy m x (timed.at + 2 * pace.delay) (after_rows w (rows_in front)) (timed ∷ rest)
 
--- Each message and each request comes whole where the first of its kind may come: it has the next ID of the sender's
+-- Each message and each request comes whole where the first of its sort may come: it has the next ID of the sender's
 -- counter.
 abbrev pub EachComesWhole : List ℕ → List Row → Type 0
 EachComesWhole ids rows = ComesWholeWhere ids rows (λ what. kind_of what ≢ Response)
     (λ n m what to w whole ready. MayComeFirst n what to ready.receiver (id_of ready.sender.ids what to))
 
--- Each response, which has the ID of its request, comes whole where the first of its kind may come, and each other one
+-- Each response, which has the ID of its request, comes whole where the first of its sort may come, and each other one
 -- has another ID than the one before it.
 abbrev pub EachResponseComesWhole : List ℕ → List Row → Type 0
 EachResponseComesWhole ids rows = ComesWholeWhere ids rows (λ what. kind_of what ≡ Response)

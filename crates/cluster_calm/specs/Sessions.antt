@@ -3,8 +3,8 @@ use Rattle.std.specs.Prelude.{⊤, ◌≡◌, ◌≢◌, ◌⊎◌, ℕ, true, L
 use Rattle.transfer_rx.specs.declared.key.Key.{Key}
 use Rattle.transfer_rx.specs.Sessions.{Session, is_recent, next_id}
 
--- A transfer with this ID begins in a session: nothing is in progress there and it is the one that is expected, or it is
--- neither that one nor the one before it.
+-- A transfer with this ID begins in a session: nothing is in progress there and it is the one that is expected, or it
+-- is neither that one nor the one before it.
 abbrev pub Admits : ℕ → Session → Type 0
 Admits id session = ((session.expected ≡ id) × (session.taken ≡ []) × (session.marks ≡ []))
     ⊎ ((id ≢ session.expected) × (next_id id ≢ session.expected))

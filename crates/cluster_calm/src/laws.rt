@@ -33,10 +33,10 @@ use transfer_rx::laws::delivers_what_comes_whole;
 /// other's frames, each once and in the order of the bus, while nobody stops and nothing comes from outside. A transfer
 /// that a member sends then is delivered by each other member that hears it, with its payload and its transfer ID,
 /// within two delays, or the calm is over by then. This asks that two delays are no longer than a transfer is
-/// remembered; that the receiver has a session and nine blocks left all the time; and that no frame with its
-/// identifier waits when the calm begins. The first transfer of its kind in the calm has to have an ID that the receiver's session does
-/// not refuse. Of messages and requests (`counted`) the IDs behind it follow, so they need no premise; of responses
-/// (`responses`) each has to have another ID than the one before it.
+/// remembered; that the receiver has a session and nine blocks left all the time; and that no frame with its identifier
+/// waits when the calm begins. The first transfer of its sort in the calm has to have an ID that the receiver's session
+/// does not refuse. Of messages and requests (`counted`) the IDs behind it follow, so they need no premise; of
+/// responses (`responses`) each has to have another ID than the one before it.
 pub fn each_transfer_comes_whole()
     ensures counted { (ids : List ℕ) (rows : List Row) → AreMembers ids → DoNoHarm (cluster ids) rows →
         EachComesWhole ids rows }
@@ -57,16 +57,16 @@ pub fn each_transfer_comes_whole()
     what_is_said_of_frames();
 }
 
-/// A calm can go on: behind any calm rows, from whatever world, there are calm rows to any later moment, where the group
-/// has a party, and the period and the delay are a millisecond at least.
+/// A calm can go on: behind any calm rows, from whatever world, there are calm rows to any later moment, where the
+/// group has a party, and the period and the delay are a millisecond at least.
 pub fn calm_goes_on()
     ensures { CalmGoesOn }
 {}
 
 /// A leader's call is heard in time. In a calm as above, a member calls another: it sends an append request for which
-/// its queue has room. The call comes to the other within two delays, or the calm is over by then. Where the other lists
-/// the caller by then, and its term is below the call's, or the same while it does not lead, it hears a leader there: it
-/// follows when that row is over, and its wait for an election begins at that moment of its own clock.
+/// its queue has room. The call comes to the other within two delays, or the calm is over by then. Where the other
+/// lists the caller by then, and its term is below the call's, or the same while it does not lead, it hears a leader
+/// there: it follows when that row is over, and its wait for an election begins at that moment of its own clock.
 pub fn calls_are_heard()
     ensures { (ids : List ℕ) (rows : List Row) → AreMembers ids → DoNoHarm (cluster ids) rows →
         CallsAreHeard ids rows }
@@ -109,10 +109,11 @@ pub fn followers_follow_on_in_calm()
 }
 
 /// A leader calls each member often enough, in a calm. While a member leads, it offers an append request to each other
-/// member of its list by a period behind the moment at which its clock reads the call timeout more than at its last call
-/// to that member, or the calm is over by then. The stretch begins at any row of the calm, so that moment is no earlier
-/// than the row before, and than the leader's last tick. The last call is what the leader keeps: the pending call, which
-/// may be a vote request from before it won, and its last append request. Its queue may have no room for what it offers.
+/// member of its list by a period behind the moment at which its clock reads the call timeout more than at its last
+/// call to that member, or the calm is over by then. The stretch begins at any row of the calm, so that moment is no
+/// earlier than the row before, and than the leader's last tick. The last call is what the leader keeps: the pending
+/// call, which may be a vote request from before it won, and its last append request. Its queue may have no room for
+/// what it offers.
 pub fn leaders_call_in_time()
     ensures { LeadersCallInTime }
 {

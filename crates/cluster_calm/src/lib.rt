@@ -6,11 +6,11 @@
 //! frames wait is empty within a delay; nobody stops, and nothing comes from outside. Such a calm can always go on
 //! ([`laws::calm_goes_on`]), and one is there that meets all premises ([`laws::calm_can_be`]).
 //!
-//! Then each transfer but Allocations that a member's queue took is delivered, as it was sent, by each other member that
-//! hears it, within two delays ([`laws::each_transfer_comes_whole`], `specs/Comes`). So a leader's call is heard by then, and its
-//! receiver's wait for an election begins anew ([`laws::calls_are_heard`], `specs/Calls`); until that wait is over the
-//! receiver follows ([`laws::followers_follow_on_in_calm`]). A leader offers each member of its list a call in time, for
-//! which its queue may have no room ([`laws::leaders_call_in_time`], `specs/CallsInTime`).
+//! Then each transfer but Allocations that a member's queue took is delivered, as it was sent, by each other member
+//! that hears it, within two delays ([`laws::each_transfer_comes_whole`], `specs/Comes`). So a leader's call is heard
+//! by then, and its receiver's wait for an election begins anew ([`laws::calls_are_heard`], `specs/Calls`); until that
+//! wait is over the receiver follows ([`laws::followers_follow_on_in_calm`]). A leader offers each member of its list a
+//! call in time, for which its queue may have no room ([`laws::leaders_call_in_time`], `specs/CallsInTime`).
 //!
 //! Why it holds: frames of one identifier leave a queue in their order, come to the bus so, and to each receiver so.
 //! Between two members and for one identifier, `proofs/Pair` keeps which transfers are under way, which frames of the

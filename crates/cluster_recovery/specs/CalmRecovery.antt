@@ -90,7 +90,8 @@ pub record MayStart (n : ℕ) (store : Store) (w : Cluster) : Type 0 where
   pub term : store.term < term_limit
   pub room : store.commit < length store.log → length store.log < log_limit
 
--- An allocator that runs, or has failed, is stopped so by one row, wherever it is: no call of its disk is set to fail then.
+-- An allocator that runs, or has failed, is stopped so by one row, wherever it is: no call of its disk is set to fail
+-- then.
 abbrev pub StopsAtOnce : ℕ → List Row → Type 0
 StopsAtOnce n rows = (pattern : Pattern) → let w = world_of (n ∷ []) rows in let then_w = after_row w (Crash n 0 pattern) in
     is_running (w.member n).status ≡ true →
@@ -130,6 +131,10 @@ module _ (n : ℕ) (rows : List Row) (s : QuietStart n rows) where
   abbrev pub settled_from : ℕ
   settled_from = s.start + time_to_settle s.pace s.word s.store
 
+-- with a delay of no more than this, in milliseconds, three frames of NodeStatus wait at most: one comes in each second
+abbrev pub most_delay : ℕ
+most_delay = 2000
+
 -- ---- it comes to rest
 
 -- the allocator has settled with this log, or with a blank more
@@ -155,7 +160,7 @@ RestsSoon n rows = (s : QuietStart n rows) → let by = settled_from n rows s + 
 -- A delay behind `settled_from` the frames of its Allocations are gone too: from then on the allocator is ready, where
 -- a delay is 2,000 ms at most.
 abbrev pub GetsReady : ℕ → List Row → Type 0
-GetsReady n rows = (s : QuietStart n rows) → s.pace.delay ≤ 2000 → settled_from n rows s + s.pace.delay ≤ s.last →
+GetsReady n rows = (s : QuietStart n rows) → s.pace.delay ≤ most_delay → settled_from n rows s + s.pace.delay ≤ s.last →
     (log : List Entry) × HasGrown s.store.log log
     × IsReady n log (s.last + s.clocks.allocator) (world_then n rows s)
 
@@ -172,7 +177,7 @@ StaysSettled n rows = (log : List Entry) (start last ahead : ℕ) (pace : Pace) 
 abbrev pub StaysReady : ℕ → List Row → Type 0
 StaysReady n rows = (log : List Entry) (start last ahead : ℕ) (pace : Pace) (whole : List Timed) →
     let w = world_of (n ∷ []) rows in HasSettled n log (start + ahead) w →
-    AreQuiet n ahead pace last (no_own_traffic start) w whole → pace.delay ≤ 2000 → start + pace.delay < last →
+    AreQuiet n ahead pace last (no_own_traffic start) w whole → pace.delay ≤ most_delay → start + pace.delay < last →
     IsReady n log (last + ahead) (after_rows w (rows_in whole))
 
 -- ---- and then it serves each device in time
@@ -181,13 +186,13 @@ StaysReady n rows = (log : List Entry) (start last ahead : ℕ) (pace : Pace) (w
 -- served, by what the allocator had stored before, or that and a blank.
 abbrev pub RecoversForNew : ℕ → List Row → Type 0
 RecoversForNew n rows = (s : QuietStart n rows) (uid : List ℕ) → MayBeServed n s.store uid →
-    s.pace.delay ≤ 2000 → settled_from n rows s + s.pace.delay ≤ s.last →
+    s.pace.delay ≤ most_delay → settled_from n rows s + s.pace.delay ≤ s.last →
     HappensToDevice n (world_then n rows s) s.last s.clocks uid
     (λ a now later. (log : List Entry) × HasGrown s.store.log log × HasServed n log uid a now later)
 
 -- the device's unique ID stands in the log: it holds the node ID that it has there, and the allocator has settled
 abbrev pub RecoversForKnown : ℕ → List Row → Type 0
 RecoversForKnown n rows = (s : QuietStart n rows) (uid : List ℕ) (node : ℕ) → length uid ≡ 16 →
-    HasPair s.store.log uid node → s.pace.delay ≤ 2000 → settled_from n rows s + s.pace.delay ≤ s.last →
+    HasPair s.store.log uid node → s.pace.delay ≤ most_delay → settled_from n rows s + s.pace.delay ≤ s.last →
     HappensToDevice n (world_then n rows s) s.last s.clocks uid
     (λ a now later. Holds later a uid node × HasSettledWith n s.store.log now later)

@@ -102,9 +102,9 @@ pub fn who_is_alone_comes_to_rest()
     the_disk_by_states();
 }
 
-/// An allocator that is alone serves each device in time, in every calm continuation of any rows that do no harm:
-/// where it leads, has all committed and told, and nothing to send but its NodeStatus, where no node is online that it
-/// does not know, and where from the device's coming on the device reads its clock, and both send and receive, at such a
+/// An allocator that is alone serves each device in time, in every calm continuation of any rows that do no harm: where
+/// it leads, has all committed and told, and nothing to send but its NodeStatus, where no node is online that it does
+/// not know, and where from the device's coming on the device reads its clock, and both send and receive, at such a
 /// pace that a period and four delays take 100 ms at most. Within 2,100 ms a device whose unique ID is new holds a node
 /// ID that was left, where one is and the log has room; one whose unique ID stands in the log holds the node ID that it
 /// has there. Then the allocator has settled again: it leads, has all committed and told, with the new pair at the end
@@ -172,9 +172,9 @@ pub fn who_is_alone_rests_in_time()
     the_disk_by_states();
 }
 
-/// An allocator that is alone and has settled stays so for as long as nothing else happens on its bus. More than a delay
-/// later, where that is 2,000 ms at most, nothing waits in its queue but its NodeStatus: so a device that comes then is served in time, also behind
-/// another one.
+/// An allocator that is alone and has settled stays so for as long as nothing else happens on its bus. More than a
+/// delay later, where that is 2,000 ms at most, nothing waits in its queue but its NodeStatus: so a device that comes
+/// then is served in time, also behind another one.
 pub fn who_is_alone_stays_settled()
     ensures settled { (n : ℕ) (rows : List Row) → AreMembers (n ∷ []) → DoNoHarm (cluster (n ∷ [])) rows →
         StaysSettled n rows }
