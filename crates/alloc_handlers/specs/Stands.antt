@@ -49,7 +49,7 @@ pub record IsReady {D : Type 0} {disk : Ghosts D} (member : Member D disk) : Typ
   -- what it keeps in memory fits what is stored
   pub fits : Fits member.raft (durable_state member.durable)
 
--- it is ready, and there is room for so many transfers and pairs more on the list of its step
+-- the member is ready, and there is room for so many transfers and pairs more on the list of its step
 pub record IsReadyFor {D : Type 0} {disk : Ghosts D} (sent given : ℕ) (member : Member D disk) : Type 0 where
   pub ready : IsReady member
   pub sent_room : array_vec_len member.offered.sent + sent ≤ 12
@@ -69,7 +69,7 @@ pub record GoesTo {D : Type 0} {disk : Ghosts D} (start : Durable D disk) (membe
   pub puts : CallWrites g.puts start member.durable failed
   pub step_state : failed ≡ None → IsInStep start member g
 
--- it goes on to here, and tells what it saw
+-- the step goes on to here, and tells what it saw
 pub record SeesTo {D : Type 0} {disk : Ghosts D} (start : Durable D disk) (member : Member D disk)
     (step_result : StepResult) (result : Result Seen Fault) : Type 0 where
   pub goes : GoesTo start member step_result.step_state (result_err result)

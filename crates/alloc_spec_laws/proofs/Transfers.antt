@@ -23,7 +23,8 @@ answer_offers number (Gives d) g s = delivery_comes number d g s
 answer_offers number Continues g s = still g s
 answer_offers number (Drops why) g s = still g s
 
-event_offers : (number : ℕ) (event : Event) (g : StepState) → IsSilent g → Fresh (event_phase number event g).step_state
+-- what its event offers
+pub event_offers : (number : ℕ) (event : Event) (g : StepState) → IsSilent g → Fresh (event_phase number event g).step_state
 event_offers number (Tick now word) g s = ticked (clock_phase number word g) (ticks_offer number word g nothing)
   where
     nothing : Upto 0 1 g

@@ -1,4 +1,5 @@
--- Who is asked answers.
+-- Who is asked answers: the step offers the response. Whether the queue had room for it is not said here: an offer for
+-- which there was none (`fitted` is false) counts as an answer too.
 use Rattle.std.specs.Prelude.{◌≡◌, ◌≢◌, ℕ, true, [], Some}
 use Rattle.can_frame.specs.declared.identifier.Kind.TheVariants.{Request}
 use Rattle.can_frame.specs.declared.step.What.{What}

@@ -116,7 +116,7 @@ pub no_told : (word : List ℕ) → ((n : ℕ) → 1 ≤ n → n ≤ 5 → word 
     → ((ids : List ℕ) → length ids ≤ 5 → ((n : ℕ) → In n ids → n ≤ 255) → commas word ≡ list_parts ids → ⊥)
     → (told : Told) → IsCluster told → Spells told word → ⊥
 no_told word no_size no_list (Size size) cluster spells = no_size size cluster.0 cluster.1 spells
-no_told word no_size no_list (Members members) cluster spells = no_list members.items cluster.five (bytes_of_members members.items cluster) spells
+no_told word no_size no_list (Members members) cluster spells = no_list members.items cluster.few (bytes_of_members members.items cluster) spells
 
 -- a list that is none of members
 pub not_members : (word own : List ℕ) → commas word ≡ list_parts own → ((i : ℕ) → i < length own → slice_index own i < 256) → (AreMembers own → ⊥)

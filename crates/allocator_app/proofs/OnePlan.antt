@@ -20,7 +20,7 @@ use Rattle.allocator_app.specs.declared.plans.Plan.TheVariants.{Replay, Node, So
 -- a cluster has 1 to 5 members
 sizes : (told : Told) → IsCluster told → (1 ≤ size_of told) × (size_of told ≤ 5)
 sizes (Size size) h = h
-sizes (Members members) h = (h.some, h.five)
+sizes (Members members) h = (h.some, h.few)
 
 pub sound : (plan : Plan) (words : List (List ℕ)) → IsPlan plan words → IsSound plan
 sound (Replay rows ids) words h = (h.rows_most, h.members)

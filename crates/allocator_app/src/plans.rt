@@ -44,8 +44,8 @@ pub enum Plan {
         ids: ArrayVec<u8, MOST_MEMBERS>,
     },
 
-    /// To list the transfers of a log of at most so many lines, 1 to 1,000,000: those that everyone receives,
-    /// and those to these nodes, up to 5 of 1 to 125.
+    /// To list the transfers of a log of at most so many lines, 1 to 1,000,000: those that everyone receives and those
+    /// to these nodes, up to 5 of 1 to 125.
     Watch {
         form: Form,
         lines: u64,

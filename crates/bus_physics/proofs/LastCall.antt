@@ -23,11 +23,10 @@ use Rattle.alloc_spec.specs.AllocatorState.{AllocatorState, members_of}
 use Rattle.alloc_spec.specs.Transfers.{Offer, has_room, id_of}
 use Rattle.alloc_spec_laws.specs.Apart.{AreAllApart}
 use Rattle.alloc_spec_laws.proofs.Choices.{either}
-use Rattle.alloc_spec_laws.proofs.DeliveryOffers.{Fresh, IsSilent, delivery_comes, still, ticked}
 use Rattle.alloc_spec_laws.proofs.DistinctTransfers.{rank, sent}
 use Rattle.alloc_spec_laws.proofs.EndOffers.{Told, tells}
 use Rattle.alloc_spec_laws.proofs.Lists.{in_append}
-use Rattle.alloc_spec_laws.proofs.TickOffers.{Upto, ticks_offer}
+use Rattle.alloc_spec_laws.proofs.Transfers.{event_offers}
 use Rattle.cluster_agreement.proofs.Lists.{never, tell}
 
 eqb_same : (a b : ℕ) → a ≡ b → (a == b) ≡ true
@@ -100,22 +99,6 @@ module _ (number : ℕ) where
 
   none_called : (g : StepState) → Told g → Settled g
   none_called g told offer i high fitted request pending = absurd (omega (arith, high, told.each offer i))
-
-answer_offers : (number : ℕ) (answer : Answer) (g : StepState) → IsSilent g → Fresh (with_answer number answer g).step_state
-answer_offers number (Gives d) g s = delivery_comes number d g s
-answer_offers number Continues g s = still g s
-answer_offers number (Drops why) g s = still g s
-
-pub event_offers : (number : ℕ) (event : Event) (g : StepState) → IsSilent g → Fresh (event_phase number event g).step_state
-event_offers number (Tick now word) g s = ticked (clock_phase number word g) (ticks_offer number word g nothing)
-  where
-    nothing : Upto 0 1 g
-    nothing = record {
-      few = omega (arith, ap length s);
-      apart = subst (λ (l : List Offer). AreAllApart l) (sym s) tt;
-      each = λ offer i. absurd (subst (λ (l : List Offer). In offer l) s i);
-    }
-event_offers number (Rx arrival) g s = answer_offers number _ (with_sessions arrival g) s
 
 abbrev told_by : AllocatorState → ℕ → Event → StepState
 told_by t number event = tell_phase number (commit_phase number (event_phase number event (begin_phase number (moment_of event) t)).step_state)

@@ -160,4 +160,4 @@ made_short ids members shown rows lawful =
     all_short ids (λ done so_far.
     let is = shown done so_far in
     are_plain is.0 (transfers_of_rows (cluster ids) done []) (world_of ids done) (raft.run (initial_world ids) (events is.0 (cluster ids) done))
-    (subst (λ (l : List ℕ). length l ≤ 5) (sym (ids_stay (cluster ids) done)) members.five) is.1.shows is.1.writable) rows [] [] lawful (λ y i. absurd i)
+    (subst (λ (l : List ℕ). length l ≤ 5) (sym (ids_stay (cluster ids) done)) members.few) is.1.shows is.1.writable) rows [] [] lawful (λ y i. absurd i)

@@ -71,7 +71,7 @@ module _ (laws : StepLaws) (more : MoreLaws) (frame_laws : FrameLaws) (codec : C
     numbered = low t.me listed;
     device = high t.me listed;
     least = omega (arith, members.some, is.runs.size);
-    most = omega (arith, members.five, is.runs.size);
+    most = omega (arith, members.few, is.runs.size);
   })
 
   knows : KnowsMembers t w.ids

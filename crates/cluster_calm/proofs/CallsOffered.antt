@@ -32,14 +32,13 @@ use Rattle.alloc_spec_laws.specs.Calls.{carrier}
 use Rattle.alloc_spec_laws.specs.Phases.{when_committed, when_seen, when_told}
 use Rattle.alloc_spec_laws.proofs.CalledPeers.{AreQuiet, IsQuiet, commit_quiet}
 use Rattle.alloc_spec_laws.proofs.Choices.{either}
-use Rattle.alloc_spec_laws.proofs.DeliveryOffers.{Fresh, IsSilent, delivery_comes, still, ticked}
 use Rattle.alloc_spec_laws.proofs.DistinctTransfers.{rank, sent}
 use Rattle.alloc_spec_laws.proofs.EndOffers.{Told, tells}
 use Rattle.alloc_spec_laws.proofs.KeptByChanges.{Keeping}
 use Rattle.alloc_spec_laws.proofs.KeptBySteps.{event_keeps, gives_up_keeps, tell_keeps}
 use Rattle.alloc_spec_laws.proofs.Lists.{in_back, in_front}
 use Rattle.alloc_spec_laws.proofs.LogGrowth.{commit_decided}
-use Rattle.alloc_spec_laws.proofs.TickOffers.{Upto, ticks_offer}
+use Rattle.alloc_spec_laws.proofs.Transfers.{event_offers}
 
 -- what may hold of the pending call to a peer, of what is kept with it, and of the moment of the last append request
 abbrev pub OfCalls : Type 1
@@ -204,22 +203,6 @@ module _ (m : ℕ) (H : OfCalls) (ended : (p : Option Request) (s : Option Sendi
   none_called : (g : StepState) → Told g → CallsOrKeeps g → Kept m H g
   none_called g told (inl c) = absurd (omega (arith, told.each c.0 c.1, c.2))
   none_called g told (inr h) = h
-
-answer_offers : (number : ℕ) (answer : Received) (g : StepState) → IsSilent g → Fresh (with_answer number answer g).step_state
-answer_offers number (Gives d) g s = delivery_comes number d g s
-answer_offers number Continues g s = still g s
-answer_offers number (Drops why) g s = still g s
-
-event_offers : (number : ℕ) (event : Event) (g : StepState) → IsSilent g → Fresh (event_phase number event g).step_state
-event_offers number (Tick now word) g s = ticked (clock_phase number word g) (ticks_offer number word g nothing)
-  where
-    nothing : Upto 0 1 g
-    nothing = record {
-      few = omega (arith, ap length s);
-      apart = subst (λ (l : List Offer). AreAllApart l) (sym s) tt;
-      each = λ offer i. absurd (subst (λ (l : List Offer). In offer l) s i);
-    }
-event_offers number (Rx arrival) g s = answer_offers number _ (with_sessions arrival g) s
 
 -- ---- the calls
 

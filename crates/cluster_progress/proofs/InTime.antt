@@ -90,7 +90,7 @@ module _ (number : ℕ) where
     inl (some_call (next_request q g) ((called q g true).allocator.raft_server.memory.pending q)
         (at_here g.allocator.raft_server.memory.pending q q (Some (next_request q g)) refl)),
   )
-  called_one q g false leads = (leads, inr (inr (call_offer q g false, added_last (call_offer q g false) g.offers, refl, refl)))
+  called_one q g false leads = (leads, inr (inr (call_offer q g false, added_last (call_offer q g false) g.offers, refl, refl, refl)))
 
   shaped_one : (q : ℕ) (g : StepState) (pending : Option Request) (is : Bool) → g.allocator.raft_server.memory.pending q ≡ pending → is_due q g ≡ is →
       g.allocator.raft_server.memory.role ≡ Leader → Touched q (shaped q g pending is)
@@ -120,10 +120,10 @@ module _ (number : ℕ) where
       ap (λ m. is_silent m g.allocator.now) (at_other g.allocator.times.appended q p (Some g.allocator.now) differs) ∙ spoke,
     )),
   )
-  called_other p q g true differs (leads, inr (inr (offer, i, to, fitted))) = (leads, inr (inr (offer, still_in offer (call_offer q g true) g.offers i, to, fitted)))
+  called_other p q g true differs (leads, inr (inr (offer, i, what, to, fitted))) = (leads, inr (inr (offer, still_in offer (call_offer q g true) g.offers i, what, to, fitted)))
   called_other p q g false differs (leads, inl some) = (leads, inl some)
   called_other p q g false differs (leads, inr (inl spoke)) = (leads, inr (inl spoke))
-  called_other p q g false differs (leads, inr (inr (offer, i, to, fitted))) = (leads, inr (inr (offer, still_in offer (call_offer q g false) g.offers i, to, fitted)))
+  called_other p q g false differs (leads, inr (inr (offer, i, what, to, fitted))) = (leads, inr (inr (offer, still_in offer (call_offer q g false) g.offers i, what, to, fitted)))
 
   shaped_other : (p q : ℕ) (g : StepState) (pending : Option Request) (is : Bool) → p ≢ q → Touched p g → Touched p (shaped q g pending is)
   shaped_other p q g (Some request) is differs touched = touched

@@ -2,6 +2,7 @@
 use Rattle.std.specs.Prelude.{⊤, List, [], ◌∷◌, ◌≡◌, ◌≢◌, ◌⊎◌, ◌+◌, ◌<◌, ◌≤◌, ℕ, drop, false, length, max, true, None, Some}
 use Rattle.can_frame.specs.Sizes.{node_ids}
 use Rattle.can_frame.specs.declared.identifier.Kind.TheVariants.{Request}
+use Rattle.can_frame.specs.declared.step.What.TheVariants.{AppQ}
 use Rattle.can_frame.specs.DataTypes.{append_entries}
 use Rattle.can_frame.specs.Timing.{election_spread, election_wait}
 use Rattle.cluster_discovery.specs.Members.{is_on_list}
@@ -36,7 +37,7 @@ abbrev pub IsInTouch : ℕ → StepState → Type 0
 IsInTouch peer g = (g.allocator.raft_server.memory.pending peer ≢ None)
     ⊎ ((length g.allocator.raft_server.store.log < g.allocator.raft_server.memory.next peer)
     × (is_silent (g.allocator.times.appended peer) g.allocator.now ≡ false))
-    ⊎ ((offer : Offer) × In offer g.offers × (offer.to ≡ peer) × (offer.fitted ≡ false))
+    ⊎ ((offer : Offer) × In offer g.offers × (offer.what ≡ AppQ) × (offer.to ≡ peer) × (offer.fitted ≡ false))
 
 -- when a step of a leader is over, it is in touch with each peer of its list
 abbrev pub StaysInTouch : Type 0

@@ -28,4 +28,4 @@ nodes_else ids rest first is e node not_ =
 pub three_parts : (ids : List ℕ) (different : Bool) → (1 ≤ length ids) × (length ids ≤ 5) → AreNodes ids → IsTrue different ↔ HasNoneTwice ids
     → IsTrue different ↔ AreMembers ids
 three_parts ids different count nodes once =
-    (λ true_. record { some = count.0; five = count.1; nodes = nodes; once = once.0 true_ }, λ members. once.1 members.once)
+    (λ true_. record { some = count.0; few = count.1; nodes = nodes; once = once.0 true_ }, λ members. once.1 members.once)

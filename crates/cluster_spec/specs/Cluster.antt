@@ -23,10 +23,12 @@ AreNodes ids = (n : ℕ) → In n ids → (1 ≤ n) × (n ≤ 125)
 -- 1 to 5 members, with different node IDs
 pub record AreMembers (ids : List ℕ) : Type 0 where
   pub some : 1 ≤ length ids
-  pub five : length ids ≤ most_members
+  pub few : length ids ≤ most_members
   pub nodes : AreNodes ids
   pub once : HasNoneTwice ids
 
+-- The world: the members by their node IDs, the allocatees by their numbers, the bus, and how many rows have been taken.
+-- Of a member that is not on the list no row is lawful.
 pub record Cluster : Type 0 where
   pub ids : List ℕ
   pub member : ℕ → Member
@@ -53,7 +55,8 @@ from_outside id bytes = record { id = id; bytes = bytes; mark = record { step = 
 abbrev pub no_frame : Queued
 no_frame = from_outside 0 []
 
--- frame k of the bus
+-- Frame k of the bus; the first is frame 1. No row that names frame 0, or one above the last, is lawful, so what stands
+-- here for these decides nothing.
 abbrev pub frame_at : List Queued → ℕ → Queued
 frame_at frames k = slice_index_or frames (k - 1) no_frame
 

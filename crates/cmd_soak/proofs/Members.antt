@@ -56,7 +56,7 @@ are_members size least most =
     let count = length_take size five most in
     record {
       some = omega (arith, count, least);
-      five = omega (arith, count, most);
+      few = omega (arith, count, most);
       nodes = λ n here. five_nodes n (in_take n size five here);
       once = once_take size five five_once;
     }

@@ -31,7 +31,7 @@ among xs x b e = (λ is. is_in xs x (sym e ∙ is), λ i. e ∙ is_found xs x i)
 pub told_all : (members : List ℕ) (me size : ℕ) (b : Bool) → length members ≡ size → In me members → IsTrue b ↔ AreMembers members → 1 ≤ size → size ≤ 5 → IsTrue b ↔ IsToldAll me (rules_by size members)
 told_all members me size b all own is some five = (
   λ t. let m = is.0 t in record { own = own; nodes = m.nodes; once = m.once; all = all },
-  λ told. is.1 (record { some = omega (arith, all, some); five = omega (arith, all, five); nodes = told.nodes; once = told.once }),
+  λ told. is.1 (record { some = omega (arith, all, some); few = omega (arith, all, five); nodes = told.nodes; once = told.once }),
 )
 
 -- of eight at most eight are taken

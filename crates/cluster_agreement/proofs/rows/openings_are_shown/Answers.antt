@@ -15,10 +15,10 @@ returns c =
       members = c.members_of_a_step.ensures.opening;
     } in record {
       opened = λ choice made w run members shows written n told ms word listed stopped opens. (
-        may_open disk opening choice made w members.five run shows n told ms word listed stopped opens,
+        may_open disk opening choice made w members.few run shows n told ms word listed stopped opens,
         opened_written w.ids run n written,
-        open_shown disk opening choice made w members.five run shows n told ms word listed stopped opens,
+        open_shown disk opening choice made w members.few run shows n told ms word listed stopped opens,
       );
       failed = λ choice made w run members shows n told ms word listed stopped fails.
-          not_opened_shown disk opening choice made w members.five run shows n told ms word listed stopped fails;
+          not_opened_shown disk opening choice made w members.few run shows n told ms word listed stopped fails;
     }

@@ -60,7 +60,7 @@ apart (inl e) = absurd (omega (arith, e))
 apart (inr i) = absurd i
 
 pub returns-clause-members : goal.returns-clause-members
-returns-clause-members c = record { some = omega arith; five = omega arith; nodes = in_two; once = (apart, ((λ i. i), tt)) }
+returns-clause-members c = record { some = omega arith; few = omega arith; nodes = in_two; once = (apart, ((λ i. i), tt)) }
 
 pub returns-clause-harmless : goal.returns-clause-harmless
 returns-clause-harmless c = (inl refl, (inl refl, (inl refl, tt)))

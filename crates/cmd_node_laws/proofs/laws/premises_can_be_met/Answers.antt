@@ -28,7 +28,7 @@ abbrev own : List ℕ
 own = 2 ∷ []
 
 members : AreMembers two
-members = record { some = omega arith; five = omega arith; nodes = each; once = (other, ((λ i. i), tt)) }
+members = record { some = omega arith; few = omega arith; nodes = each; once = (other, ((λ i. i), tt)) }
   where
     each : (n : ℕ) → In n two → (1 ≤ n) × (n ≤ 125)
     each n (inl e) = (omega (arith, e), omega (arith, e))
