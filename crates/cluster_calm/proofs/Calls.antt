@@ -28,7 +28,8 @@ use Rattle.cluster_calm.proofs.CallsKept.{GoesOn, IsKept, further}
 use Rattle.cluster_spec.specs.Cluster.{Cluster, after_row, after_rows, arrival_at, frame_at, receipt_of}
 use Rattle.cluster_spec.specs.Members.{Member, member_after_step}
 
-on_list : (list : List ℕ) (node : ℕ) → In node list → is_on_list list node ≡ true
+-- who is in a list is found on it
+pub on_list : (list : List ℕ) (node : ℕ) → In node list → is_on_list list node ≡ true
 on_list list node i = elim (tell (is_on_list list node)) [ inl e ↦ e | inr e ↦ absurd (unlisted list node e i) ]
 
 -- at whatever moment

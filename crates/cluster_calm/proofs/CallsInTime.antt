@@ -24,13 +24,14 @@ use Rattle.cluster_spec.specs.Cluster.{Cluster, after_row, receipt_of, step_of, 
 use Rattle.cluster_spec.specs.Members.{Member, after_sending, member_after_step}
 
 -- what is kept of the calls to a peer is no later than this moment
-abbrev Until : ℕ → Option Request → Option Sending → Option ℕ → Type 0
+abbrev pub Until : ℕ → Option Request → Option Sending → Option ℕ → Type 0
 Until moment p s a = ((request : Request) → p ≡ Some request → (call : Sending) × (s ≡ Some call) × (call.moment ≤ moment)) × ((sent : ℕ) → a ≡ Some sent → sent ≤ moment)
 
-until_ended : (moment : ℕ) (p : Option Request) (s : Option Sending) (a : Option ℕ) → Until moment p s a → Until moment None None a
+-- so it is when the call has ended, and when the server has won
+pub until_ended : (moment : ℕ) (p : Option Request) (s : Option Sending) (a : Option ℕ) → Until moment p s a → Until moment None None a
 until_ended moment p s a h = (λ request e. absurd (cc e), h.1)
 
-until_won : (moment : ℕ) → Until moment None None None
+pub until_won : (moment : ℕ) → Until moment None None None
 until_won moment = (λ request e. absurd (cc e), λ sent e. absurd (cc e))
 
 -- a call that is kept since then is old by now, so it is not pending; and the last append request was made long ago

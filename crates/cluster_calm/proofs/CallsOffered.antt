@@ -18,16 +18,11 @@ use Rattle.raft_model.specs.Moves.Leading.{append_request, vote_request}
 use Rattle.raft_model.specs.Moves.Move.{AnswerAgain, CallForVote, CallToAppend, CommitTo, GiveUp, ProposeEntry, TakeAppendAnswer, TakeAppendRequest, TakeVoteAnswer, TakeVoteRequest, TellNothing, TellPair, TimeOut}
 use Rattle.raft_model.specs.Server.{Memory, RaftServer, Role}
 use Rattle.raft_model.specs.Server.Role.{Candidate, Follower, Leader}
-use Rattle.transfer_rx.specs.Reassembly.{Answer as Received}
-use Rattle.transfer_rx.specs.Reassembly.Answer.{Continues, Drops, Gives}
 use Rattle.alloc_spec.specs.AllocatorState.{AllocatorState, members_of}
 use Rattle.alloc_spec.specs.Ending.{append_call_bytes, calls_all, calls_owed, calls_peer, vote_call_bytes}
-use Rattle.alloc_spec.specs.Step.{Event, at_moment, begin_phase, event_phase, moment_of, step, with_answer, with_sessions}
-use Rattle.alloc_spec.specs.Step.Event.{Rx, Tick}
+use Rattle.alloc_spec.specs.Step.{Event, at_moment, begin_phase, moment_of, step}
 use Rattle.alloc_spec.specs.StepState.{StepState, initial_state, with_counter, with_move_if, with_offer}
-use Rattle.alloc_spec.specs.Tick.{clock_phase}
 use Rattle.alloc_spec.specs.Transfers.{Offer, has_room, id_of}
-use Rattle.alloc_spec_laws.specs.Apart.{AreAllApart}
 use Rattle.alloc_spec_laws.specs.Calls.{carrier}
 use Rattle.alloc_spec_laws.specs.Phases.{when_committed, when_seen, when_told}
 use Rattle.alloc_spec_laws.proofs.CalledPeers.{AreQuiet, IsQuiet, commit_quiet}
@@ -219,12 +214,13 @@ call_offer what q request payload fits g = record {
 }
 
 -- the call, where it fits and where not
-abbrev called : ℕ → What → ℕ → Move → Request → List ℕ → Bool → StepState → StepState
+abbrev pub called : ℕ → What → ℕ → Move → Request → List ℕ → Bool → StepState → StepState
 called number what q move request payload fits g =
     with_move_if fits number (given_call g.allocator.now (id_of g.allocator.ids what q)) move
     (with_counter fits what q (with_offer number (call_offer what q request payload fits g) g))
 
-clash : (role : Role) → role ≡ Candidate → role ≡ Leader → ⊥
+-- who leads is no candidate
+pub clash : (role : Role) → role ≡ Candidate → role ≡ Leader → ⊥
 clash role e f = absurd (cc (e, f))
 
 -- what calls for votes and calls to append keep, all calls keep
@@ -252,12 +248,12 @@ module _ (number : ℕ) (K : StepState → Type 0)
   one_keeps : (q : ℕ) (g : StepState) → K g → K (calls_peer number q g)
   one_keeps q g h = by_role q g (g.allocator.raft_server.memory.pending q) g.allocator.raft_server.memory.role refl h
 
-  all_keep : (peers : List ℕ) (g : StepState) → K g → K (calls_all number peers g)
+  pub all_keep : (peers : List ℕ) (g : StepState) → K g → K (calls_all number peers g)
   all_keep [] g h = h
   all_keep (q ∷ peers) g h = all_keep peers (calls_peer number q g) (one_keeps q g h)
 
 -- the role, the moment and the list
-abbrev Same : Role → ℕ → List ℕ → StepState → Type 0
+abbrev pub Same : Role → ℕ → List ℕ → StepState → Type 0
 Same role now list g = (g.allocator.raft_server.memory.role ≡ role) × (g.allocator.now ≡ now) × (members_of g.allocator ≡ list)
 
 module _ (number : ℕ) (role : Role) (now : ℕ) (list : List ℕ) where
@@ -285,7 +281,8 @@ module _ (number m : ℕ) where
     kept_votes q request payload true g e h leads = absurd (clash g.allocator.raft_server.memory.role e leads)
     kept_votes q request payload false g e h leads = absurd (clash g.allocator.raft_server.memory.role e leads)
 
-    others : (q : ℕ) (pending : ℕ → Option Request) (sending : ℕ → Option Sending) (appended : ℕ → Option ℕ) (p : Option Request) (s : Option Sending) (a : Option ℕ)
+    -- a call to another peer leaves what is kept of this one's
+    pub others : (q : ℕ) (pending : ℕ → Option Request) (sending : ℕ → Option Sending) (appended : ℕ → Option ℕ) (p : Option Request) (s : Option Sending) (a : Option ℕ)
         → m ≢ q → H (pending m) (sending m) (appended m) → H (at pending q p m) (at sending q s m) (at appended q a m)
     others q pending sending appended p s a differs h =
         subst (λ (x : Option Request). H x (at sending q s m) (at appended q a m)) (sym (at_other pending q m p differs))
@@ -344,7 +341,8 @@ module _ (number m : ℕ) where
 
 module _ (m : ℕ) (H : OfCalls) (ended : (p : Option Request) (s : Option Sending) (a : Option ℕ) → H p s a → H None None a) (won : H None None None)
     (t : AllocatorState) (number : ℕ) (event : Event) where
-  before_calls : OfLeader m H t.raft_server.memory t.times → Kept m H (when_told t number event)
+  -- until a step makes its calls, this is kept, or an append request to the peer is offered
+  pub before_calls : OfLeader m H t.raft_server.memory t.times → Kept m H (when_told t number event)
   before_calls h = none_called m H ended won number (when_told t number event)
       (tells number (when_committed t number event) (event_offers number event (begin_phase number (moment_of event) t) refl))
       (tell_keeps number event (CallsOrKeeps m H ended won number) (λ d. ⊤) k (when_committed t number event)
@@ -362,7 +360,8 @@ module _ (m : ℕ) (H : OfCalls) (ended : (p : Option Request) (s : Option Sendi
   step_keeps_calls h = all_keep number (Kept m H) (kept_votes number m H) (kept_appends number m H)
       (drop 1 (members_of (when_told t number event).allocator)) (when_told t number event) (before_calls h)
 
-same_after : (t : AllocatorState) (number : ℕ) (event : Event) → let told = (when_told t number event).allocator in
+-- the calls of a step leave its role, its moment and its list
+pub same_after : (t : AllocatorState) (number : ℕ) (event : Event) → let told = (when_told t number event).allocator in
     Same told.raft_server.memory.role told.now (members_of told) (step t number event).step_state
 unfolding step
 same_after t number event = let told : AllocatorState = (when_told t number event).allocator in

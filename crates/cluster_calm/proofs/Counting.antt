@@ -112,7 +112,7 @@ pub record HasPlaces (ids : Ids) : Type 0 where
 
 -- a kind whose transfer IDs are counted, and where it goes
 abbrev pub IsCounted : What → ℕ → Type 0
-IsCounted Alloc to = ⊥
+IsCounted Alloc to = to ≡ 0
 IsCounted Disc to = to ≡ 0
 IsCounted Stat to = to ≡ 0
 IsCounted InfoQ to = to < 128
@@ -123,7 +123,7 @@ IsCounted AppQ to = to < 128
 IsCounted App to = ⊥
 
 not_response : (what : What) (to : ℕ) → IsCounted what to → kind_of what ≡ Response → ⊥
-not_response Alloc to counted e = counted
+not_response Alloc to counted e = cc (e)
 not_response Disc to counted e = cc (e)
 not_response Stat to counted e = cc (e)
 not_response InfoQ to counted e = cc (e)
@@ -171,7 +171,12 @@ stays AppQ there AppQ to ids sent counted differ = get_or-set_other ids.append t
 stays Info there what to ids sent counted differ = absurd sent
 stays Vote there what to ids sent counted differ = absurd sent
 stays App there what to ids sent counted differ = absurd sent
-stays a there Alloc to ids sent counted differ = absurd counted
+stays Alloc there Alloc to ids sent counted differ = absurd (differ refl (sent ∙ sym counted))
+stays Disc there Alloc to ids sent counted differ = refl
+stays Stat there Alloc to ids sent counted differ = refl
+stays InfoQ there Alloc to ids sent counted differ = refl
+stays VoteQ there Alloc to ids sent counted differ = refl
+stays AppQ there Alloc to ids sent counted differ = refl
 stays a there Info to ids sent counted differ = absurd counted
 stays a there Vote to ids sent counted differ = absurd counted
 stays a there App to ids sent counted differ = absurd counted

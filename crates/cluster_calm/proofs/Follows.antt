@@ -1,5 +1,5 @@
 -- Which transfer IDs follow each other: those of a counter; and those of responses, where none repeats.
-use Rattle.std.proofs.Common.{◌≡◌, ◌⊎◌, ℕ, ◌+◌, Bool, true, List, [], ◌∷◌, inl, inr, refl, sym, ◌∙◌, ap, subst, arith, cond, Some}
+use Rattle.std.proofs.Common.{◌≡◌, ◌≢◌, ◌⊎◌, ℕ, ◌+◌, Bool, true, List, [], ◌∷◌, inl, inr, refl, sym, ◌∙◌, ap, subst, arith, cond, Some}
 use Rattle.std.specs.Prelude.{⊤}
 use Rattle.can_frame.specs.declared.identifier.Kind.TheVariants.{Response}
 use Rattle.can_frame.specs.declared.step.What.{What}
@@ -20,7 +20,8 @@ use Rattle.cluster_spec.specs.Members.MemberStatus.{Up}
 
 -- ---- a counter
 
-apart_next : (k : ℕ) → k ≡ id_after k → ⊥
+-- the next transfer ID is another one
+pub apart_next : (k : ℕ) → k ≡ id_after k → ⊥
 apart_next k e = omega (arith, e)
 
 behind : (Begins : ℕ → Type 0) (offers : List Offer) (last c next : ℕ) → last ≡ c → Follow (id_after c) (ids_in offers) next
@@ -55,20 +56,17 @@ counter_follows Begins n what to counted number expected t is counter event =
 
 -- ---- responses
 
--- a step offers one at most
-few : (what : What) (to : ℕ) (offers : List Offer) → kind_of what ≡ Response → AreAllApart offers
+-- a step offers one at most, of each kind but Allocations and to each node
+pub few : (what : What) (to : ℕ) (offers : List Offer) → what ≢ Alloc → AreAllApart offers
     → (ones what to offers ≡ []) ⊎ ((o : Offer) × (ones what to offers ≡ o ∷ []))
-few what to [] response apart = inl refl
-few what to (o ∷ offers) response apart = elim (tell (is_one what to o)) [
+few what to [] not_alloc apart = inl refl
+few what to (o ∷ offers) not_alloc apart = elim (tell (is_one what to o)) [
   | inl t ↦ inr (o, ap (λ (b : Bool). cond b (o ∷ ones what to offers) (ones what to offers)) t ∙ ap (λ (l : List Offer). o ∷ l) (none t (ones what to offers) refl))
   | inr f ↦
       let e : ones what to (o ∷ offers) ≡ ones what to offers = ap (λ (b : Bool). cond b (o ∷ ones what to offers) (ones what to offers)) f in
-      elim (few what to offers response apart.1) [ inl z ↦ inl (e ∙ z) | inr z ↦ inr (z.0, e ∙ z.1) ]
+      elim (few what to offers not_alloc apart.1) [ inl z ↦ inl (e ∙ z) | inr z ↦ inr (z.0, e ∙ z.1) ]
 ]
   where
-    not_alloc : what ≡ Alloc → ⊥
-    not_alloc e = cc (sym (ap kind_of e) ∙ response)
-
     none : is_one what to o ≡ true → (list : List Offer) → ones what to offers ≡ list → ones what to offers ≡ []
     none t [] e = e
     none t (p ∷ list) e =
@@ -87,7 +85,7 @@ module _ (Begins : ℕ → Type 0) (n : ℕ) (what : What) (to : ℕ) (response 
       → (w.member n).status ≡ Up t → (event : Event) → step_of w timed.row ≡ Some (n, event)
       → (later : Expected) × Chain Begins expected (ones what to (step t (w.rows + 1) event).step_state.offers) later
       × ⊤ × NoneRepeatsIn later (after_row w timed.row) rest
-  response_follows expected w timed rest none t up event is_step = elim (few what to offers response (apart t (w.rows + 1) event)) [
+  response_follows expected w timed rest none t up event is_step = elim (few what to offers (λ e. cc (sym (ap kind_of e) ∙ response)) (apart t (w.rows + 1) event)) [
     | inl e ↦ (
       expected,
       subst (λ (l : List Offer). Chain Begins expected l expected) (sym e) (λ id f. f),

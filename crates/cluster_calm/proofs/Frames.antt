@@ -68,7 +68,8 @@ id_marked number step re place [] frame i = absurd i
 id_marked number step re place (piece ∷ pieces) frame (inl e) = ap (λ (f : Queued). f.id) e
 id_marked number step re place (piece ∷ pieces) frame (inr i) = id_marked number step re (suc place) pieces frame i
 
-last_marked : (number step re place : ℕ) (pieces : List Piece) (front : List Queued) (last : Queued) → marked number step re place pieces ≡ front ++ last ∷ []
+-- the mark of the last of some frames
+pub last_marked : (number step re place : ℕ) (pieces : List Piece) (front : List Queued) (last : Queued) → marked number step re place pieces ≡ front ++ last ∷ []
     → last.mark ≡ record { step = step; re = re; place = place + length front }
 last_marked number step re place [] [] last e = absurd (omega (arith, ap length e))
 last_marked number step re place [] (f ∷ front) last e = absurd (omega (arith, ap length e))
@@ -90,8 +91,8 @@ frames_are : (x : SentTransfer) → frames_of x ≡ marked (identifier_number (i
 unfolding queued_frames
 frames_are x = refl
 
-cut_small : (count : ℕ) → count ≤ 223 → cut_length count ≤ 225
-cut_small count few = elim (leb_tells count 7) [ inl z ↦ rw (z.0) (omega (arith, few)) | inr z ↦ rw (z.0) (omega (arith, few)) ]
+cut_small : (count most : ℕ) → count ≤ most → cut_length count ≤ most + 2
+cut_small count most few = elim (leb_tells count 7) [ inl z ↦ rw (z.0) (omega (arith, few)) | inr z ↦ rw (z.0) (omega (arith, few)) ]
 
 ids_in_pieces : (signature id : ℕ) (payload : List ℕ) → HaveId id (pieces_of signature id payload)
 unfolding pieces_of
@@ -141,14 +142,15 @@ module _ (laws : CuttingLaws) (x : SentTransfer) (small : x.offer.id < 32) where
       behind [] have = have.0
       behind (f ∷ front) have = behind front have.1
 
-  -- the first frames of a transfer carry no more than nine blocks hold
-  pub few_carried : length x.offer.payload ≤ 223 → (front more : List Queued) → frames_of x ≡ front ++ more → length (joined (map read front)) ≤ 225
-  few_carried short front more e =
+  -- the first frames of a transfer carry no more than its payload and the two bytes of a CRC
+  pub few_carried : (most : ℕ) → length x.offer.payload ≤ most → (front more : List Queued) → frames_of x ≡ front ++ more
+      → length (joined (map read front)) ≤ most + 2
+  few_carried most short front more e =
       let a = fewer (map read front) (map read more) in
       let b = ap (λ (l : List Piece). length (joined l)) (sym (map-append read front more) ∙ (ap (map read) (sym e) ∙ carry)) in
       let c = ap length (laws.carried (signature_of x.offer.what) x.offer.id x.offer.payload) in
       let d = laws.cut (signature_of x.offer.what) x.offer.payload in
-      let g = cut_small (length x.offer.payload) short in omega (arith, a, b, c, d, g)
+      let g = cut_small (length x.offer.payload) most short in omega (arith, a, b, c, d, g)
 
   -- the mark of the last
   pub last_mark : (front : List Queued) (last : Queued) → frames_of x ≡ front ++ last ∷ []

@@ -6,8 +6,11 @@ pub mod Ways
 pub mod Counting
 pub mod Group
 pub mod Others
+pub mod Hearers
 pub mod GoesOn
+pub mod Unfinished
 pub mod Pair
+pub mod MembersHear
 pub mod Heard
 pub mod Follows
 pub mod Start
@@ -17,3 +20,10 @@ pub mod Calls
 pub mod CallsRead
 pub mod CallsOffered
 pub mod CallsInTime
+pub mod EachServer
+pub mod DevicesSteps
+pub mod DevicesHeard
+pub mod DevicesAsked
+pub mod DevicesHear
+pub mod DevicesTold
+pub mod Examples

@@ -1,8 +1,10 @@
 -- The frames of one member's transfers of one kind and destination, and all others, at a receiver.
 use Rattle.std.proofs.Common.{◌≡◌, ◌≢◌, ℕ, ◌≤◌, Bool, true, false, List, [], ◌∷◌, ◌++◌, refl, sym, ◌∙◌, ap, subst, inl, inr, cond, Some}
-use Rattle.std.specs.Prelude.{◌&&◌, flat_map}
+use Rattle.std.specs.Prelude.{◌⊎◌, ◌&&◌, flat_map}
 use Rattle.std.proofs.lemmas.Bool.Decides.{eqb_tells}
 use Rattle.can_frame.specs.declared.identifier.Ident.{Ident}
+use Rattle.can_frame.specs.declared.identifier.Kind.{Kind}
+use Rattle.can_frame.specs.declared.identifier.Kind.TheVariants.{Message}
 use Rattle.can_frame.specs.declared.step.What.{What}
 use Rattle.can_frame.specs.Identifier.{identifier_number, identifier_of}
 use Rattle.can_frame.specs.Kinds.{is_anonymous}
@@ -10,32 +12,33 @@ use Rattle.raft_model.specs.Lists.{In}
 use Rattle.transfer_rx.specs.declared.key.Key.{Key}
 use Rattle.transfer_rx.specs.Acceptance.{is_for}
 use Rattle.transfer_rx.specs.Keys.{key_of}
+use Rattle.transfer_rx.specs.Reassembly.{Setting}
 use Rattle.transfer_rx.specs.Run.{is_of}
 use Rattle.transfer_rx.proofs.Completeness.{own_wanted}
 use Rattle.transfer_tx.specs.Queue.{Queued}
 use Rattle.transfer_tx.specs.Run.{of_identifier}
 use Rattle.allocatee.specs.Given.{IsAnonymous}
-use Rattle.alloc_spec.specs.Accepted.{rows, setting_for}
 use Rattle.alloc_spec.specs.Transfers.{Offer, SentTransfer, frames_of, ident_of, kind_of, number_of}
 use Rattle.alloc_spec_laws.proofs.Choices.{tell}
 use Rattle.alloc_spec_laws.specs.Sound.{IsDestination, IsInRange}
 use Rattle.alloc_spec_laws.specs.Waiting.{all_frames_put, frames_put}
 use Rattle.cluster_agreement.specs.LawsBelow.{FrameLaws}
-use Rattle.cluster_agreement.proofs.Idents.{dest_is, ident_ok, one_what, to_for, wanted_is}
+use Rattle.cluster_agreement.proofs.Idents.{dest_of, ident_ok, one_what, to_for, wanted_is}
 use Rattle.cluster_calm.proofs.Counting.{is_one, is_to, is_to_false, is_to_true, ones}
 use Rattle.cluster_calm.proofs.Frames.{has_its_id}
 use Rattle.cluster_calm.proofs.Group.{IsOf}
 use Rattle.cluster_recovery.proofs.CalmQueue.{of_both}
 use Rattle.cluster_spec.specs.Cluster.{arrival_at}
 
-some_ident : (x y : Ident) → Some x ≡ Some y → x ≡ y
+-- one identifier
+pub some_ident : (x y : Ident) → Some x ≡ Some y → x ≡ y
 some_ident x y e = cc (e)
 
 not_true : (b : Bool) → (b ≡ true → ⊥) → b ≡ false
 not_true b no_way = elim (tell b) [ inl t ↦ absurd (no_way t) | inr f ↦ f ]
 
-module _ (laws : FrameLaws) (n m : ℕ) (what : What) (to : ℕ) (node : (1 ≤ n) × (n ≤ 125)) (some : 1 ≤ m) (dest : IsDestination (kind_of what) to)
-    (known : is_anonymous (kind_of what) ≡ false) (for_it : is_for m (ident_of n what to) ≡ true) where
+module _ (laws : FrameLaws) (n : ℕ) (setting : Setting) (what : What) (to : ℕ) (node : (1 ≤ n) × (n ≤ 125)) (some : (1 ≤ setting.me) ⊎ (kind_of what ≡ Message))
+    (dest : IsDestination (kind_of what) to) (known : is_anonymous (kind_of what) ≡ false) (for_it : is_for setting.me (ident_of n what to) ≡ true) where
   abbrev number : ℕ
   number = identifier_number (ident_of n what to)
 
@@ -44,32 +47,35 @@ module _ (laws : FrameLaws) (n m : ℕ) (what : What) (to : ℕ) (node : (1 ≤ 
 
   -- the frame has another identifier, and is of another key
   abbrev pub IsOther : Queued → Type 0
-  IsOther frame = (frame.id ≢ number) × ((moment : ℕ) → is_of (setting_for m) key (arrival_at frame moment) ≡ false)
+  IsOther frame = (frame.id ≢ number) × ((moment : ℕ) → is_of setting key (arrival_at frame moment) ≡ false)
 
   reads : (p : ℕ) (a : What) (there : ℕ) → (1 ≤ p) × (p ≤ 125) → IsDestination (kind_of a) there → identifier_of (identifier_number (ident_of p a there)) ≡ Some (ident_of p a there)
   reads p a there low at = laws.ident_read (ident_of p a there) (ident_ok p a there low.0 low.1 at)
 
   -- a frame of the key has an identifier with these fields
   abbrev ReadAs : Queued → Ident → Type 0
-  ReadAs frame ident = (ident.kind ≡ kind_of what) × (ident.number ≡ number_of what) × (ident.source ≡ n) × (is_for m ident ≡ true) × (is_anonymous ident.kind ≡ false)
+  ReadAs frame ident = (ident.kind ≡ kind_of what) × (ident.number ≡ number_of what) × (ident.source ≡ n) × (is_for setting.me ident ≡ true) × (is_anonymous ident.kind ≡ false)
 
-  of_key_reads : (frame : Queued) (moment : ℕ) (ident : Ident) → identifier_of frame.id ≡ Some ident → is_of (setting_for m) key (arrival_at frame moment) ≡ true → ReadAs frame ident
+  of_key_reads : (frame : Queued) (moment : ℕ) (ident : Ident) → identifier_of frame.id ≡ Some ident → is_of setting key (arrival_at frame moment) ≡ true → ReadAs frame ident
   of_key_reads frame moment ident read is =
-      let own = own_wanted (setting_for m) key (arrival_at frame moment) is in
-      let wanted = wanted_is rows m frame.id own.w own.accepted in
+      let own = own_wanted setting key (arrival_at frame moment) is in
+      let wanted = wanted_is setting.rows setting.me frame.id own.w own.accepted in
       let same : own.w.ident ≡ ident = some_ident own.w.ident ident (sym wanted.read ∙ read) in
       subst (ReadAs frame) same (ap (λ (k : Key). k.kind) own.own, ap (λ (k : Key). k.number) own.own, ap (λ (k : Key). k.source) own.own, wanted.for_me, own.of_session)
+
+  or_message : (kind : Kind) → kind ≡ kind_of what → (1 ≤ setting.me) ⊎ (kind ≡ Message)
+  or_message kind same = elim some [ inl low ↦ inl low | inr broadcast ↦ inr (same ∙ broadcast) ]
 
   -- a frame of a member with another identifier
   pub other_of : (p : ℕ) (frame : Queued) → (1 ≤ p) × (p ≤ 125) → IsOf p frame → frame.id ≢ number → IsOther frame
   other_of p frame low is differs = (
     differs,
-    λ moment. not_true (is_of (setting_for m) key (arrival_at frame moment)) (λ e.
+    λ moment. not_true (is_of setting key (arrival_at frame moment)) (λ e.
         let r = of_key_reads frame moment (ident_of p is.what is.to) (ap (λ (k : ℕ). identifier_of k) is.id ∙ reads p is.what is.to low is.dest) e in
         let same : is.what ≡ what = one_what is.what what (kind_of what) (number_of what) r.0 refl r.1 refl in
-        let there : is.to ≡ to_for (kind_of is.what) m = dest_is m some p is.what is.to is.dest r.3 in
-        let here : to ≡ to_for (kind_of what) m = dest_is m some n what to dest for_it in
-        let to_is : is.to ≡ to = there ∙ (ap (λ (a : What). to_for (kind_of a) m) same ∙ sym here) in
+        let there : is.to ≡ to_for (kind_of is.what) setting.me = dest_of setting.me p is.what is.to (or_message (kind_of is.what) r.0) is.dest r.3 in
+        let here : to ≡ to_for (kind_of what) setting.me = dest_of setting.me n what to some dest for_it in
+        let to_is : is.to ≡ to = there ∙ (ap (λ (a : What). to_for (kind_of a) setting.me) same ∙ sym here) in
         differs (is.id ∙ (λ i. identifier_number (ident_of (r.2 i) (same i) (to_is i))))),
   )
 
@@ -87,7 +93,7 @@ module _ (laws : FrameLaws) (n m : ℕ) (what : What) (to : ℕ) (node : (1 ≤ 
       ap is_anonymous (sym (ap (λ (i : Ident). i.kind) (some_ident is.ident (ident_of n what to)
           (sym is.read ∙ (ap (λ (k : ℕ). identifier_of k) e ∙ reads n what to node dest)))) ∙ is.kind),
     ),
-    λ moment. not_true (is_of (setting_for m) key (arrival_at frame moment)) (λ e. cc ((of_key_reads frame moment is.ident is.read e).4, ap is_anonymous is.kind)),
+    λ moment. not_true (is_of setting key (arrival_at frame moment)) (λ e. cc ((of_key_reads frame moment is.ident is.read e).4, ap is_anonymous is.kind)),
   )
 
   -- ---- what a step puts into the queue

@@ -1,4 +1,4 @@
--- The transfers that one member still has to get of another, of one kind and destination.
+-- The transfers that a receiver still has to get of one member, of one kind and destination.
 use Rattle.std.proofs.Common.{◌≡◌, ◌≢◌, ℕ, ◌+◌, ◌*◌, ◌<◌, ◌≤◌, Bool, true, false, not, List, [], ◌∷◌, ◌++◌, length, max, append_assoc, refl, sym, ◌∙◌, ap, subst, arith, inl, inr}
 use Rattle.std.specs.Prelude.{⊤, ◌⊎◌, ◌/◌, ◌&&◌, drop, filter, flat_map, map, nat_lt, slice_index_or, Ok}
 use Rattle.std.proofs.lemmas.List.{append_cancel_left, map-append}
@@ -20,7 +20,6 @@ use Rattle.transfer_rx.specs.Run.{MayBegin, is_of}
 use Rattle.transfer_rx.specs.Sessions.{Session, is_recent, others, recent_sessions}
 use Rattle.transfer_rx.proofs.Completeness.{is_own}
 use Rattle.transfer_tx.specs.Queue.{Queued}
-use Rattle.alloc_spec.specs.Accepted.{setting_for}
 use Rattle.alloc_spec.specs.Transfers.{SentTransfer, frames_of, ident_of, kind_of, signature_of}
 use Rattle.cluster_agreement.proofs.Lists.{in_back, in_front}
 use Rattle.cluster_spec.specs.Cluster.{arrival_at}
@@ -39,10 +38,19 @@ less_used : (p : Session → Bool) (sessions : List Session) → blocks_used (fi
 unfolding blocks_used
 less_used p sessions = omega (arith, sum_by-filter_both p (λ s. not (p s)) (λ s. refl) session_blocks sessions)
 
-enough : (whole : Bool) (used count : ℕ) → used + 9 ≤ 128 → count ≤ 225 → (not whole && nat_lt 128 (used + (count + 27) / 28)) ≡ false
-enough whole used count has few = ap (λ (b : Bool). not whole && b) none_lacks ∙ and_false (not whole)
+-- A receiver: how it is set, the most bytes of a payload that it is sent, and in how many of its blocks so many have
+-- room.
+pub record Receiver : Type 0 where
+  pub setting : Setting
+  pub longest : ℕ
+  pub blocks : ℕ
+  pub short : longest ≤ 223
+  pub hold : longest + 2 ≤ 28 * blocks
+
+enough : (whole : Bool) (most needed used count : ℕ) → used + needed ≤ most → count ≤ 28 * needed → (not whole && nat_lt most (used + (count + 27) / 28)) ≡ false
+enough whole most needed used count has few = ap (λ (b : Bool). not whole && b) none_lacks ∙ and_false (not whole)
   where
-    none_lacks : nat_lt 128 (used + (count + 27) / 28) ≡ false
+    none_lacks : nat_lt most (used + (count + 27) / 28) ≡ false
     none_lacks = grind (arith, has, few)
 
     and_false : (b : Bool) → (b && false) ≡ false
@@ -73,7 +81,8 @@ all_coming xs = flat_map coming_of xs
 abbrev pub frames_in : List Coming → List Queued
 frames_in cs = map (λ (c : Coming). c.frame) cs
 
-unstamped : (at : ℕ) (frames : List Queued) → frames_in (map (stamped at) frames) ≡ frames
+-- the frames without their moments
+pub unstamped : (at : ℕ) (frames : List Queued) → frames_in (map (stamped at) frames) ≡ frames
 unstamped at [] = refl
 unstamped at (f ∷ frames) = ap (λ (l : List Queued). f ∷ l) (unstamped at frames)
 
@@ -97,12 +106,12 @@ pub rest_differ : (x : Made) (xs : List Made) (Fits : ℕ → Type 0) → Differ
 rest_differ x [] Fits d = tt
 rest_differ x (y ∷ xs) Fits d = d.1
 
-module _ (laws : CuttingLaws) (whole : DeliversWhole) (n m : ℕ) (what : What) (to : ℕ) (delay base clock : ℕ) (quick : 2 * delay ≤ 2000)
+module _ (laws : CuttingLaws) (whole : DeliversWhole) (n : ℕ) (receiver : Receiver) (what : What) (to : ℕ) (delay base clock : ℕ) (quick : 2 * delay ≤ 2000)
     (known : is_anonymous (kind_of what) ≡ false)
     (wants : (signature : ℕ) → signature ≡ signature_of what
-    → wanted (setting_for m).rows m (identifier_number (ident_of n what to)) ≡ Ok (record { ident = ident_of n what to; signature = signature })) where
+    → wanted receiver.setting.rows receiver.setting.me (identifier_number (ident_of n what to)) ≡ Ok (record { ident = ident_of n what to; signature = signature })) where
   abbrev pub setting : Setting
-  setting = setting_for m
+  setting = receiver.setting
 
   abbrev pub number : ℕ
   number = identifier_number (ident_of n what to)
@@ -126,7 +135,7 @@ module _ (laws : CuttingLaws) (whole : DeliversWhole) (n m : ℕ) (what : What) 
     pub what_is : x.transfer.offer.what ≡ what
     pub to_is : x.transfer.offer.to ≡ to
     pub id : x.transfer.offer.id < 32
-    pub short : length x.transfer.offer.payload ≤ 223
+    pub short : length x.transfer.offer.payload ≤ receiver.longest
 
   abbrev pub AreOnes : List Made → Type 0
   AreOnes xs = (x : Made) → In x xs → IsOne x
@@ -170,17 +179,19 @@ module _ (laws : CuttingLaws) (whole : DeliversWhole) (n m : ℕ) (what : What) 
 
   -- ---- a frame of the key
 
-  abbrev HasRoom : List Session → Type 0
-  HasRoom sessions = (length sessions < 160) × (blocks_used sessions + 9 ≤ 128)
+  -- it has a session left, and blocks for the longest transfer
+  abbrev pub HasRoom : List Session → Type 0
+  HasRoom sessions = (length sessions < setting.sessions) × (blocks_used sessions + receiver.blocks ≤ setting.blocks)
 
-  has_blocks : (sessions : List Session) (came : List Piece) (x : Arrival) → HasRoom sessions → length (joined (came ++ piece_in x ∷ [])) ≤ 225
+  has_blocks : (sessions : List Session) (came : List Piece) (x : Arrival) → HasRoom sessions → length (joined (came ++ piece_in x ∷ [])) ≤ receiver.longest + 2
       → HasBlocks setting key sessions came x
   has_blocks sessions came x room few =
       let a = less_used (is_recent x.moment) sessions in
       let b = less_used (λ s. not (same_key key s.key)) (recent_sessions x.moment sessions) in
       let r = room.1 in
-      enough ((piece_in x).tail.start && (piece_in x).tail.end) (blocks_used (others key (recent_sessions x.moment sessions)))
-      (length (joined (came ++ piece_in x ∷ []))) (omega (arith, a, b, r)) few
+      let h = receiver.hold in
+      enough ((piece_in x).tail.start && (piece_in x).tail.end) setting.blocks receiver.blocks (blocks_used (others key (recent_sessions x.moment sessions)))
+      (length (joined (came ++ piece_in x ∷ []))) (omega (arith, a, b, r)) (omega (arith, few, h))
 
   module _ (sessions : List Session) (c : Coming) (moment : ℕ) (room : HasRoom sessions) where
     abbrev pub it : Arrival
@@ -214,9 +225,9 @@ module _ (laws : CuttingLaws) (whole : DeliversWhole) (n m : ℕ) (what : What) 
       its_own : (cs ds : List Queued) → frames_of x.transfer ≡ cs ++ c.frame ∷ ds → is_of setting key it ≡ true
       its_own cs ds e = own_frame c.frame moment (id_is cs ds e)
 
-      few_in : (cs ds : List Queued) → frames_of x.transfer ≡ cs ++ c.frame ∷ ds → length (joined (map read cs ++ read c.frame ∷ [])) ≤ 225
-      few_in cs ds e = subst (λ (l : List Piece). length (joined l) ≤ 225) (map-append read cs (c.frame ∷ []))
-          (few_carried laws x.transfer one.id one.short (cs ++ c.frame ∷ []) ds (e ∙ sym (append_assoc cs (c.frame ∷ []) ds)))
+      few_in : (cs ds : List Queued) → frames_of x.transfer ≡ cs ++ c.frame ∷ ds → length (joined (map read cs ++ read c.frame ∷ [])) ≤ receiver.longest + 2
+      few_in cs ds e = subst (λ (l : List Piece). length (joined l) ≤ receiver.longest + 2) (map-append read cs (c.frame ∷ []))
+          (few_carried laws x.transfer one.id receiver.longest one.short (cs ++ c.frame ∷ []) ds (e ∙ sym (append_assoc cs (c.frame ∷ []) ds)))
 
       -- what the session of the key admits behind it
       behind : (cs : List Queued) → frames_of x.transfer ≡ cs ++ c.frame ∷ [] → answer setting sessions it ≡ Gives (delivery_of x.transfer)
@@ -262,7 +273,7 @@ module _ (laws : CuttingLaws) (whole : DeliversWhole) (n m : ℕ) (what : What) 
       cutting : (cs : List Queued) → frames_of x.transfer ≡ cs ++ c.frame ∷ []
           → IsCutting (signature_of what) (piece_in it).tail.id x.transfer.offer.payload (map read cs ++ piece_in it ∷ [])
       cutting cs e = subst (λ (k : What). IsCutting (signature_of k) (piece_in it).tail.id x.transfer.offer.payload (map read cs ++ piece_in it ∷ [])) one.what_is
-          (are_cutting laws x.transfer one.id one.short cs c.frame e)
+          (are_cutting laws x.transfer one.id (let a = one.short in let b = receiver.short in omega (arith, a, b)) cs c.frame e)
 
       -- the last frame came
       done : (cs : List Queued) (more : List Coming) → frames_of x.transfer ≡ cs ++ c.frame ∷ [] → more ≡ all_coming rest

@@ -1,6 +1,6 @@
 -- Where a calm begins: in a world that rows reach which do no harm.
-use Rattle.std.proofs.Common.{◌≡◌, ◌≢◌, ℕ, ◌+◌, ◌≤◌, Bool, true, false, List, [], ◌∷◌, refl, sym, ◌∙◌, ap, subst, arith, inl, inr, eq-eqb, Some}
-use Rattle.std.specs.Prelude.{⊤, ◌==◌, ◌||◌, nat_eq, Ok}
+use Rattle.std.proofs.Common.{◌≡◌, ◌≢◌, ℕ, ◌≤◌, Bool, true, false, List, refl, sym, ◌∙◌, ap, subst, arith, inl, inr, eq-eqb, Some}
+use Rattle.std.specs.Prelude.{◌||◌, nat_eq, Ok}
 use Rattle.std.proofs.lemmas.Bool.Decides.{eqb_tells}
 use Rattle.std.proofs.lemmas.List.{length-replicate}
 use Rattle.can_frame.specs.declared.identifier.Kind.TheVariants.{Response}
@@ -8,20 +8,14 @@ use Rattle.can_frame.specs.declared.step.What.{What}
 use Rattle.can_frame.specs.declared.step.What.TheVariants.{Alloc, Disc, Stat, InfoQ, Info, VoteQ, Vote, AppQ, App}
 use Rattle.can_frame.specs.Identifier.{identifier_number, identifier_of}
 use Rattle.can_frame.specs.Kinds.{is_anonymous}
-use Rattle.raft_log.specs.KeyDisk.{are_put, is_open_on, opening_on, puts_on}
-use Rattle.raft_model.specs.Lists.{In, at, at_here, at_other}
+use Rattle.raft_model.specs.Lists.{In}
 use Rattle.raft_model.specs.Runs as raft
 use Rattle.replay_text.specs.declared.row.Row.{Row}
-use Rattle.replay_text.specs.declared.row.Row.TheVariants.{AEnd, AOpen, ARx, ASend, ATick, Crash, Ext, Fault, Open, Rx, Send, Tick}
 use Rattle.transfer_rx.specs.Acceptance.{is_for, wanted}
 use Rattle.transfer_tx.specs.Queue.{Queued}
 use Rattle.alloc_spec.specs.Accepted.{rows, setting_for}
 use Rattle.alloc_spec.specs.AllocatorState.{AllocatorState}
-use Rattle.alloc_spec.specs.Rules.{Rules}
-use Rattle.alloc_spec.specs.Step.{Event, step}
-use Rattle.alloc_spec.specs.StepState.{StepState}
 use Rattle.alloc_spec.specs.Transfers.{SentTransfer, frames_of, ident_of, kind_of, signature_of}
-use Rattle.alloc_spec_laws.proofs.Choices.{either}
 use Rattle.alloc_spec_laws.specs.Sound.{IsDestination}
 use Rattle.cluster_agreement.specs.LawsBelow.{FrameLaws}
 use Rattle.cluster_agreement.specs.Shows.{Shows, ShowsMember, ShowsUp}
@@ -30,73 +24,19 @@ use Rattle.cluster_agreement.proofs.Lists.{in_at}
 use Rattle.cluster_calm.specs.Calm.{AreRunning, Member as OfMember, Party}
 use Rattle.cluster_calm.specs.Comes.{IsHeard}
 use Rattle.cluster_calm.proofs.Counting.{HasPlaces, IsCounted, counted_step}
+use Rattle.cluster_calm.proofs.EachServer.{in_each}
 use Rattle.cluster_calm.proofs.Frames.{has_its_id}
 use Rattle.cluster_calm.proofs.Group.{AreWell, IsServer}
-use Rattle.cluster_spec.specs.Cluster.{Cluster, after_row, after_rows, cluster, no_frame, receipt_of, rules_of, tick_of, world_of}
-use Rattle.cluster_spec.specs.Members.{Member, MemberStatus, after_crash, after_cut_off, after_failed_opening, after_opening, after_sending, after_writing, member_after_step, puts_of}
-use Rattle.cluster_spec.specs.Members.MemberStatus.{Down, Failed, Up}
+use Rattle.cluster_spec.specs.Cluster.{Cluster, no_frame, world_of}
+use Rattle.cluster_spec.specs.Members.{MemberStatus}
+use Rattle.cluster_spec.specs.Members.MemberStatus.{Up}
 
 -- ---- the counters of each server have their places
 
-abbrev Places : MemberStatus → Type 0
-Places Down = ⊤
-Places (Up t) = HasPlaces t.ids
-Places (Failed failure) = ⊤
-
-abbrev PlacesOf : Member → Type 0
-PlacesOf x = Places x.status
-
-opened_places : (n : ℕ) (rules : Rules) (moment word : ℕ) (x : Member) → PlacesOf (after_opening n rules moment word x)
-opened_places n rules moment word x = either PlacesOf (is_open_on x.disk) _ (after_failed_opening x (opening_on x.disk))
-    (λ e. record { info = length-replicate {A = ℕ} 128 0; vote = length-replicate {A = ℕ} 128 0; append = length-replicate {A = ℕ} 128 0 })
-    (λ e. either PlacesOf (opening_on x.disk).calls.stopped _ _ (λ f. tt) (λ f. tt))
-
-written_places : (x : Member) (row : ℕ) (t : AllocatorState) (g : StepState) → HasPlaces g.allocator.ids → PlacesOf (after_writing x row t g)
-written_places x row t g h = either PlacesOf (are_put (puts_of x g) x.disk.calls) _ (after_cut_off x row t g (puts_on (puts_of x g) x.disk)) (λ e. h)
-    (λ e. either PlacesOf (puts_on (puts_of x g) x.disk).calls.stopped _ _ (λ f. tt) (λ f. tt))
-
-stepped_places : (row : ℕ) (event : Event) (status : MemberStatus) (x : Member) → Places status → PlacesOf x → PlacesOf (member_after_step row event status x)
-stepped_places row event Down x h own = own
-stepped_places row event (Up t) x h own = written_places x row t (step t row event).step_state (counted_step Disc 0 refl t row event h).places
-stepped_places row event (Failed failure) x h own = own
-
-sent_places : (status : MemberStatus) → Places status → Places (after_sending status)
-sent_places Down h = h
-sent_places (Up t) h = h
-sent_places (Failed failure) h = h
-
-crashed_places : (calls : ℕ) (pattern : _) (x : Member) → PlacesOf x → PlacesOf (after_crash calls pattern x)
-crashed_places calls pattern x h = either PlacesOf (calls == 0) _ _ (λ e. tt) (λ e. h)
-
-abbrev AllPlaces : (ℕ → Member) → Type 0
-AllPlaces member = (p : ℕ) → PlacesOf (member p)
-
-places_with : (member : ℕ → Member) (n : ℕ) (x : Member) → AllPlaces member → PlacesOf x → AllPlaces (at member n x)
-places_with member n x all here p = elim (eqb_tells p n) [
-  | inl z ↦ subst PlacesOf (sym (at_here member n p x z.1)) here
-  | inr z ↦ subst PlacesOf (sym (at_other member n p x z.1)) (all p)
-]
-
-places_row : (w : Cluster) (row : Row) → AllPlaces w.member → AllPlaces (after_row w row).member
-places_row w (Open n told ms word) all = places_with w.member n _ all (opened_places n (rules_of w.ids told) ms word (w.member n))
-places_row w (Tick n ms word) all = places_with w.member n _ all (stepped_places (w.rows + 1) (tick_of ms word) (w.member n).status (w.member n) (all n) (all n))
-places_row w (Rx n k ms) all = places_with w.member n _ all (stepped_places (w.rows + 1) (receipt_of w k ms) (w.member n).status (w.member n) (all n) (all n))
-places_row w (Send n) all = places_with w.member n _ all (sent_places (w.member n).status (all n))
-places_row w (Ext frame) all = all
-places_row w (Crash n calls pattern) all = places_with w.member n _ all (crashed_places calls pattern (w.member n) (all n))
-places_row w (Fault n call) all = places_with w.member n _ all (all n)
-places_row w (AOpen a uid pref ms word) all = all
-places_row w (ATick a ms word) all = all
-places_row w (ARx a k ms word) all = all
-places_row w (ASend a) all = all
-places_row w (AEnd a) all = all
-
-places_rows : (w : Cluster) (list : List Row) → AllPlaces w.member → AllPlaces (after_rows w list).member
-places_rows w [] all = all
-places_rows w (row ∷ list) all = places_rows (after_row w row) list (places_row w row all)
-
 pub places_in : (ids : List ℕ) (list : List Row) (p : ℕ) (t : AllocatorState) → ((world_of ids list).member p).status ≡ Up t → HasPlaces t.ids
-places_in ids list p t e = subst Places e (places_rows (cluster ids) list (λ q. tt) p)
+places_in = in_each (λ t. HasPlaces t.ids)
+    (λ n rules store moment word. record { info = length-replicate {A = ℕ} 128 0; vote = length-replicate {A = ℕ} 128 0; append = length-replicate {A = ℕ} 128 0 })
+    (λ t number event h. (counted_step Disc 0 refl t number event h).places) (λ t h. h)
 
 -- ---- a group where a calm begins
 

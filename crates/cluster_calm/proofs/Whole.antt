@@ -1,5 +1,5 @@
 -- A transfer that is sent in a calm comes whole, from the beginning of the calm on.
-use Rattle.std.proofs.Common.{◌≡◌, ◌≢◌, ℕ, ◌+◌, ◌*◌, ◌<◌, ◌≤◌, Bool, List, [], ◌∷◌, ◌++◌, arith, refl, sym, subst, Some}
+use Rattle.std.proofs.Common.{◌≡◌, ◌≢◌, ℕ, ◌+◌, ◌*◌, ◌<◌, ◌≤◌, Bool, List, [], ◌∷◌, ◌++◌, arith, inl, refl, sym, subst, Some}
 use Rattle.raft_model.specs.Lists.{In}
 use Rattle.raft_model.specs.Runs as raft
 use Rattle.transfer_tx.specs.Queue.{Queued}
@@ -10,10 +10,11 @@ use Rattle.alloc_spec_laws.specs.Sound.{IsOnTheBus}
 use Rattle.cluster_agreement.specs.Shows.{Shows}
 use Rattle.cluster_recovery.specs.Calm.{Pace, Timed, end_of, rows_in}
 use Rattle.cluster_calm.specs.Calm.{AreCalm, AreRunning, Member, Party, no_traffic}
-use Rattle.cluster_calm.specs.Comes.{AreReady, ComesBy, HasMemory, IsHeard, MayComeFirst, Sends, Throughout, sent_by}
+use Rattle.cluster_calm.specs.Comes.{AreReady, ComesBy, Delivers, HasMemory, IsHeard, MayComeFirst, Sends, Throughout, sent_by}
 use Rattle.cluster_calm.proofs.Counting.{HasPlaces, ones}
 use Rattle.cluster_calm.proofs.Group.{CalmLaws, IsServer}
-use Rattle.cluster_calm.proofs.Heard.{sent_comes}
+use Rattle.cluster_calm.proofs.Heard.{GetsBy, sent_comes}
+use Rattle.cluster_calm.proofs.MembersHear.{IsReceiving, few_bytes, member_hears, receiver_of, sends_apart}
 use Rattle.cluster_calm.proofs.Pair.{Chain, Expected, FitsIn}
 use Rattle.cluster_calm.proofs.Start.{heard_dest, heard_for, heard_known, server_is, wants, well_in}
 use Rattle.cluster_calm.proofs.Ways.{Waiting}
@@ -50,17 +51,26 @@ module _ (laws : CalmLaws) (ids : List ℕ) (nodes : (p : ℕ) → In p ids → 
   comes_whole Mode popped Follows steps passes expected mode begins follows =
       let of_n = running n in_n in
       let of_m = running m in_m in
-      sent_comes laws group clocks pace node_of n m in_n in_m apart offer.what offer.to ready.receiver.now quick
-      (heard_dest m offer.what offer.to (node_of m in_m) heard) (heard_known m offer.what offer.to heard) (heard_for n m offer.what offer.to apart heard)
-      (wants laws.frame n m (node_of n in_n) (node_of m in_m) apart offer.to offer.what heard) Begins Mode popped Follows steps passes
+      comes_by (sent_comes laws group clocks pace node_of n in_n (Member m) in_m (sends_apart n m apart) (receiver_of m)
+      offer.what offer.to ready.receiver.now quick
+      (heard_dest m offer.what offer.to (node_of m in_m) heard) (heard_known m offer.what offer.to heard) (inl (node_of m in_m).0) (heard_for n m offer.what offer.to apart heard)
+      (wants laws.frame n m (node_of n in_n) (node_of m in_m) apart offer.to offer.what heard) Begins Mode popped
+      (IsReceiving m) (Delivers m) (HasMemory m) (member_hears laws group clocks pace n m apart) Follows steps
+      (λ expected v now later_rows follows t up is event is_step. few_bytes offer.what offer.to n t (v.rows + 1) event is) passes
       front rest timed offer refl refl long (no_traffic start) w [] [] expected
       (record {
         sender = ready.sender;
         sender_up = record { status = ready.sends; quiet = record { faults = of_n.faults; calls = of_n.disk } };
         sender_is = server_is ids choice made w run shows places n ready.sender (there n in_n) ready.sends;
-        receiver = ready.receiver;
-        receiver_up = record { status = ready.receives; quiet = record { faults = of_m.faults; calls = of_m.disk } };
-        receiver_is = server_is ids choice made w run shows places m ready.receiver (there m in_m) ready.receives;
+        sessions = ready.receiver.sessions;
+        now = ready.receiver.now;
+        hears = record {
+          server = ready.receiver;
+          up = record { status = ready.receives; quiet = record { faults = of_m.faults; calls = of_m.disk } };
+          its = server_is ids choice made w run shows places m ready.receiver (there m in_m) ready.receives;
+          has = refl;
+          reads = refl;
+        };
         flying = [];
         waiting = [];
         pending = refl;
@@ -75,4 +85,8 @@ module _ (laws : CalmLaws) (ids : List ℕ) (nodes : (p : ℕ) → In p ids → 
         low = omega arith;
         high = omega arith;
       })
-      (well_in ids choice made w run shows places group there running) follows calm memory sends
+      (well_in ids choice made w run shows places group there running) follows calm memory sends)
+    where
+      comes_by : GetsBy (Delivers m) (sent_by n (after_rows w (rows_in front)) offer) (timed.at + 2 * pace.delay) (after_rows w (rows_in front)) (timed ∷ rest)
+          → ComesBy m (sent_by n (after_rows w (rows_in front)) offer) (timed.at + 2 * pace.delay) (after_rows w (rows_in front)) (timed ∷ rest)
+      comes_by by = record { front = by.front; timed = by.timed; rest = by.rest; split = by.split; soon = by.soon; delivers = by.gets }

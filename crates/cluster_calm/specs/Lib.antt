@@ -5,3 +5,5 @@ pub mod GoesOn
 pub mod Calls
 pub mod CalmExample
 pub mod CallsInTime
+pub mod Devices
+pub mod DevicesExample

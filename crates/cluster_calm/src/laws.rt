@@ -1,31 +1,41 @@
 //! The laws of this crate, each the contract of a function that does nothing.
 
-ghost use Rattle.std.specs.Prelude.{◌≢◌, ◌*◌, ◌≤◌, ◌∷◌, ◌++◌, ℕ, List, []};
+ghost use Rattle.std.specs.Prelude.{◌≢◌, ◌*◌, ◌≤◌, ◌∷◌, ◌++◌, ℕ, List, [], ◌+◌, ◌<◌};
+ghost use Rattle.alloc_spec.specs.Transfers.{id_of};
 ghost use Rattle.can_frame.specs.Timing.{transfer_timeout};
-ghost use Rattle.raft_model.specs.Lists.{In};
+ghost use Rattle.can_frame.specs.declared.step.What.TheVariants.{Alloc};
 ghost use Rattle.cluster_calm.specs.Calls.{Calls, CallsAreHeard, CallsReadAsSaid, CalmLeavesFollowers, ListsStay};
 ghost use Rattle.cluster_calm.specs.CallsInTime.{LeadersCallInTime};
-ghost use Rattle.cluster_calm.specs.Calm.{AreCalm, AreRunning, Member, no_traffic};
-ghost use Rattle.cluster_calm.specs.CalmExample.{IsOffered, append_offer, append_rows, append_said, calm_rows, clocks};
-ghost use Rattle.cluster_calm.specs.CalmExample.{first_rows, group, leading_row, leading_world, pace, receiver, sender};
-ghost use Rattle.cluster_calm.specs.CalmExample.{sending_row, start, status_offer, then_world, two, vote_offer};
-ghost use Rattle.cluster_calm.specs.CalmExample.{vote_rows};
-ghost use Rattle.cluster_calm.specs.Comes.{EachComesWhole, EachResponseComesWhole, HasMemory, Throughout};
+ghost use Rattle.cluster_calm.specs.Calm.{AreCalm, AreRunning, Device, Member, no_traffic};
+ghost use Rattle.cluster_calm.specs.CalmExample.{IsOffered, append_offer, append_rows, append_said, calm_rows};
+ghost use Rattle.cluster_calm.specs.CalmExample.{clocks, first_rows, group, leading_row, leading_world, pace};
+ghost use Rattle.cluster_calm.specs.CalmExample.{receiver, sender, sending_row, start, status_offer, then_world, two};
+ghost use Rattle.cluster_calm.specs.CalmExample.{vote_offer, vote_rows};
+ghost use Rattle.cluster_calm.specs.Comes.{EachComesWhole, EachResponseComesWhole, HasMemory, Sends, Throughout};
+ghost use Rattle.cluster_calm.specs.Devices.{AllocationMayBegin, AllocationsComeInCalm, AreReadyToTell, Asks};
+ghost use Rattle.cluster_calm.specs.Devices.{DeviceHasMemory, RequestsComeInCalm, SendsShortAllocations};
+ghost use Rattle.cluster_calm.specs.DevicesExample.{allocation_offer, answering_row, answering_world, asker};
+ghost use Rattle.cluster_calm.specs.DevicesExample.{asking_group, asking_row, asking_rows, asking_start};
+ghost use Rattle.cluster_calm.specs.DevicesExample.{asking_world, rows_before};
 ghost use Rattle.cluster_calm.specs.GoesOn.{CalmGoesOn};
 ghost use Rattle.cluster_spec.specs.Cluster.{AreMembers, cluster};
 ghost use Rattle.cluster_spec.specs.Lawful.{DoNoHarm};
+ghost use Rattle.raft_model.specs.Lists.{In};
 ghost use Rattle.replay_text.specs.declared.row.Row.{Row};
 
 use alloc_spec_laws::laws::{
     members_of_a_step, steps_stay_in_range, transfers_of_a_step_are_apart,
 };
-use allocatee::laws::its_frames_are_anonymous;
+use allocatee::laws::{its_frames_are_anonymous, sessions_of_a_step};
 use can_frame::laws::{frames_carry_what_is_cut, lengths_of_cuttings};
 use cluster_agreement::below::{
     what_a_step_keeps, what_is_said_of_a_step, what_is_said_of_frames, what_is_said_of_messages,
 };
 use cluster_agreement::headline::{a_choice_fits, rows_are_shown, rows_grow_by_one};
-use cluster_progress::laws::{followers_follow_on, steps_are_in_time};
+use cluster_progress::laws::{
+    followers_follow_on, requests_are_delivered, requests_of_devices_are_requests,
+    steps_are_in_time,
+};
 use transfer_rx::laws::delivers_what_comes_whole;
 
 /// In a calm each message, each request and each response comes whole, and in time. After every list of rows that do no
@@ -140,4 +150,70 @@ pub fn calm_can_be()
     ensures vote { IsOffered [] sending_row (vote_rows ++ leading_row ∷ append_rows) vote_offer }
     ensures append { IsOffered (sending_row ∷ vote_rows) leading_row append_rows append_offer }
     ensures call { Calls sender receiver leading_world leading_row.row append_offer append_said }
+{}
+
+/// Each member hears what a device asks, in time. In a calm as above, a device reads its clock and offers a request,
+/// for which its queue has room. Whatever waits there, each member of the group receives the request's frame within two
+/// delays, or the calm is over by then; and its receiver delivers it, whatever sessions it has. The request says what
+/// the device's state says: the node ID that it prefers, of seven bits, and the next bytes of its unique ID.
+pub fn requests_come_in_calm()
+    ensures { (ids : List ℕ) (rows : List Row) → AreMembers ids → DoNoHarm (cluster ids) rows →
+        RequestsComeInCalm ids rows }
+{
+    a_choice_fits();
+    delivers_what_comes_whole();
+    frames_carry_what_is_cut();
+    its_frames_are_anonymous();
+    lengths_of_cuttings();
+    requests_are_delivered();
+    requests_of_devices_are_requests();
+    rows_are_shown();
+    rows_grow_by_one();
+    steps_stay_in_range();
+    what_a_step_keeps();
+    what_is_said_of_a_step();
+    what_is_said_of_frames();
+}
+
+/// Each device hears the Allocations of the members, in time. In a calm as above, a member sends an Allocation, for
+/// which its queue has room. It comes whole to each device of the group within two delays, or the calm is over by then:
+/// the device's receiver delivers it, with its payload and its transfer ID. This asks that two delays are no longer
+/// than a transfer is remembered; that the device's receiver has a session and a block left all the time; that no frame
+/// of an Allocation of this member waits when the calm begins, and the device's session does not refuse the first one's
+/// ID; and that each Allocation that this member sends then has three frames at most, as all have in lawful rows: a node
+/// ID and a unique ID.
+pub fn allocations_come_in_calm()
+    ensures { (ids : List ℕ) (rows : List Row) → AreMembers ids → DoNoHarm (cluster ids) rows →
+        AllocationsComeInCalm ids rows }
+{
+    a_choice_fits();
+    delivers_what_comes_whole();
+    frames_carry_what_is_cut();
+    its_frames_are_anonymous();
+    lengths_of_cuttings();
+    rows_are_shown();
+    rows_grow_by_one();
+    sessions_of_a_step();
+    steps_stay_in_range();
+    what_a_step_keeps();
+    what_is_said_of_a_step();
+    what_is_said_of_frames();
+}
+
+/// The premises on devices can be met, behind the calm rows of the example: a device asks (`asks`), the member that
+/// leads hears it and sends an Allocation (`sends`), and its frame comes to the device. The rows go on for more than two
+/// delays.
+pub fn devices_can_be_heard()
+    ensures harmless { DoNoHarm (cluster two) rows_before }
+    ensures listed { (p : ℕ) → In (Member p) asking_group → In p two }
+    ensures running { AreRunning asking_group asking_world }
+    ensures from { In (Member sender) asking_group }
+    ensures to { In (Device asker) asking_group }
+    ensures calm { AreCalm asking_group clocks pace (no_traffic asking_start) asking_world asking_rows }
+    ensures asks { (asks : Asks asker asking_world asking_row.row) × (asks.device.asking.preferred < 128) }
+    ensures ready { (ready : AreReadyToTell sender asker asking_world)
+        × AllocationMayBegin sender ready.device (id_of ready.sender.ids Alloc 0) }
+    ensures memory { Throughout (DeviceHasMemory asker) asking_world asking_rows }
+    ensures short { SendsShortAllocations sender asking_world asking_rows }
+    ensures sends { Sends sender answering_world answering_row.row allocation_offer }
 {}

@@ -1,4 +1,4 @@
-use Rattle.std.proofs.Common.{◌≡◌, ◌≢◌, ℕ, ◌+◌, ◌<◌, ◌≤◌, List, length, true, is_some, None, [], ◌∷◌, refl, ap, sym, subst, take, inl, inr, arith}
+use Rattle.std.proofs.Common.{◌≡◌, ◌≢◌, ℕ, ◌+◌, ◌≤◌, true, [], ◌∷◌, refl, ap, sym, subst, take, inl, inr, arith}
 use Rattle.can_frame.specs.declared.step.What.{What}
 use Rattle.can_frame.specs.declared.step.What.TheVariants.{AppQ, Stat, VoteQ}
 use Rattle.can_frame.specs.TransferCrc.{bits_of, crc_of, divide, number_of}
@@ -8,25 +8,21 @@ use Rattle.raft_model.specs.Lists.{In}
 use Rattle.transfer_rx.specs.Acceptance.{wanted}
 use Rattle.transfer_rx.specs.Outcome.{blocks_used, fits_no_part, fits_no_payload, outcome}
 use Rattle.transfer_rx.specs.Reassembly.{session_step, step as frame_step}
-use Rattle.transfer_rx.specs.Sessions.{Session, session_for}
+use Rattle.transfer_rx.specs.Sessions.{session_for}
 use Rattle.transfer_tx.specs.Queue.{left_behind, next_out, queued_frames}
 use Rattle.alloc_spec.specs.Accepted.{rows}
 use Rattle.alloc_spec.specs.Delivered.{delivery_phase}
-use Rattle.alloc_spec.specs.AllocatorState.{AllocatorState}
 use Rattle.alloc_spec.specs.Transfers.{Offer}
-use Rattle.alloc_spec.specs.Rules.{opening_by, rules_by}
 use Rattle.alloc_spec.specs.Step.{Event, all_nodes, step}
 use Rattle.cluster_calm.specs.Calm.{Device, IsInTime, IsRunning, Member, Party, Traffic, no_traffic, queue_in}
-use Rattle.cluster_calm.specs.Comes.{AreReady, HasMemory, Sends}
+use Rattle.cluster_calm.specs.Comes.{AreReady, Sends}
 use Rattle.cluster_recovery.specs.Calm.{NoneIsLate, rows_in}
-use Rattle.can_frame.specs.Sizes.{blocks, sessions}
 use Rattle.allocatee.specs.Accepted.{rows as device_rows}
 use Rattle.allocatee.specs.Allocatee.{step as device_step}
 use Rattle.cluster_spec.specs.Cluster.{Cluster, after_rows, receipt_of}
 use Rattle.cluster_calm.specs.CalmExample.{append_offer, calm_rows, clocks, group, leading_row, leading_world, pace, receiver, sender, sending_row, status_offer, then_world, two, vote_offer}
+use Rattle.cluster_calm.proofs.Examples.{has_memory, opened, server_in, up_is}
 use Rattle.cluster_calm.proofs.laws.calm_can_be.Goals as goal
-use Rattle.cluster_spec.specs.Members.{MemberStatus, server_of}
-use Rattle.cluster_spec.specs.Members.MemberStatus.{Down, Failed, Up}
 
 -- what holds of both members and of the device holds of each party
 of_each : (Holds : Party → Type 0) → Holds (Member 1) → Holds (Member 2) → Holds (Device 1) → (party : Party) → In party group → Holds party
@@ -45,10 +41,6 @@ of_members Holds first second n (inl e) = subst Holds (sym (ap number_in e)) fir
 of_members Holds first second n (inr (inl e)) = subst Holds (sym (ap number_in e)) second
 of_members Holds first second n (inr (inr (inl e))) = absurd (cc (e))
 of_members Holds first second n (inr (inr (inr i))) = absurd i
-
--- member n as it opened at this moment, with this word
-abbrev opened : ℕ → ℕ → ℕ → AllocatorState
-opened n now word = opening_by n (rules_by 2 two) (record { term = 0; vote = None; log = []; commit = 0 }) now word
 
 in_two : (n : ℕ) → In n two → (1 ≤ n) × (n ≤ 125)
 in_two n (inl e) = (omega (arith, e), omega (arith, e))
@@ -98,15 +90,6 @@ in_time traffic w at moments one two device one_sends two_sends device_sends one
 -- the world before the calm row at this place
 abbrev world_before : ℕ → Cluster
 world_before place = after_rows then_world (rows_in (take place calm_rows))
-
--- the sessions of a member
-abbrev sessions_in : MemberStatus → List Session
-sessions_in Down = []
-sessions_in (Up server) = server.sessions
-sessions_in (Failed failure) = []
-
-has_memory : (w : Cluster) → length (sessions_in (w.member 2).status) < sessions → blocks_used (sessions_in (w.member 2).status) + 9 ≤ blocks → HasMemory 2 w
-has_memory w few small server e = (subst (λ l. length l < sessions) (ap sessions_in e) few, subst (λ l. blocks_used l + 9 ≤ blocks) (ap sessions_in e) small)
 
 pub returns-clause-calm : goal.returns-clause-calm
 unfolding step all_nodes queued_frames next_out left_behind frames_of frame_step outcome fits_no_payload fits_no_part payload_of delivery_phase session_step session_for wanted identifier_of rows blocks_used bits_of crc_of divide number_of device_step device_rows
@@ -271,17 +254,6 @@ returns-clause-status c = record { split = refl; counted = λ e. absurd (cc (e))
 pub returns-clause-vote : goal.returns-clause-vote
 unfolding step all_nodes queued_frames frames_of
 returns-clause-vote c = record { split = refl; counted = λ e. absurd (cc (e)); heard = ((λ e. absurd (cc (e))), refl); ready = are_ready VoteQ 2; first = tt; sent = sends vote_offer (inr (inl refl)) refl; long = omega arith }
-
--- the server of a member that runs
-abbrev server_in : MemberStatus → AllocatorState
-server_in Down = opened 1 100 0
-server_in (Up server) = server
-server_in (Failed failure) = opened 1 100 0
-
-up_is : (status : MemberStatus) → is_some (server_of status) ≡ true → status ≡ Up (server_in status)
-up_is Down e = absurd (cc (e))
-up_is (Up server) e = refl
-up_is (Failed failure) e = absurd (cc (e))
 
 -- what it offers as it leads
 sends_append : Sends 1 leading_world leading_row.row append_offer

@@ -1,0 +1,48 @@
+-- What a leader knows a member to have the member has; and where a calm begins, what the run says of a leader.
+use Rattle.std.proofs.Common.{◌≡◌, ℕ, ◌≤◌, Bool, List, ◌∙◌, ap, subst, arith}
+use Rattle.raft_model.specs.Fit.{IsFit}
+use Rattle.raft_model.specs.Invariants.{Invariants}
+use Rattle.raft_model.specs.Lists.{In}
+use Rattle.raft_model.specs.Log.{Same}
+use Rattle.raft_model.specs.Runs as raft
+use Rattle.raft_model.specs.Server.{RaftServer}
+use Rattle.alloc_spec.specs.AllocatorState.{AllocatorState}
+use Rattle.alloc_spec.specs.Transfers.{SentTransfer}
+use Rattle.cluster_agreement.specs.LawsBelow.{CodecLaws}
+use Rattle.cluster_agreement.specs.Shows.{Shows}
+use Rattle.cluster_progress.specs.CatchingUp.{AreJoined, two_of}
+use Rattle.cluster_progress.proofs.InRuns.{joined_in}
+use Rattle.calm_leader.specs.EntriesBelow.{AppendsPend, CallsFromOne, HasWhatIsKnown}
+use Rattle.calm_leader.proofs.EntriesJudged.{run_up}
+use Rattle.cluster_spec.specs.Cluster.{Cluster}
+use Rattle.cluster_spec.specs.Members.MemberStatus.{Up}
+
+module _ (choice : ℕ → Bool) (made : List SentTransfer) (w : Cluster) (run : raft.World) (shows : Shows choice made w run) (codec : CodecLaws)
+    (inv : Invariants run) (fit : (member : ℕ) → IsFit member (run.server member)) where
+  server_of : (p : ℕ) (t : AllocatorState) → In p w.ids → (w.member p).status ≡ Up t → run.server p ≡ t.raft_server
+  server_of p t i up = (run_up codec choice made w run shows p t i up).runs.raft_server
+
+  pub has_known : HasWhatIsKnown w.ids w
+  has_known n m leader peer in_n in_m other up up_peer leads low =
+      subst (λ (s : RaftServer). Same (s.memory.matched m) s.store.log peer.raft_server.store.log) here
+      (subst (λ (s : RaftServer). Same ((run.server n).memory.matched m) (run.server n).store.log s.store.log) there joined.matched)
+    where
+      here : run.server n ≡ leader.raft_server
+      here = server_of n leader in_n up
+
+      there : run.server m ≡ peer.raft_server
+      there = server_of m peer in_m up_peer
+
+      joined : AreJoined run.members n m (two_of run n m)
+      joined = joined_in run inv n m (fit n) other (ap (λ (s : RaftServer). s.memory.role) here ∙ leads)
+          (let a = ap (λ (s : RaftServer). s.store.term) here in let b = ap (λ (s : RaftServer). s.store.term) there in omega (arith, low, a, b))
+
+  pub from_one : CallsFromOne w.ids w
+  from_one n m leader in_n up leads =
+      let here = server_of n leader in_n up in
+      subst (λ (s : RaftServer). 1 ≤ s.memory.next m) here ((fit n).peers (ap (λ (s : RaftServer). s.memory.role) here ∙ leads) m).least
+
+  pub appends_pend : AppendsPend w.ids w
+  appends_pend n m leader request in_n up leads pends =
+      let here = server_of n leader in_n up in
+      inv.calls.appends n m request (ap (λ (s : RaftServer). s.memory.role) here ∙ leads) (ap (λ (s : RaftServer). s.memory.pending m) here ∙ pends)

@@ -1,0 +1,220 @@
+-- No election comes in a calm: row by row, each member that reads its clock has heard the leader lately.
+use Rattle.std.proofs.Common.{◌≡◌, ◌≢◌, ℕ, ◌+◌, ◌*◌, ◌<◌, ◌≤◌, arith, List, [], ◌∷◌, ◌++◌, refl, sym, ◌∙◌, ap, subst, inl, inr}
+use Rattle.std.proofs.lemmas.Bool.Decides.{leb_tells}
+use Rattle.std.proofs.lemmas.List.{append_assoc, append-nil}
+use Rattle.can_frame.specs.Timing.{election_wait, transfer_timeout}
+use Rattle.raft_model.specs.Lists.{In}
+use Rattle.raft_model.specs.Server.Role.{Follower}
+use Rattle.replay_text.specs.declared.row.Row.{Row}
+use Rattle.replay_text.specs.declared.row.Row.TheVariants.{AEnd, AOpen, ARx, ASend, ATick, Crash, Ext, Fault, Open, Rx, Send, Tick}
+use Rattle.alloc_spec.specs.AllocatorState.{AllocatorState}
+use Rattle.cluster_agreement.proofs.Concatenations.{first_harmless}
+use Rattle.cluster_progress.specs.InTime.{FramesLeaveFollowers, StaysFollower}
+use Rattle.cluster_recovery.specs.Calm.{Pace, Timed, end_of, rows_in}
+use Rattle.cluster_calm.specs.Calm.{AreCalm, AreRunning, IsCalmRow, Member as OfMember, Party, no_traffic}
+use Rattle.cluster_calm.specs.Comes.{HasMemory, Throughout}
+use Rattle.calm_leader.specs.LeadsOn.{FollowsWithin, IsLed, LeadersLeadOn, NobodyStands, WaitsOn}
+use Rattle.calm_leader.specs.NoElection.{CallsFit, ClocksGoOn, HasHeard, NoElection, WillHear, greatest_wait, heard_within}
+use Rattle.cluster_calm.proofs.CallsKept.{GoesOn, IsKept, RunsWith, further}
+use Rattle.calm_leader.proofs.FirstWait.{FollowsUntil, IsBetween, first_wait}
+use Rattle.calm_leader.proofs.NextCall.{CallLaws, FollowsLately, follows_lately, runs_at}
+use Rattle.cluster_calm.proofs.Pair.{same_server}
+use Rattle.calm_leader.proofs.Stretches.{GoesOnFrom, HasLast, calm_first, calm_front, calm_rest, end_last, fits_front, in_between, nobody_front, nobody_more, none_or_last, rows_both, throughout_by, throughout_front, throughout_more}
+use Rattle.cluster_spec.specs.Cluster.{Cluster, after_rows, world_of}
+use Rattle.cluster_spec.specs.Lawful.{DoNoHarm}
+use Rattle.cluster_spec.specs.Members.MemberStatus.{Up}
+
+module _ (ids : List ℕ) (rows : List Row) (laws : CallLaws ids rows) (leads_on : LeadersLeadOn ids rows) (ticks : StaysFollower)
+    (frames : FramesLeaveFollowers) (group : List Party) (clocks : Party → ℕ) (pace : Pace) (start : ℕ)
+    (listed : (p : ℕ) → In (OfMember p) group → In p ids) (running : AreRunning group (world_of ids rows))
+    (server_me : (p : ℕ) → In (OfMember p) group → (server : AllocatorState) → ((world_of ids rows).member p).status ≡ Up server → server.me ≡ p)
+    (clocks_go : ClocksGoOn group clocks start (world_of ids rows)) (n term : ℕ) (in_n : In (OfMember n) group)
+    (is_led : IsLed group n term (world_of ids rows)) (short : greatest_wait pace < election_wait) (whole : List Timed)
+    (will : (m : ℕ) → In (OfMember m) group → m ≢ n → WillHear n m (start + clocks (OfMember m) + heard_within pace) (world_of ids rows) whole)
+    (calm : AreCalm group clocks pace (no_traffic start) (world_of ids rows) whole)
+    (harmless : DoNoHarm (world_of ids rows) (rows_in whole)) (fits : CallsFit n (world_of ids rows) whole) where
+  abbrev w : Cluster
+  w = world_of ids rows
+
+  abbrev here : List Timed → Cluster
+  here front = after_rows w (rows_in front)
+
+  quick : 2 * pace.delay ≤ transfer_timeout
+  quick = omega (arith, short)
+
+  -- ---- at a front
+
+  calm_at : (front rest : List Timed) → whole ≡ front ++ rest → AreCalm group clocks pace (no_traffic start) w (front ++ rest)
+  calm_at front rest cut = subst (AreCalm group clocks pace (no_traffic start) w) cut calm
+
+  abbrev from_start : (front rest : List Timed) → whole ≡ front ++ rest → GoesOnFrom group clocks pace start w (front ++ rest)
+  from_start front rest cut = record { traffic = no_traffic start; calm = calm_at front rest cut; at_end = refl; ticked = λ party. omega arith }
+
+  harmless_at : (front rest : List Timed) → whole ≡ front ++ rest → DoNoHarm w (rows_in front)
+  harmless_at front rest cut = first_harmless w (rows_in front) (rows_in rest) (subst (DoNoHarm w) (ap rows_in cut ∙ rows_both front rest) harmless)
+
+  led_at : (front rest : List Timed) → whole ≡ front ++ rest → NobodyStands n w front → IsLed group n term (here front)
+  led_at front rest cut nobody =
+      leads_on group clocks pace start n term front rest listed running in_n is_led (calm_at front rest cut) (harmless_at front rest cut) nobody
+
+  -- ---- at a row, where nobody stood before
+
+  module _ (front rest : List Timed) (timed : Timed) (cut : whole ≡ front ++ timed ∷ rest) (nobody : NobodyStands n w front) where
+    abbrev upto : List Timed
+    upto = front ++ timed ∷ []
+
+    upto_cut : whole ≡ upto ++ rest
+    upto_cut = cut ∙ sym (append_assoc front (timed ∷ []) rest)
+
+    led_upto : Throughout (IsLed group n term) w upto
+    led_upto = throughout_more (IsLed group n term) front timed w
+        (throughout_by (IsLed group n term) front w (λ a b x same. led_at a (x ∷ b ++ timed ∷ rest)
+        (cut ∙ ap (λ (l : List Timed). l ++ timed ∷ rest) same ∙ append_assoc a (x ∷ b) (timed ∷ rest))
+        (nobody_front n a (x ∷ b) w (subst (NobodyStands n w) same nobody))))
+        (led_at front (timed ∷ rest) cut nobody)
+
+    module _ (m : ℕ) (in_m : In (OfMember m) group) (differs : m ≢ n) where
+      abbrev base : ℕ
+      base = start + clocks (OfMember m)
+
+      abbrev last : ℕ
+      last = base + heard_within pace
+
+      its : WillHear n m last w whole
+      its = will m in_m differs
+
+      -- after the first call the member has heard the leader lately
+      lately : start + heard_within pace < timed.at
+          → FollowsLately ids rows laws group clocks pace start listed running server_me clocks_go n term in_n front timed
+          (calm_front group clocks pace upto rest (no_traffic start) w (calm_at upto rest upto_cut)) (harmless_at upto rest upto_cut)
+          (fits_front n upto rest w (subst (CallsFit n w) upto_cut fits)) led_upto m last in_m differs
+          (record {
+            calls = its.calls;
+            hears = its.hears;
+            ready = its.ready;
+            first = its.first;
+            memory = throughout_front (HasMemory m) upto rest w (subst (Throughout (HasMemory m) w) upto_cut its.memory);
+            waits = its.waits;
+          }) quick
+      lately long = follows_lately ids rows laws group clocks pace start listed running server_me clocks_go n term in_n front timed _ _ _ _
+          m _ in_m differs _ quick short long
+
+      -- before, its first wait is not over
+      at_first : timed.at ≤ start + heard_within pace
+          → RunsWith (FollowsUntil last) ((here front).member m)
+      at_first early = later.runs
+        where
+          from : GoesOnFrom group clocks pace start w (front ++ timed ∷ rest)
+          from = from_start front (timed ∷ rest) cut
+
+          goes : GoesOnFrom group clocks pace (end_of start front) (here front) (timed ∷ rest)
+          goes = calm_rest group clocks pace front (timed ∷ rest) start w from
+
+          between : (x : Timed) → In x front → IsBetween base last (x.at + clocks (OfMember m))
+          between x i =
+              let within = in_between group clocks pace front start w (calm_first group clocks pace front (timed ∷ rest) start w from) x i in
+              let moments = goes.calm.0.moments in
+              let ends = goes.at_end in
+              (omega (arith, within.0), omega (arith, within.1, moments, ends, early))
+
+          follows : FollowsWithin m term w
+          follows = is_led.others m in_m differs
+
+          kept : IsKept (IsBetween base last) (FollowsUntil last)
+          kept = first_wait ticks frames base last (omega (arith, short))
+
+          later : GoesOn (IsBetween base last) (FollowsUntil last) kept group clocks pace m (here front) (timed ∷ rest)
+          later = further (IsBetween base last) (FollowsUntil last) kept group clocks pace m front (timed ∷ rest) w between
+              (record {
+                traffic = no_traffic start;
+                calm = from.calm;
+                runs = record {
+                  server = its.ready.receiver;
+                  up = record { status = its.ready.receives; quiet = record { faults = (running m in_m).faults; calls = (running m in_m).disk } };
+                  holds = record {
+                    follows = subst (λ (t : AllocatorState). t.raft_server.memory.role ≡ Follower)
+                        (same_server follows.server its.ready.receiver (sym follows.runs ∙ its.ready.receives)) follows.follows;
+                    waits = its.waits;
+                    reads = let clock = clocks_go m in_m its.ready.receiver its.ready.receives in omega (arith, clock);
+                  };
+                };
+              })
+
+      waits_yet : (server : AllocatorState) → ((here front).member m).status ≡ Up server → timed.at + clocks (OfMember m) < server.times.since + election_wait
+      waits_yet server up = elim (leb_tells timed.at (start + heard_within pace)) [
+        | inl z ↦
+            let run = at_first z.1 in
+            subst (λ (t : AllocatorState). timed.at + clocks (OfMember m) < t.times.since + election_wait)
+            (same_server run.server server (sym run.up.status ∙ up))
+            (let waits = run.holds.waits in let early = z.1 in omega (arith, waits, early))
+        | inr z ↦
+            let run = lately z.1 in
+            subst (λ (t : AllocatorState). timed.at + clocks (OfMember m) < t.times.since + election_wait)
+            (same_server run.before.server server (sym run.before.runs ∙ up))
+            (let waits = run.before.waits in let late = run.late in omega (arith, waits, late, short))
+      ]
+
+    waits_on : WaitsOn n (here front) timed.row
+    waits_on = by_row timed.row goes.calm.1
+      where
+        goes : GoesOnFrom group clocks pace (end_of start front) (here front) (timed ∷ rest)
+        goes = calm_rest group clocks pace front (timed ∷ rest) start w (from_start front (timed ∷ rest) cut)
+
+        by_row : (row : Row) → IsCalmRow group clocks pace goes.traffic (here front) timed.at row → WaitsOn n (here front) row
+        by_row (Tick m ms word) reading = λ differs server up.
+            let waits = waits_yet m reading.0 differs server up in
+            let run = runs_at ids rows laws group clocks pace start listed running server_me clocks_go m reading.0 front (timed ∷ rest)
+            (from_start front (timed ∷ rest) cut) in
+            let clock : server.now ≤ end_of start front + clocks (OfMember m)
+            = subst (λ (t : AllocatorState). t.now ≤ end_of start front + clocks (OfMember m))
+            (same_server run.server server (sym run.up.status ∙ up)) run.holds.clock in
+            omega (arith, waits, reading.1, clock, goes.calm.0.moments, goes.at_end)
+        by_row (Rx m k ms) reading = tt
+        by_row (Send m) reading = tt
+        by_row (ATick a ms word) reading = tt
+        by_row (ARx a k ms word) reading = tt
+        by_row (ASend a) reading = tt
+        by_row (Open m told ms word) reading = tt
+        by_row (Ext frame) reading = tt
+        by_row (Crash m calls pattern) reading = tt
+        by_row (Fault m call) reading = tt
+        by_row (AOpen a uid pref ms word) reading = tt
+        by_row (AEnd a) reading = tt
+
+  -- ---- in all rows
+
+  nobody_stands : (rest front : List Timed) → whole ≡ front ++ rest → NobodyStands n w front → NobodyStands n w whole
+  nobody_stands [] front cut nobody = subst (NobodyStands n w) (sym (cut ∙ append-nil front)) nobody
+  nobody_stands (timed ∷ rest) front cut nobody = nobody_stands rest (front ++ timed ∷ []) (cut ∙ sym (append_assoc front (timed ∷ []) rest))
+      (nobody_more n front timed w nobody (waits_on front rest timed cut nobody))
+
+  nobody : NobodyStands n w whole
+  nobody = nobody_stands whole [] refl tt
+
+  nobody_at : (front rest : List Timed) → whole ≡ front ++ rest → NobodyStands n w front
+  nobody_at front rest cut = nobody_front n front rest w (subst (NobodyStands n w) cut nobody)
+
+  has_heard : (m : ℕ) (front rest : List Timed) → In (OfMember m) group → m ≢ n → whole ≡ front ++ rest → start + heard_within pace < end_of start front
+      → HasHeard m (greatest_wait pace) (end_of start front + clocks (OfMember m)) (here front)
+  has_heard m front rest in_m differs cut long = elim (none_or_last front) [
+    | inl none ↦ let ends = ap (end_of start) none in absurd (omega (arith, ends, long))
+    | inr some ↦ by some
+  ]
+    where
+      by : HasLast front → HasHeard m (greatest_wait pace) (end_of start front + clocks (OfMember m)) (here front)
+      by some = let nobody_then = nobody_at some.front (some.last ∷ rest) split_at in
+          let run = lately some.front rest some.last split_at nobody_then m in_m differs (omega (arith, ends, long)) in record {
+            server = run.behind.server;
+            runs = ap (λ (l : List Timed). ((here l).member m).status) some.split ∙ run.behind.runs;
+            follows = run.behind.follows;
+            lately = let late = run.late in let waits = run.behind.waits in omega (arith, late, waits, ends);
+          }
+        where
+          ends : end_of start front ≡ some.last.at
+          ends = ap (end_of start) some.split ∙ end_last start some.front some.last
+
+          split_at : whole ≡ some.front ++ some.last ∷ rest
+          split_at = cut ∙ ap (λ (l : List Timed). l ++ rest) some.split ∙ append_assoc some.front (some.last ∷ []) rest
+
+  pub no_election : NoElection group clocks pace start n term w whole
+  no_election = record { led = λ front rest cut. led_at front rest cut (nobody_at front rest cut); nobody = nobody; heard = has_heard }

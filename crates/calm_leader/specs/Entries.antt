@@ -1,0 +1,164 @@
+-- What it is that a leader's entries come to a member and are committed, in a calm.
+use Rattle.std.specs.Prelude.{◌≡◌, ◌≢◌, ℕ, ◌+◌, ◌*◌, ◌<◌, ◌≤◌, ◌==◌, ◌||◌, Bool, true, List, ◌∷◌, ◌++◌, length, None, Some}
+use Rattle.can_frame.specs.declared.step.What.TheVariants.{App, AppQ}
+use Rattle.can_frame.specs.Timing.{call_timeout}
+use Rattle.dsdl_codec.specs.declared.append_request.AppendRequest.{AppendRequest}
+use Rattle.dsdl_codec.specs.AppendRequest.{append_request_of}
+use Rattle.raft_core.specs.Handled as handled
+use Rattle.raft_model.specs.Decisions.{verdict_on}
+use Rattle.raft_model.specs.Lists.{In, any, how_many}
+use Rattle.raft_model.specs.Log.{Same, term_at}
+use Rattle.raft_model.specs.Messages.{Request}
+use Rattle.raft_model.specs.Messages.Message.{Requests}
+use Rattle.raft_model.specs.Moves.Appending.{is_accepted}
+use Rattle.raft_model.specs.Runs.{InEveryRun}
+use Rattle.raft_model.specs.Server.{quorum}
+use Rattle.raft_model.specs.Server.Role.{Leader}
+use Rattle.replay_text.specs.declared.row.Row.{Row}
+use Rattle.alloc_spec.specs.AllocatorState.{AllocatorState}
+use Rattle.alloc_spec.specs.Transfers.{SentTransfer, id_of}
+use Rattle.cluster_recovery.specs.Calm.{Pace, Timed, end_of, rows_in}
+use Rattle.cluster_calm.specs.Calls.{Lists}
+use Rattle.calm_leader.specs.CallsComeBack.{HasPlace}
+use Rattle.cluster_calm.specs.Calm.{AreCalm, AreRunning, Member, Party, no_traffic}
+use Rattle.cluster_calm.specs.Comes.{AreReady, Delivers, HasMemory, MayComeFirst, Throughout}
+use Rattle.calm_leader.specs.LeadsOn.{IsLed}
+use Rattle.calm_leader.specs.NoElection.{CallsFit}
+use Rattle.cluster_spec.specs.Cluster.{Cluster, after_rows, world_of}
+use Rattle.cluster_spec.specs.Lawful.{DoNoHarm, DoesNoHarm}
+use Rattle.cluster_spec.specs.Members.MemberStatus.{Up}
+
+-- ---- a call is accepted
+
+-- At each moment of every run of the Raft model: an append request that was made in the term in which a member leads now
+-- is accepted by another member, whose term is no higher, if it begins no further on than up to where the leader knows
+-- the logs to agree. When it was made is not asked, nor what the member's log has behind there.
+abbrev pub CallsInStepAreAcceptedInRuns : Type 0
+CallsInStepAreAcceptedInRuns = InEveryRun (λ world. (leader peer : ℕ) (request : Request) → peer ≢ leader →
+    (world.server leader).memory.role ≡ Leader → (world.server peer).store.term ≤ (world.server leader).store.term →
+    In (Requests request) world.bag → request.append ≡ true → request.term ≡ (world.server leader).store.term →
+    request.previous ≤ (world.server leader).memory.matched peer →
+    is_accepted (verdict_on (world.server peer) request) ≡ true)
+
+-- In this row a call is delivered to member m, whose bytes say this request. It is of the term in which member n leads
+-- now, and the term of m is no higher. It begins no further on than up to where n knows the log of m to agree with its
+-- own.
+pub record IsCalledInStep (n m : ℕ) (x : SentTransfer) (request : AppendRequest) (w : Cluster) (row : Row) : Type 0 where
+  pub delivers : Delivers m x w row
+  pub what : x.offer.what ≡ AppQ
+  pub says : append_request_of x.offer.payload ≡ Some request
+  pub leader : AllocatorState
+  pub runs : (w.member n).status ≡ Up leader
+  pub leads : leader.raft_server.memory.role ≡ Leader
+  pub its_term : request.term ≡ leader.raft_server.store.term
+  pub not_above : delivers.server.raft_server.store.term ≤ request.term
+  pub known : request.prev_index ≤ leader.raft_server.memory.matched m
+
+-- Behind these rows, in a row that does no harm: member m accepts such a call.
+abbrev pub CallsInStepAreAccepted : List ℕ → List Row → Type 0
+CallsInStepAreAccepted ids rows = (n m : ℕ) (x : SentTransfer) (request : AppendRequest) (row : Row) →
+    let w = world_of ids rows in In n ids → In m ids → m ≢ n → DoesNoHarm w row →
+    (called : IsCalledInStep n m x request w row) →
+    is_accepted (verdict_on called.delivers.server.raft_server (handled.append_request_of request x.step x.by m)) ≡ true
+
+-- ---- entries come
+
+-- The leader n calls member m next no further on than behind the places that it knows m to have. From a call that m
+-- accepts on it is so, as long as n leads; a leader that has just won begins behind its whole log, and knows of no place.
+abbrev pub AreInStep : (n m : ℕ) → Cluster → Type 0
+AreInStep n m w = (leader : AllocatorState) → (w.member n).status ≡ Up leader →
+    leader.raft_server.memory.next m ≤ leader.raft_server.memory.matched m + 1
+
+-- no call of the leader n to member m waits for its answer
+abbrev pub NoCallPends : (n m : ℕ) → Cluster → Type 0
+NoCallPends n m w = (leader : AllocatorState) → (w.member n).status ≡ Up leader →
+    leader.raft_server.memory.pending m ≡ None
+
+-- The leader n can call member m in these rows, and m can answer. Each is on the other's list. When the rows begin, no
+-- frame of an earlier call waits, nor one of an earlier answer, and the first call has a transfer ID under which it may
+-- begin at m, and its answer at n. Both have memory for what they receive, and the queue of m has a place for an answer.
+pub record CanExchange (n m : ℕ) (w : Cluster) (whole : List Timed) : Type 0 where
+  pub calls_it : Lists n m w
+  pub hears_it : Lists m n w
+  pub calls : AreReady n m AppQ m w
+  pub first_call : MayComeFirst n AppQ m calls.receiver (id_of calls.sender.ids AppQ m)
+  pub answers : AreReady m n App n w
+  pub first_answer : MayComeFirst m App n answers.receiver (id_of calls.sender.ids AppQ m)
+  pub memory : Throughout (HasMemory n) w whole
+  pub its_memory : Throughout (HasMemory m) w whole
+  pub place : Throughout (HasPlace m) w whole
+
+-- After a front of these rows, which begin at the moment `start`, and by the moment `last`, member n knows member m to
+-- have so many places of its log, and m has them.
+pub record HasComeBy (n m count last start : ℕ) (w : Cluster) (whole : List Timed) : Type 0 where
+  pub front : List Timed
+  pub rest : List Timed
+  pub split : whole ≡ front ++ rest
+  pub soon : end_of start front ≤ last
+  pub leader : AllocatorState
+  pub leads : ((after_rows w (rows_in front)).member n).status ≡ Up leader
+  pub peer : AllocatorState
+  pub runs : ((after_rows w (rows_in front)).member m).status ≡ Up peer
+  pub known : count ≤ leader.raft_server.memory.matched m
+  pub has : Same count leader.raft_server.store.log peer.raft_server.store.log
+
+-- So long it takes at most until a member has so many places more. A leader reads its clock within a period. Then a call
+-- may be under way, which carries none of them; behind it each call carries one. A call and its answer take two delays
+-- each.
+abbrev pub come_within : Pace → ℕ → ℕ
+come_within pace more = pace.period + 4 * pace.delay * (more + 1)
+
+-- In each calm from the world of these rows on, of rows that do no harm, in which four delays are shorter than the call
+-- timeout. After each front of them member n leads in this term, and the other members of the group follow in no higher
+-- one (`no_election_comes_in_calm` says when that is so); its calls find room in its queue. It can exchange calls and
+-- answers with another member of the group, which is in step with it when the calm begins, and to which no call pends
+-- then. From each front on, of which the leader's log has at most so many places more than it knows the member to have:
+-- all places that the log has then come to the member in time, or the calm is over by then. What is put into the log
+-- meanwhile does not count.
+abbrev pub EntriesComeInTime : List ℕ → List Row → Type 0
+EntriesComeInTime ids rows = (group : List Party) (clocks : Party → ℕ) (pace : Pace) (start n m term more : ℕ)
+    (front rest : List Timed) (leader : AllocatorState) → let w = world_of ids rows in let whole = front ++ rest in
+    ((p : ℕ) → In (Member p) group → In p ids) → AreRunning group w → In (Member n) group → In (Member m) group → m ≢ n →
+    4 * pace.delay < call_timeout → AreCalm group clocks pace (no_traffic start) w whole → DoNoHarm w (rows_in whole) →
+    ((early late : List Timed) → whole ≡ early ++ late → IsLed group n term (after_rows w (rows_in early))) →
+    CallsFit n w whole → CanExchange n m w whole → AreInStep n m w → NoCallPends n m w →
+    ((after_rows w (rows_in front)).member n).status ≡ Up leader →
+    length leader.raft_server.store.log ≤ leader.raft_server.memory.matched m + more →
+    end_of start front + come_within pace more < end_of start whole →
+    HasComeBy n m (length leader.raft_server.store.log) (end_of start front + come_within pace more) start w whole
+
+-- ---- entries are committed
+
+-- whether it is the leader, or one of these
+abbrev pub is_one_of : ℕ → List ℕ → ℕ → Bool
+is_one_of n others p = (p == n) || any (λ other. other == p) others
+
+-- after a front of these rows, which begin at the moment `start`, and by the moment `last`, member n has committed so
+-- many places
+pub record IsCommittedBy (n count last start : ℕ) (w : Cluster) (whole : List Timed) : Type 0 where
+  pub front : List Timed
+  pub rest : List Timed
+  pub split : whole ≡ front ++ rest
+  pub soon : end_of start front ≤ last
+  pub leader : AllocatorState
+  pub leads : ((after_rows w (rows_in front)).member n).status ≡ Up leader
+  pub committed : count ≤ leader.raft_server.store.commit
+
+-- So it is with one or more others of the group, which with the leader are a quorum of the cluster's members. Where the
+-- last place that the log has then is of the leader's own term, as each place is that the leader has put there itself,
+-- the leader has committed all of them by the same moment.
+abbrev pub EntriesAreCommittedInTime : List ℕ → List Row → Type 0
+EntriesAreCommittedInTime ids rows = (group : List Party) (clocks : Party → ℕ) (pace : Pace) (start n term more : ℕ)
+    (first : ℕ) (next : List ℕ) (front rest : List Timed) (leader : AllocatorState) → let w = world_of ids rows in
+    let whole = front ++ rest in let others = first ∷ next in
+    ((p : ℕ) → In (Member p) group → In p ids) → AreRunning group w → In (Member n) group →
+    ((m : ℕ) → In m others → In (Member m) group × (m ≢ n)) → quorum ids ≤ how_many (is_one_of n others) ids →
+    4 * pace.delay < call_timeout → AreCalm group clocks pace (no_traffic start) w whole → DoNoHarm w (rows_in whole) →
+    ((early late : List Timed) → whole ≡ early ++ late → IsLed group n term (after_rows w (rows_in early))) →
+    CallsFit n w whole →
+    ((m : ℕ) → In m others → CanExchange n m w whole × AreInStep n m w × NoCallPends n m w) →
+    ((after_rows w (rows_in front)).member n).status ≡ Up leader →
+    ((m : ℕ) → In m others → length leader.raft_server.store.log ≤ leader.raft_server.memory.matched m + more) →
+    term_at leader.raft_server.store.log (length leader.raft_server.store.log) ≡ term →
+    end_of start front + come_within pace more < end_of start whole →
+    IsCommittedBy n (length leader.raft_server.store.log) (end_of start front + come_within pace more) start w whole

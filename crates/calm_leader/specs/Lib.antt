@@ -1,0 +1,10 @@
+pub mod Entries
+pub mod LeadsOn
+pub mod NoElection
+pub mod Answers
+pub mod NoElectionExample
+pub mod CallsComeBack
+pub mod CallsAsk
+pub mod EntriesBelow
+pub mod CallsExample
+pub mod EntriesExample

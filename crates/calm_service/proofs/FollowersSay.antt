@@ -1,0 +1,324 @@
+-- A follower that accepted no request lately offers no Allocation in a step, and accepts none for longer.
+use Rattle.std.proofs.Common.{◌≡◌, ◌≢◌, ◌⊎◌, ℕ, Bool, true, false, List, [], ◌∷◌, length, max, refl, sym, ◌∙◌, ap, subst, arith, inl, inr, Option, None, Some}
+use Rattle.std.specs.Prelude.{⊤, ◌-◌, ◌&&◌, not, if◌then◌else◌, nat_eq, nat_le}
+use Rattle.alloc_exchange.specs.declared.heard.Heard.{Heard}
+use Rattle.alloc_exchange.specs.declared.heard.Heard.TheVariants.{Denied, FollowUp, Ignored, Whole}
+use Rattle.alloc_exchange.specs.declared.stage.Stage.{Stage}
+use Rattle.alloc_exchange.specs.declared.stage.Stage.TheVariants.{First, Second, Third}
+use Rattle.alloc_exchange.specs.Exchange.{Accepted, after, after_message, answer, answer_to, bytes_before, has_length, is_expected, is_whole, left_over, recent_requests, stage_length, stage_of, with_request as accepting}
+use Rattle.can_frame.specs.declared.identifier.Kind.{Kind}
+use Rattle.can_frame.specs.declared.identifier.Kind.TheVariants.{Anonymous, Message as Broadcast, Request as RequestKind, Response}
+use Rattle.can_frame.specs.declared.step.What.TheVariants.{Alloc}
+use Rattle.can_frame.specs.Timing.{status_interval}
+use Rattle.cluster_discovery.specs.Members.{is_due}
+use Rattle.dsdl_codec.specs.declared.allocation.Allocation.{Allocation}
+use Rattle.dsdl_codec.specs.Allocation.{allocation_of}
+use Rattle.dsdl_codec.specs.AppendAnswer.{append_answer_of}
+use Rattle.dsdl_codec.specs.AppendRequest.{append_request_of}
+use Rattle.dsdl_codec.specs.Discovery.{discovery_of}
+use Rattle.dsdl_codec.specs.NodeInfo.{node_info_of}
+use Rattle.dsdl_codec.specs.NodeStatus.{node_status_of}
+use Rattle.dsdl_codec.specs.VoteAnswer.{vote_answer_of}
+use Rattle.dsdl_codec.specs.VoteRequest.{vote_request_of}
+use Rattle.node_discovery.specs.Watch.{next_query}
+use Rattle.raft_core.specs.Times.{is_awaited}
+use Rattle.raft_model.specs.Lists.{In}
+use Rattle.raft_model.specs.Messages.{Request}
+use Rattle.raft_model.specs.Moves.{Move}
+use Rattle.raft_model.specs.Moves.Elections.{is_leader}
+use Rattle.raft_model.specs.Server.Role.{Follower}
+use Rattle.raft_model.specs.Server.{Role}
+use Rattle.transfer_rx.specs.Reassembly.{Answer, Arrival, Continues, Delivery, Drops, Gives}
+use Rattle.alloc_spec.specs.AllocatorState.{AllocatorState, known, may_propose, start_of}
+use Rattle.alloc_spec.specs.Delivered.{StepResult, asks_info, by_kind, delivery_phase, hears_discovery, hears_status, reads, request, response as takes_response}
+use Rattle.alloc_spec.specs.Delivered as delivered
+use Rattle.alloc_spec.specs.Ending.{has_to_tell}
+use Rattle.alloc_spec.specs.Exchange.{answers_request, hears_allocation, may_follow, with_request}
+use Rattle.alloc_spec.specs.Services.{answers_append_request, answers_call, answers_vote_request, append_answered, ends_append_call, ends_vote_call, hears_info, is_listed, takes_append_answer, takes_append_request, takes_vote_answer, takes_vote_request, vote_answered}
+use Rattle.alloc_spec.specs.Step.{Event, begin_phase, moment_of, step, with_answer, with_sessions}
+use Rattle.alloc_spec.specs.Step.Event.{Rx, Tick}
+use Rattle.alloc_spec.specs.StepState.{StepState}
+use Rattle.alloc_spec.specs.Tick.{asks, candidate, clock_phase, discovery_phase, election_phase, new_uid, record_phase, records_as, records_node, status_phase, tells_members, tells_status}
+use Rattle.alloc_spec.specs.Transfers.{Offer, has_room}
+use Rattle.alloc_spec_laws.specs.Phases.{when_committed, when_seen, when_told}
+use Rattle.alloc_spec_laws.proofs.Choices.{either, eq_true}
+use Rattle.cluster_progress.proofs.Begins.{IsAsBefore}
+use Rattle.cluster_progress.proofs.Ends.{IsKept, call_phase_keeps, rest_keeps, tell_keeps}
+use Rattle.cluster_progress.proofs.FollowUps.{begun}
+use Rattle.calm_service.proofs.AllocationsOffered.{IsUnasked, comes_to, end_from, seen_free, seen_is}
+
+-- ---- what a step accepted where no request comes
+
+module _ (number : ℕ) (accepted : List Accepted) where
+  abbrev Keeps : StepState → Type 0
+  Keeps g = g.allocator.accepted ≡ accepted
+
+  abbrev KeepsResult : StepResult → Type 0
+  KeepsResult r = Keeps r.step_state
+
+  kept : IsKept number Keeps
+  kept = record {
+    passes = λ g e h. h;
+    tells = λ given g e h. h;
+    votes = λ given peer g h. h;
+    appends = λ given peer previous with_entry g h. h;
+    sends = λ what to payload says g h. h;
+  }
+
+  pub ends_kept : (t : AllocatorState) (event : Event) → Keeps (when_seen t number event) → Keeps (step t number event).step_state
+  unfolding step
+  ends_kept t event h = rest_keeps number Keeps kept (when_seen t number event) h
+
+  recorded : (node : Option ℕ) (g : StepState) → Keeps g → Keeps (records_node number node g)
+  recorded None g h = h
+  recorded (Some node) g h = by (new_uid g.allocator node)
+    where
+      by : (uid : Option (List ℕ)) → Keeps (records_as number node uid g)
+      by None = h
+      by (Some uid) = h
+
+  asked_node : (node : Option ℕ) (g : StepState) → Keeps g → Keeps (asks number node g)
+  asked_node None g h = h
+  asked_node (Some node) g h = either Keeps (has_room g.allocator.queue []) _ _ (λ e. h) (λ e. h)
+
+  ticks_kept : (word : ℕ) (g : StepState) → Keeps g → Keeps (clock_phase number word g)
+  ticks_kept word g h =
+      let told : StepState = discovery_phase number g in
+      let stated : StepState = status_phase number told in
+      let elected : StepState = election_phase number word stated in
+      let recorded_ : StepState = record_phase number elected in
+      let a : Keeps told = either Keeps (is_due (start_of g.allocator) g.allocator.heard g.allocator.now) (tells_members number g) g (λ e. h) (λ e. h) in
+      let b : Keeps stated = either Keeps (nat_le status_interval (told.allocator.now - told.allocator.status_at)) (tells_status number told) told (λ e. a) (λ e. a) in
+      let c : Keeps recorded_ = either Keeps (may_propose elected.allocator) (records_node number (candidate elected.allocator) elected) elected
+      (λ e. recorded (candidate elected.allocator) elected b) (λ e. b) in
+      either Keeps (is_leader recorded_.allocator.raft_server.memory.role) (asks number (next_query recorded_.allocator.watch (known recorded_.allocator) recorded_.allocator.now) recorded_)
+      recorded_ (λ e. asked_node (next_query recorded_.allocator.watch (known recorded_.allocator) recorded_.allocator.now) recorded_ c) (λ e. c)
+
+  module _ (d : Delivery) (g : StepState) (h : Keeps g) where
+    read : {A : Type 0} (does : A → StepState → StepState) (value : Option A) → ((v : A) → Keeps (does v g)) → KeepsResult (reads does value g)
+    read does None f = h
+    read does (Some v) f = f v
+
+    asking : (bytes : List ℕ) → KeepsResult (asks_info number d bytes g)
+    asking [] = h
+    asking (byte ∷ bytes) = h
+
+    call_answered : (move : Request → Move) (call : Option Request) → Keeps (answers_call number move call g)
+    call_answered move None = h
+    call_answered move (Some asked) = h
+
+    message_comes : KeepsResult (delivered.message d g)
+    message_comes = either KeepsResult (nat_eq d.ident.number 341) (reads (λ status. hears_status d) (node_status_of d.payload) g)
+        (reads (hears_discovery d) (discovery_of d.payload) g)
+        (λ e. read (λ status. hears_status d) (node_status_of d.payload) (λ status. h))
+        (λ e. read (hears_discovery d) (discovery_of d.payload) (λ message. h))
+
+    request_comes : KeepsResult (request number d g)
+    request_comes = either KeepsResult (nat_eq d.ident.number 1) (asks_info number d d.payload g) _ (λ e. asking d.payload)
+        (λ e. either KeepsResult (nat_eq d.ident.number 30) (reads (takes_append_request number d) (append_request_of d.payload) g)
+        (reads (takes_vote_request number d) (vote_request_of d.payload) g)
+        (λ e. read (takes_append_request number d) (append_request_of d.payload) (λ asked.
+        either Keeps (is_listed d g.allocator) (answers_append_request number d asked g) g (λ e. h) (λ e. h)))
+        (λ e. read (takes_vote_request number d) (vote_request_of d.payload) (λ asked.
+        either Keeps (is_listed d g.allocator) (answers_vote_request number d asked g) g (λ e. h) (λ e. h))))
+
+    response_comes : KeepsResult (takes_response number d g)
+    response_comes = either KeepsResult (nat_eq d.ident.number 1) (reads (hears_info d) (node_info_of d.payload) g) _
+        (λ e. read (hears_info d) (node_info_of d.payload) (λ info. h))
+        (λ e. either KeepsResult (nat_eq d.ident.number 30) (reads (takes_append_answer number d) (append_answer_of d.payload) g)
+        (reads (takes_vote_answer number d) (vote_answer_of d.payload) g)
+        (λ e. read (takes_append_answer number d) (append_answer_of d.payload) (λ says.
+        either Keeps (is_listed d g.allocator) (ends_append_call number d says g) g
+        (λ e. either Keeps (is_awaited g.allocator.raft_server g.allocator.times d.ident.source true d.id) _ g
+        (λ e. call_answered (append_answered d says) (g.allocator.raft_server.memory.pending d.ident.source)) (λ e. h)) (λ e. h)))
+        (λ e. read (takes_vote_answer number d) (vote_answer_of d.payload) (λ says.
+        either Keeps (is_listed d g.allocator) (ends_vote_call number d says g) g
+        (λ e. either Keeps (is_awaited g.allocator.raft_server g.allocator.times d.ident.source false d.id) _ g
+        (λ e. call_answered (vote_answered d says) (g.allocator.raft_server.memory.pending d.ident.source)) (λ e. h)) (λ e. h))))
+
+    none_asked : (o : Option Allocation) → ((message : Allocation) → o ≡ Some message → ⊥) → KeepsResult (reads (hears_allocation number) o g)
+    none_asked None none = h
+    none_asked (Some message) none = absurd (none message refl)
+
+    kind_comes : (kind : Kind) → (kind ≡ Anonymous → (message : Allocation) → allocation_of d.payload ≡ Some message → ⊥) → KeepsResult (by_kind number d kind g)
+    kind_comes Anonymous none = none_asked (allocation_of d.payload) (none refl)
+    kind_comes Broadcast none = message_comes
+    kind_comes RequestKind none = request_comes
+    kind_comes Response none = response_comes
+
+    delivery_comes : (d.ident.kind ≡ Anonymous → (message : Allocation) → allocation_of d.payload ≡ Some message → ⊥) → KeepsResult (delivery_phase number d g)
+    unfolding delivery_phase
+    delivery_comes none = kind_comes d.ident.kind none
+
+module _ (t : AllocatorState) (number : ℕ) where
+  answered_kept : (arrival : Arrival) (a : Answer) → ((d : Delivery) (message : Allocation) → a ≡ Gives d → d.ident.kind ≡ Anonymous → allocation_of d.payload ≡ Some message → ⊥)
+      → (with_answer number a (with_sessions arrival (begin_phase number arrival.moment t))).step_state.allocator.accepted ≡ t.accepted
+  answered_kept arrival (Gives d) none = delivery_comes number t.accepted d (with_sessions arrival (begin_phase number arrival.moment t)) refl (λ kind message says. none d message refl kind says)
+  answered_kept arrival Continues none = refl
+  answered_kept arrival (Drops why) none = refl
+
+  seen_kept : (event : Event) → IsUnasked t event → (when_seen t number event).allocator.accepted ≡ t.accepted
+  seen_kept (Tick now word) none = ticks_kept number t.accepted word (begin_phase number now t) refl
+  seen_kept (Rx arrival) none = answered_kept arrival (comes_to t arrival) (λ d message gives kind says. none arrival refl d message gives kind says)
+
+  pub unasked_kept : (event : Event) → IsUnasked t event → (step t number event).step_state.allocator.accepted ≡ t.accepted
+  unasked_kept event none = ends_kept number t.accepted t event (seen_kept event none)
+
+-- ---- who does not lead has nothing to tell
+
+role_kept : (number : ℕ) (role : Role) → IsKept number (λ (g : StepState). g.allocator.raft_server.memory.role ≡ role)
+role_kept number role = record {
+  passes = λ g e h. h;
+  tells = λ given g e h. h;
+  votes = λ given peer g h. h;
+  appends = λ given peer previous with_entry g h. h;
+  sends = λ what to payload says g h. h;
+}
+
+role_then : (t : AllocatorState) (number : ℕ) (event : Event)
+    → (step t number event).step_state.allocator.raft_server.memory.role ≡ (when_committed t number event).allocator.raft_server.memory.role
+unfolding step
+role_then t number event =
+    call_phase_keeps number (λ (g : StepState). g.allocator.raft_server.memory.role ≡ (when_committed t number event).allocator.raft_server.memory.role)
+    (role_kept number (when_committed t number event).allocator.raft_server.memory.role) (when_told t number event)
+    (tell_keeps number (λ (g : StepState). g.allocator.raft_server.memory.role ≡ (when_committed t number event).allocator.raft_server.memory.role)
+    (role_kept number (when_committed t number event).allocator.raft_server.memory.role) (when_committed t number event) refl)
+
+pub follower_tells_none : (t : AllocatorState) (number : ℕ) (event : Event) → (step t number event).step_state.allocator.raft_server.memory.role ≡ Follower
+    → has_to_tell (when_committed t number event).allocator.raft_server ≡ false
+follower_tells_none t number event follows =
+    let role : (when_committed t number event).allocator.raft_server.memory.role ≡ Follower = sym (role_then t number event) ∙ follows in rw (role) refl
+
+-- ---- a request to who does not lead, and accepted none lately
+
+abbrev GivesNone : Heard → Type 0
+GivesNone (FollowUp bytes) = ⊥
+GivesNone (Whole uid preferred) = ⊥
+GivesNone (Ignored why) = ⊤
+GivesNone Denied = ⊤
+
+not_false : (b : Bool) → not b ≡ false → b ≡ true
+not_false true e = refl
+not_false false e = absurd (cc (e))
+
+module _ (message : Allocation) (now : ℕ) where
+  one : List Accepted
+  one = accepting [] message now
+
+  never_whole : (stage : Stage) → stage_of message ≡ stage → length message.uid.items ≡ stage_length stage → 0 ≡ bytes_before stage → length message.uid.items ≡ 16 → ⊥
+  never_whole First e size start whole = omega (arith, size, whole)
+  never_whole Second e size start whole = omega (arith, start)
+  never_whole Third e size start whole = omega (arith, start)
+
+  denied : GivesNone (answer_to [] message now false)
+  denied = either GivesNone (not (has_length message)) _ _ (λ e. tt)
+      (λ e. either GivesNone (not (is_expected [] message)) _ _ (λ f. tt)
+      (λ f. either GivesNone (is_whole (accepting [] message now)) _ _
+      (λ w. absurd (never_whole (stage_of message) refl
+      (eq_true (length message.uid.items) (stage_length (stage_of message)) (not_false (has_length message) e))
+      (eq_true 0 (bytes_before (stage_of message)) (not_false (is_expected [] message) f))
+      (eq_true (length message.uid.items) 16 w)))
+      (λ w. tt)))
+
+  none_left : after_message [] message now false ≡ []
+  none_left = either (λ (l : List Accepted). l ≡ []) (has_length message && is_expected [] message) (left_over (accepting [] message now) false) []
+      (λ e. either (λ (l : List Accepted). l ≡ []) (is_whole (accepting [] message now)) [] (if false then accepting [] message now else []) (λ w. refl) (λ w. refl)) (λ e. refl)
+
+  pub is_denied : (accepted : List Accepted) → recent_requests accepted now ≡ [] → GivesNone (answer accepted message now false)
+  unfolding answer
+  is_denied accepted stale = subst (λ (l : List Accepted). GivesNone (answer_to l message now false)) (sym stale) denied
+
+  pub leaves_none : (accepted : List Accepted) → recent_requests accepted now ≡ [] → after accepted message now false ≡ []
+  unfolding after
+  leaves_none accepted stale = ap (λ (l : List Accepted). after_message l message now false) stale ∙ none_left
+
+none_offered : (number : ℕ) (heard : Heard) (g : StepState) → GivesNone heard → (answers_request number heard g).offers ≡ g.offers
+none_offered number (FollowUp bytes) g none = absurd none
+none_offered number (Whole uid preferred) g none = absurd none
+none_offered number (Ignored why) g none = refl
+none_offered number Denied g none = refl
+
+same_accepted : (number : ℕ) (heard : Heard) (g : StepState) → GivesNone heard → (answers_request number heard g).allocator.accepted ≡ g.allocator.accepted
+same_accepted number (FollowUp bytes) g none = absurd none
+same_accepted number (Whole uid preferred) g none = absurd none
+same_accepted number (Ignored why) g none = refl
+same_accepted number Denied g none = refl
+
+module _ (t : AllocatorState) (number : ℕ) (arrival : Arrival) (d : Delivery) (message : Allocation) (gives : comes_to t arrival ≡ Gives d) (kind : d.ident.kind ≡ Anonymous)
+    (says : allocation_of d.payload ≡ Some message) (follows : t.raft_server.memory.role ≡ Follower) (stale : recent_requests t.accepted (max t.now arrival.moment) ≡ []) where
+  come : StepState
+  come = with_sessions arrival (begin_phase number arrival.moment t)
+
+  before : IsAsBefore t.raft_server (with_sessions arrival (begin_phase number arrival.moment t)).allocator.raft_server
+  before = begun t number arrival
+
+  may_not : may_follow (with_sessions arrival (begin_phase number arrival.moment t)).allocator ≡ false
+  may_not = let role = before.role ∙ follows in rw (role) refl
+
+  heard : Heard
+  heard = answer t.accepted message (max t.now arrival.moment) (may_follow (with_sessions arrival (begin_phase number arrival.moment t)).allocator)
+
+  gives_none : GivesNone (answer t.accepted message (max t.now arrival.moment) (may_follow (with_sessions arrival (begin_phase number arrival.moment t)).allocator))
+  gives_none = subst (λ (b : Bool). GivesNone (answer t.accepted message (max t.now arrival.moment) b)) (sym may_not) (is_denied message (max t.now arrival.moment) t.accepted stale)
+
+  pub asked_silent : (when_seen t number (Rx arrival)).offers ≡ []
+  asked_silent = ap (λ (g : StepState). g.offers) (seen_is t number arrival d message gives kind says)
+      ∙ none_offered number (answer t.accepted message (max t.now arrival.moment) (may_follow (with_sessions arrival (begin_phase number arrival.moment t)).allocator))
+      (with_request message (with_sessions arrival (begin_phase number arrival.moment t))) gives_none
+
+  pub asked_accepted : (step t number (Rx arrival)).step_state.allocator.accepted ≡ []
+  asked_accepted = ends_kept number [] t (Rx arrival) (ap (λ (g : StepState). g.allocator.accepted) (seen_is t number arrival d message gives kind says)
+      ∙ (same_accepted number (answer t.accepted message (max t.now arrival.moment) (may_follow (with_sessions arrival (begin_phase number arrival.moment t)).allocator))
+      (with_request message (with_sessions arrival (begin_phase number arrival.moment t))) gives_none
+      ∙ (ap (λ (b : Bool). after t.accepted message (max t.now arrival.moment) b) may_not ∙ leaves_none message (max t.now arrival.moment) t.accepted stale)))
+
+-- ---- a step of a follower
+
+-- it offers no Allocation, and has accepted what it had, or nothing
+pub record SaysNothing (t : AllocatorState) (number : ℕ) (event : Event) : Type 0 where
+  pub free : (x : Offer) → In x (step t number event).step_state.offers → x.what ≢ Alloc
+  pub accepted : ((step t number event).step_state.allocator.accepted ≡ t.accepted) ⊎ ((step t number event).step_state.allocator.accepted ≡ [])
+
+one_delivery : (x y : Delivery) → Gives x ≡ Gives y → x ≡ y
+one_delivery x y e = cc (e)
+
+one_arrival : (x y : Arrival) → Rx x ≡ Rx y → x ≡ y
+one_arrival x y e = cc (e)
+
+module _ (t : AllocatorState) (number : ℕ) (follows : t.raft_server.memory.role ≡ Follower) where
+  says_nothing_unasked : (event : Event) → (step t number event).step_state.allocator.raft_server.memory.role ≡ Follower → IsUnasked t event → SaysNothing t number event
+  says_nothing_unasked event then_follows none = record {
+    free = λ x i e. seen_free t number event none x (end_from t number event (follower_tells_none t number event then_follows) x i e) e;
+    accepted = inl (unasked_kept t number event none);
+  }
+
+  by_answer : (arrival : Arrival) → (step t number (Rx arrival)).step_state.allocator.raft_server.memory.role ≡ Follower → recent_requests t.accepted (max t.now arrival.moment) ≡ []
+      → (a : Answer) → comes_to t arrival ≡ a → SaysNothing t number (Rx arrival)
+  by_answer arrival then_follows stale (Gives d) e = by_kind_ d.ident.kind refl
+    where
+      anonymous : d.ident.kind ≡ Anonymous → (o : Option Allocation) → allocation_of d.payload ≡ o → SaysNothing t number (Rx arrival)
+      anonymous kind None says = says_nothing_unasked (Rx arrival) then_follows (λ other is x message gives k s.
+          cc (says, ap (λ (y : Delivery). allocation_of y.payload) (one_delivery d x (sym e ∙ (ap (comes_to t) (one_arrival arrival other is) ∙ gives))) ∙ s))
+      anonymous kind (Some message) says = record {
+        free = λ x i f. absurd (subst (λ (l : List Offer). In x l) (asked_silent t number arrival d message e kind says follows stale)
+            (end_from t number (Rx arrival) (follower_tells_none t number (Rx arrival) then_follows) x i f));
+        accepted = inr (asked_accepted t number arrival d message e kind says follows stale);
+      }
+
+      by_kind_ : (kind : Kind) → d.ident.kind ≡ kind → SaysNothing t number (Rx arrival)
+      by_kind_ Anonymous k = anonymous k (allocation_of d.payload) refl
+      by_kind_ Broadcast k = says_nothing_unasked (Rx arrival) then_follows (λ other is x message gives kind s.
+          cc (k, ap (λ (y : Delivery). y.ident.kind) (one_delivery d x (sym e ∙ (ap (comes_to t) (one_arrival arrival other is) ∙ gives))) ∙ kind))
+      by_kind_ RequestKind k = says_nothing_unasked (Rx arrival) then_follows (λ other is x message gives kind s.
+          cc (k, ap (λ (y : Delivery). y.ident.kind) (one_delivery d x (sym e ∙ (ap (comes_to t) (one_arrival arrival other is) ∙ gives))) ∙ kind))
+      by_kind_ Response k = says_nothing_unasked (Rx arrival) then_follows (λ other is x message gives kind s.
+          cc (k, ap (λ (y : Delivery). y.ident.kind) (one_delivery d x (sym e ∙ (ap (comes_to t) (one_arrival arrival other is) ∙ gives))) ∙ kind))
+  by_answer arrival then_follows stale Continues e = says_nothing_unasked (Rx arrival) then_follows (λ other is x message gives kind s.
+      cc (sym e ∙ (ap (comes_to t) (one_arrival arrival other is) ∙ gives)))
+  by_answer arrival then_follows stale (Drops why) e = says_nothing_unasked (Rx arrival) then_follows (λ other is x message gives kind s.
+      cc (sym e ∙ (ap (comes_to t) (one_arrival arrival other is) ∙ gives)))
+
+  pub says_nothing : (event : Event) → (step t number event).step_state.allocator.raft_server.memory.role ≡ Follower
+      → recent_requests t.accepted (max t.now (moment_of event)) ≡ [] → SaysNothing t number event
+  says_nothing (Tick now word) then_follows stale = says_nothing_unasked (Tick now word) then_follows (λ arrival is. absurd (cc (is)))
+  says_nothing (Rx arrival) then_follows stale = by_answer arrival then_follows stale (comes_to t arrival) refl

@@ -1,0 +1,258 @@
+//! The laws of this crate, each the contract of a function that does nothing.
+
+ghost use Rattle.std.specs.Prelude.{ℕ, List};
+ghost use Rattle.calm_service.specs.Dialog.{DevicesAreHeardOut, KnownDevicesAreTold};
+ghost use Rattle.calm_service.specs.Recorded.{EachRowKeepsTheLog, LeaderSettles, LogStaysUnasked};
+ghost use Rattle.calm_service.specs.Recorded.{LogStaysUncommitted, SettledLeads};
+ghost use Rattle.calm_service.specs.Served.{LeadersLoseNothing, NewDevicesAreRecorded, NewDevicesAreServed};
+ghost use Rattle.calm_service.specs.Served.{NewPairsAreCommitted, NewPairsAreOffered};
+ghost use Rattle.calm_service.specs.ServedTold.{NewPairsAreTold};
+ghost use Rattle.calm_service.specs.Settled.{AllRowsLeaveItSettled, EachRowLeavesItSettled};
+ghost use Rattle.cluster_spec.specs.Cluster.{AreMembers, cluster};
+ghost use Rattle.cluster_spec.specs.Lawful.{DoNoHarm};
+ghost use Rattle.replay_text.specs.declared.row.Row.{Row};
+
+use alloc_spec_laws::laws::{duty_of_a_step, steps_stay_in_range, transfers_of_a_step_are_apart};
+use allocatee::laws::{a_node_id_is_given_for_good, its_frames_are_anonymous, sessions_of_a_step};
+use calm_leader::laws::{entries_are_committed_in_time, what_entries_stand_on};
+use can_frame::laws::{frames_carry_what_is_cut, lengths_of_cuttings};
+use cluster_agreement::allocatees::the_allocatees;
+use cluster_agreement::below::{
+    what_a_step_keeps, what_is_said_of_a_step, what_is_said_of_frames, what_is_said_of_messages,
+};
+use cluster_agreement::headline::{a_choice_fits, rows_are_shown, rows_grow_by_one, the_headline};
+use cluster_agreement::transfers::what_a_row_delivers_is_one_transfer;
+use cluster_calm::laws::{allocations_come_in_calm, who_is_listed_stays};
+use cluster_progress::laws::{
+    a_leader_follows_up, a_leader_records_the_pair, requests_are_delivered,
+    requests_of_devices_are_requests,
+};
+use dsdl_codec::laws::allocations_both_ways;
+use id_selector::laws::chosen_is_the_choice;
+use raft_model::laws::{law_decisions, law_every_run, law_fit};
+use transfer_rx::laws::delivers_what_comes_whole;
+
+/// Who has settled stays settled in a calm in which it leads, and the others follow: a leader that has committed and
+/// told its whole log, knows each node that is online, and owes no Discovery. So it is behind each row, at the moment of
+/// that row, with the same log; and it has accepted the same requests, where no request of a device comes in the row. A
+/// request that comes is taken as an exchange takes it in which follow-ups may be given; or it makes a unique ID whole
+/// that the log lacks, and the log grows by it: of what comes then nothing is said. The leader lists each other member,
+/// so each node that says in a calm that it is online is known. Who sends it a Discovery has to name as many nodes as
+/// the cluster has members: a shorter list has to be answered.
+pub fn who_has_settled_stays_settled()
+    ensures row { (ids : List ℕ) (rows : List Row) → AreMembers ids → DoNoHarm (cluster ids) rows →
+        EachRowLeavesItSettled ids rows }
+    ensures all { (ids : List ℕ) (rows : List Row) → AreMembers ids → DoNoHarm (cluster ids) rows →
+        AllRowsLeaveItSettled ids rows }
+{
+    a_choice_fits();
+    delivers_what_comes_whole();
+    frames_carry_what_is_cut();
+    its_frames_are_anonymous();
+    lengths_of_cuttings();
+    rows_are_shown();
+    rows_grow_by_one();
+    steps_stay_in_range();
+    what_a_row_delivers_is_one_transfer();
+    what_a_step_keeps();
+    what_is_said_of_a_step();
+    what_is_said_of_frames();
+    what_is_said_of_messages();
+    who_is_listed_stays();
+}
+
+/// A leader's log stays as it is in such a calm, whether the whole of it is committed or not, until a request of a device
+/// makes it grow. So it is behind each row (`row`), and the leader is left as it was in all else that counts: it adds no
+/// blank, its clock has not fallen, it knows each node that is online, and it owes no Discovery. Where the log grows, the
+/// leader goes on so with the longer log. While its log is not committed, it gives no follow-up, so nothing is recorded,
+/// whatever devices ask (`uncommitted`). Who has settled leads so (`leads`), and who leads so has settled once it has
+/// committed and told its whole log (`settles`).
+pub fn a_leaders_log_stays()
+    ensures leads { SettledLeads }
+    ensures settles { LeaderSettles }
+    ensures row { (ids : List ℕ) (rows : List Row) → AreMembers ids → DoNoHarm (cluster ids) rows →
+        EachRowKeepsTheLog ids rows }
+    ensures uncommitted { (ids : List ℕ) (rows : List Row) → AreMembers ids → DoNoHarm (cluster ids) rows →
+        LogStaysUncommitted ids rows }
+    ensures unasked { (ids : List ℕ) (rows : List Row) → AreMembers ids → DoNoHarm (cluster ids) rows →
+        LogStaysUnasked ids rows }
+{
+    a_choice_fits();
+    delivers_what_comes_whole();
+    frames_carry_what_is_cut();
+    its_frames_are_anonymous();
+    lengths_of_cuttings();
+    rows_are_shown();
+    rows_grow_by_one();
+    steps_stay_in_range();
+    what_a_row_delivers_is_one_transfer();
+    what_a_step_keeps();
+    what_is_said_of_a_step();
+    what_is_said_of_frames();
+    what_is_said_of_messages();
+    who_is_listed_stays();
+}
+
+/// A device that asks is heard out in time by a leader that has settled. In a calm as above, at a pace of which a
+/// period and four delays take 100 ms at most, the only device of the group has just come, and a member leads that has
+/// committed and told its whole log. The device asks; the leader follows up twice, and hears the whole unique ID within
+/// 1,800 ms, three periods and ten delays, or the calm is over by then. Before that row it has settled with the same
+/// log, and the device waits for two delays more at least. This asks what [`who_has_settled_stays_settled`]
+/// asks; that in all rows the device has memory for what comes, and the leader's queue has room for an Allocation; and
+/// that when the calm begins no frame of an Allocation waits in a member's queue, and no request counts any more that
+/// another member accepted. Then the leader sends an Allocation only where it is asked, and the others send none.
+pub fn devices_are_heard_out_in_calm()
+    ensures { (ids : List ℕ) (rows : List Row) → AreMembers ids → DoNoHarm (cluster ids) rows →
+        DevicesAreHeardOut ids rows }
+{
+    a_choice_fits();
+    a_leader_follows_up();
+    allocations_both_ways();
+    delivers_what_comes_whole();
+    frames_carry_what_is_cut();
+    its_frames_are_anonymous();
+    law_decisions();
+    lengths_of_cuttings();
+    requests_are_delivered();
+    requests_of_devices_are_requests();
+    rows_are_shown();
+    rows_grow_by_one();
+    sessions_of_a_step();
+    steps_stay_in_range();
+    transfers_of_a_step_are_apart();
+    what_a_step_keeps();
+    what_is_said_of_a_step();
+    what_is_said_of_frames();
+    who_has_settled_stays_settled();
+}
+
+/// A device that asks, and whose unique ID stands in the leader's log, is told its node ID in time. In a calm as above, and
+/// where the same is asked, it holds the node ID that the log has within 1,800 ms, three periods and twelve delays, or the
+/// calm is over by then; and then the leader has settled with the same log.
+pub fn known_devices_are_told_in_calm()
+    ensures { (ids : List ℕ) (rows : List Row) → AreMembers ids → DoNoHarm (cluster ids) rows →
+        KnownDevicesAreTold ids rows }
+{
+    a_choice_fits();
+    a_leader_follows_up();
+    allocations_both_ways();
+    delivers_what_comes_whole();
+    frames_carry_what_is_cut();
+    its_frames_are_anonymous();
+    law_decisions();
+    law_every_run();
+    lengths_of_cuttings();
+    requests_are_delivered();
+    requests_of_devices_are_requests();
+    rows_are_shown();
+    rows_grow_by_one();
+    sessions_of_a_step();
+    steps_stay_in_range();
+    transfers_of_a_step_are_apart();
+    what_a_step_keeps();
+    what_is_said_of_a_step();
+    what_is_said_of_frames();
+    who_has_settled_stays_settled();
+}
+
+/// A device that asks, and whose unique ID is new, is recorded in time. In a calm as above, and where the same is asked: the
+/// leader knows all members, its log lacks the unique ID and has room, and a node ID is left, which is none of a member
+/// and stands in no entry of the log. Then, in the row in which it hears the whole unique ID, its log grows by it and by a
+/// node ID that was left, within 1,800 ms, three periods and ten delays, or the calm is over by then.
+pub fn new_devices_are_recorded_in_calm()
+    ensures { (ids : List ℕ) (rows : List Row) → AreMembers ids → DoNoHarm (cluster ids) rows →
+        NewDevicesAreRecorded ids rows }
+{
+    a_choice_fits();
+    a_leader_records_the_pair();
+    chosen_is_the_choice();
+    devices_are_heard_out_in_calm();
+    rows_are_shown();
+    rows_grow_by_one();
+    who_is_listed_stays();
+}
+
+/// A leader loses nothing in a calm as above, in which it leads throughout and its calls find room in its queue. Between
+/// any two moments its log grows behind its end alone: no entry that it has is dropped, moved or changed. And of a member
+/// with which it is in step when the calm begins, the places that it knows the member to have do not become fewer.
+pub fn leaders_lose_nothing_in_calm()
+    ensures { (ids : List ℕ) (rows : List Row) → AreMembers ids → DoNoHarm (cluster ids) rows →
+        LeadersLoseNothing ids rows }
+{
+    what_entries_stand_on();
+}
+
+/// The pair of a new device is committed in time. In a calm as for [`new_devices_are_recorded_in_calm`], in which the
+/// leader's calls find room in its queue, and in which followers that have its whole log when the calm begins, that are in
+/// step with it and can exchange calls and answers with it, are a quorum with it: within four periods and 18 delays and
+/// 1,800 ms its log begins with the former one and the pair, and it has committed both, or the calm is over by then. It
+/// loses nothing meanwhile, as [`leaders_lose_nothing_in_calm`] says.
+pub fn new_pairs_are_committed_in_calm()
+    ensures { (ids : List ℕ) (rows : List Row) → AreMembers ids → DoNoHarm (cluster ids) rows →
+        NewPairsAreCommitted ids rows }
+{
+    a_choice_fits();
+    entries_are_committed_in_time();
+    law_every_run();
+    leaders_lose_nothing_in_calm();
+    new_devices_are_recorded_in_calm();
+    rows_are_shown();
+    rows_grow_by_one();
+}
+
+/// The pair of a new device is told in time. In a calm as for [`new_pairs_are_committed_in_calm`], the leader tells it in
+/// the row in which it commits it: it offers an Allocation with the unique ID and a node ID that was left, within the same
+/// time, or the calm is over by then. Whether its queue has room for it is not said.
+pub fn new_pairs_are_offered_in_calm()
+    ensures { (ids : List ℕ) (rows : List Row) → AreMembers ids → DoNoHarm (cluster ids) rows →
+        NewPairsAreOffered ids rows }
+{
+    a_choice_fits();
+    duty_of_a_step();
+    entries_are_committed_in_time();
+    law_every_run();
+    leaders_lose_nothing_in_calm();
+    new_devices_are_recorded_in_calm();
+    rows_are_shown();
+    rows_grow_by_one();
+}
+
+/// The pair of a new device is told in time. In a calm as for [`new_pairs_are_committed_in_calm`], in which the leader has
+/// room in each of its steps for the frames of the next pair, and room in its log for one entry more: within four periods
+/// and 18 delays and 1,800 ms it has settled with its former log and the pair, which is committed and told, or the calm is
+/// over by then. So the next device can be heard out. Whether the device hears it is not said.
+pub fn new_pairs_are_told_in_calm()
+    ensures { (ids : List ℕ) (rows : List Row) → AreMembers ids → DoNoHarm (cluster ids) rows →
+        NewPairsAreTold ids rows }
+{
+    a_choice_fits();
+    a_leaders_log_stays();
+    duty_of_a_step();
+    law_decisions();
+    law_fit();
+    leaders_lose_nothing_in_calm();
+    new_devices_are_recorded_in_calm();
+    new_pairs_are_committed_in_calm();
+    rows_are_shown();
+    rows_grow_by_one();
+}
+
+/// A new device is served in time. In a calm as for [`new_pairs_are_offered_in_calm`], in which the leader's queue has room for
+/// each pair that it tells, and each Allocation that it sends has three frames at most: the device holds a node ID that was
+/// left, within four periods, 20 delays and 1,800 ms, or the calm is over by then. Where it asks again meanwhile, it takes
+/// the Allocation all the same.
+pub fn new_devices_are_served_in_calm()
+    ensures { (ids : List ℕ) (rows : List Row) → AreMembers ids → DoNoHarm (cluster ids) rows →
+        NewDevicesAreServed ids rows }
+{
+    a_choice_fits();
+    a_node_id_is_given_for_good();
+    allocations_both_ways();
+    allocations_come_in_calm();
+    law_every_run();
+    new_pairs_are_offered_in_calm();
+    rows_are_shown();
+    rows_grow_by_one();
+    the_allocatees();
+    the_headline();
+}
