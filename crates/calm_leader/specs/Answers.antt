@@ -56,8 +56,8 @@ pub record AnswersCall (m : ℕ) (x : SentTransfer) (request : AppendRequest) (w
   pub written : offer.payload ≡ append_bytes (answer_by (w.rows + 1) delivers.server (asked_by x request m))
   pub fitted : offer.fitted ≡ has_room delivers.server.queue offer.payload
 
--- Whoever is called answers, if it lists the caller: whatever its role, and whatever the terms. A server has the node ID
--- of its member in every world that rows reach.
+-- Whoever is called answers, if it lists the caller: whatever its role, and whatever the terms. A server has the node
+-- ID of its member in every world that rows reach.
 abbrev pub CallsAreAnswered : Type 0
 CallsAreAnswered = (m : ℕ) (x : SentTransfer) (request : AppendRequest) (w : Cluster) (row : Row)
     (delivers : Delivers m x w row) → delivers.server.me ≡ m → x.offer.what ≡ AppQ →
@@ -79,13 +79,15 @@ AnswersReadAsSaid ids rows = (n : ℕ) (row : Row) (offer : Offer) → let w = w
 
 -- In each calm from the world of these rows on, in which twice the delay is no longer than a transfer is remembered: an
 -- answer that a member of the group gives to a call of another one, and that finds room, comes to the caller within two
--- delays, or the calm is over by then. Of all answers from the one to the other in this calm the first has a transfer ID
--- that may begin, and each later one another ID than the one before it.
+-- delays, or the calm is over by then. Of all answers from the one to the other in this calm the first has a transfer
+-- ID that may begin, and each later one another ID than the one before it.
 abbrev pub AnswersComeInCalm : List ℕ → List Row → Type 0
 AnswersComeInCalm ids rows = (group : List Party) (clocks : Party → ℕ) (pace : Pace) (start n m : ℕ)
-    (front rest : List Timed) (timed : Timed) (x : SentTransfer) (request : AppendRequest) → let w = world_of ids rows in
+    (front rest : List Timed) (timed : Timed) (x : SentTransfer) (request : AppendRequest) →
+    let w = world_of ids rows in
     let there = after_rows w (rows_in front) in let whole = front ++ timed ∷ rest in
-    ((p : ℕ) → In (Member p) group → In p ids) → AreRunning group w → In (Member n) group → In (Member m) group → n ≢ m →
+    ((p : ℕ) → In (Member p) group → In p ids) → AreRunning group w → In (Member n) group → In (Member m) group →
+    n ≢ m →
     2 * pace.delay ≤ transfer_timeout → (ready : AreReady m n App n w) →
     NoneRepeats m App n (MayComeFirst m App n ready.receiver) w whole →
     AreCalm group clocks pace (no_traffic start) w whole → Throughout (HasMemory n) w whole →
@@ -105,10 +107,10 @@ pub record WaitsForAnswer (m id moment : ℕ) (request : Request) (t : Allocator
   pub pending : t.raft_server.memory.pending m ≡ Some request
   pub kept : t.times.sending m ≡ Some (record { id = id; moment = moment })
 
--- What a leader knows of the answering member when it has taken an answer of its own term, in the step with this number.
--- If the answer says success, the member's log agrees with the leader's up to the reach of the call, and its next call
--- begins behind there (`matched_after`, `next_after`); if not, the next call begins one place earlier, down to the
--- first. The call is not pending any more: one that is was made in this step.
+-- What a leader knows of the answering member when it has taken an answer of its own term, in the step with this
+-- number. If the answer says success, the member's log agrees with the leader's up to the reach of the call, and its
+-- next call begins behind there (`matched_after`, `next_after`); if not, the next call begins one place earlier, down
+-- to the first. The call is not pending any more: one that is was made in this step.
 pub record TakesAnswer (number : ℕ) (answer : Answer) (before after : AllocatorState) : Type 0 where
   pub matched : after.raft_server.memory.matched answer.from ≡ matched_after before.raft_server.memory answer
   pub next : after.raft_server.memory.next answer.from ≡ next_after before.raft_server.memory answer

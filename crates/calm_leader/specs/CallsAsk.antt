@@ -16,8 +16,8 @@ abbrev pub next_request : (m number : ℕ) → AllocatorState → Request
 next_request m number t =
     append_request t.me number t.raft_server.store m (t.raft_server.memory.next m - 1) true
 
--- The call says this request, and the server leads and waits for its answer: with the pending request it keeps the call's
--- transfer ID, and the moment of the step.
+-- The call says this request, and the server leads and waits for its answer: with the pending request it keeps the
+-- call's transfer ID, and the moment of the step.
 pub record AsksNext (m number : ℕ) (offer : Offer) (after : AllocatorState) : Type 0 where
   pub leads : after.raft_server.memory.role ≡ Leader
   pub says : offer.says ≡ Some (Requests (next_request m number after))

@@ -67,19 +67,21 @@ pub record ComesBack (n m : ℕ) (x : SentTransfer) (request : AppendRequest) (a
   pub answers : AnswersCall m x request (after_rows w (rows_in front)) timed.row delivers
   pub taken : let there = after_rows w (rows_in front) in
       IsTakenBy n (sent_by m there answers.offer)
-      (answer_by (there.rows + 1) delivers.server (asked_by x request m)) (at + 4 * delay) (after_row there timed.row) rest
+      (answer_by (there.rows + 1) delivers.server (asked_by x request m)) (at + 4 * delay)
+      (after_row there timed.row) rest
 
 -- In each calm from the world of these rows on, of rows that do no harm, in which four delays are shorter than the call
 -- timeout: where a member of the group, once it leads in the calm, leads on in one term, and calls another member, the
--- call comes back, or the calm is over by then. The two list each other; no call from the one to the other waits when the
--- calm begins, and no answer from the other to the one; the first call has a transfer ID under which it may begin at the
--- other, and its answer may begin at the one. Both have memory for what they receive, and the queue of the other always
--- has a place for an answer. Which IDs the answers have behind the first is no premise.
+-- call comes back, or the calm is over by then. The two list each other; no call from the one to the other waits when
+-- the calm begins, and no answer from the other to the one; the first call has a transfer ID under which it may begin
+-- at the other, and its answer may begin at the one. Both have memory for what they receive, and the queue of the other
+-- always has a place for an answer. Which IDs the answers have behind the first is no premise.
 abbrev pub CallsComeBack : List ℕ → List Row → Type 0
 CallsComeBack ids rows = (group : List Party) (clocks : Party → ℕ) (pace : Pace) (start n m term : ℕ)
     (front rest : List Timed) (timed : Timed) (offer : Offer) (request : AppendRequest) → let w = world_of ids rows in
     let there = after_rows w (rows_in front) in let whole = front ++ timed ∷ rest in
-    ((p : ℕ) → In (Member p) group → In p ids) → AreRunning group w → In (Member n) group → In (Member m) group → n ≢ m →
+    ((p : ℕ) → In (Member p) group → In p ids) → AreRunning group w → In (Member n) group → In (Member m) group →
+    n ≢ m →
     4 * pace.delay < call_timeout → Lists n m w → Lists m n w →
     (calls : AreReady n m AppQ m w) → MayComeFirst n AppQ m calls.receiver (id_of calls.sender.ids AppQ m) →
     (answers : AreReady m n App n w) → MayComeFirst m App n answers.receiver (id_of calls.sender.ids AppQ m) →

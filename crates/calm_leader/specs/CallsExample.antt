@@ -15,8 +15,8 @@ use Rattle.cluster_calm.specs.CalmExample.{then_world, vote_rows}
 use Rattle.cluster_calm.specs.Comes.{AreReady, HasMemory, MayComeFirst, Throughout}
 use Rattle.cluster_spec.specs.Lawful.{DoNoHarm}
 
--- Member 2 sends its answer, and its NodeStatus, which is due: a frame each. They go out, and come to member 1 and to the
--- device; then both read their clocks.
+-- Member 2 sends its answer, and its NodeStatus, which is due: a frame each. They go out, and come to member 1 and to
+-- the device; then both read their clocks.
 abbrev pub answer_rows : List Timed
 answer_rows = record { at = 2037; row = Send 2 }
     ∷ record { at = 2037; row = Send 2 }

@@ -1,5 +1,6 @@
 -- What it is that a leader's entries come to a member and are committed, in a calm.
-use Rattle.std.specs.Prelude.{◌≡◌, ◌≢◌, ℕ, ◌+◌, ◌*◌, ◌<◌, ◌≤◌, ◌==◌, ◌||◌, Bool, true, List, ◌∷◌, ◌++◌, length, None, Some}
+use Rattle.std.specs.Prelude.{◌≡◌, ◌≢◌, ℕ, ◌+◌, ◌*◌, ◌<◌, ◌≤◌, ◌==◌, ◌||◌, Bool, true}
+use Rattle.std.specs.Prelude.{List, ◌∷◌, ◌++◌, length, None, Some}
 use Rattle.can_frame.specs.declared.step.What.TheVariants.{App, AppQ}
 use Rattle.can_frame.specs.Timing.{call_timeout}
 use Rattle.dsdl_codec.specs.declared.append_request.AppendRequest.{AppendRequest}
@@ -30,9 +31,9 @@ use Rattle.cluster_spec.specs.Members.MemberStatus.{Up}
 
 -- ---- a call is accepted
 
--- At each moment of every run of the Raft model: an append request that was made in the term in which a member leads now
--- is accepted by another member, whose term is no higher, if it begins no further on than up to where the leader knows
--- the logs to agree. When it was made is not asked, nor what the member's log has behind there.
+-- At each moment of every run of the Raft model: an append request that was made in the term in which a member leads
+-- now is accepted by another member, whose term is no higher, if it begins no further on than up to where the leader
+-- knows the logs to agree. When it was made is not asked, nor what the member's log has behind there.
 abbrev pub CallsInStepAreAcceptedInRuns : Type 0
 CallsInStepAreAcceptedInRuns = InEveryRun (λ world. (leader peer : ℕ) (request : Request) → peer ≢ leader →
     (world.server leader).memory.role ≡ Leader → (world.server peer).store.term ≤ (world.server leader).store.term →
@@ -43,7 +44,8 @@ CallsInStepAreAcceptedInRuns = InEveryRun (λ world. (leader peer : ℕ) (reques
 -- In this row a call is delivered to member m, whose bytes say this request. It is of the term in which member n leads
 -- now, and the term of m is no higher. It begins no further on than up to where n knows the log of m to agree with its
 -- own.
-pub record IsCalledInStep (n m : ℕ) (x : SentTransfer) (request : AppendRequest) (w : Cluster) (row : Row) : Type 0 where
+pub record IsCalledInStep (n m : ℕ) (x : SentTransfer) (request : AppendRequest) (w : Cluster)
+    (row : Row) : Type 0 where
   pub delivers : Delivers m x w row
   pub what : x.offer.what ≡ AppQ
   pub says : append_request_of x.offer.payload ≡ Some request
@@ -64,7 +66,8 @@ CallsInStepAreAccepted ids rows = (n m : ℕ) (x : SentTransfer) (request : Appe
 -- ---- entries come
 
 -- The leader n calls member m next no further on than behind the places that it knows m to have. From a call that m
--- accepts on it is so, as long as n leads; a leader that has just won begins behind its whole log, and knows of no place.
+-- accepts on it is so, as long as n leads; a leader that has just won begins behind its whole log, and knows of no
+-- place.
 abbrev pub AreInStep : (n m : ℕ) → Cluster → Type 0
 AreInStep n m w = (leader : AllocatorState) → (w.member n).status ≡ Up leader →
     leader.raft_server.memory.next m ≤ leader.raft_server.memory.matched m + 1
@@ -76,7 +79,8 @@ NoCallPends n m w = (leader : AllocatorState) → (w.member n).status ≡ Up lea
 
 -- The leader n can call member m in these rows, and m can answer. Each is on the other's list. When the rows begin, no
 -- frame of an earlier call waits, nor one of an earlier answer, and the first call has a transfer ID under which it may
--- begin at m, and its answer at n. Both have memory for what they receive, and the queue of m has a place for an answer.
+-- begin at m, and its answer at n. Both have memory for what they receive, and the queue of m has a place for an
+-- answer.
 pub record CanExchange (n m : ℕ) (w : Cluster) (whole : List Timed) : Type 0 where
   pub calls_it : Lists n m w
   pub hears_it : Lists m n w
@@ -102,9 +106,9 @@ pub record HasComeBy (n m count last start : ℕ) (w : Cluster) (whole : List Ti
   pub known : count ≤ leader.raft_server.memory.matched m
   pub has : Same count leader.raft_server.store.log peer.raft_server.store.log
 
--- So long it takes at most until a member has so many places more. A leader reads its clock within a period. Then a call
--- may be under way, which carries none of them; behind it each call carries one. A call and its answer take two delays
--- each.
+-- So long it takes at most until a member has so many places more. A leader reads its clock within a period. Then a
+-- call may be under way, which carries none of them; behind it each call carries one. A call and its answer take two
+-- delays each.
 abbrev pub come_within : Pace → ℕ → ℕ
 come_within pace more = pace.period + 4 * pace.delay * (more + 1)
 
@@ -118,7 +122,8 @@ come_within pace more = pace.period + 4 * pace.delay * (more + 1)
 abbrev pub EntriesComeInTime : List ℕ → List Row → Type 0
 EntriesComeInTime ids rows = (group : List Party) (clocks : Party → ℕ) (pace : Pace) (start n m term more : ℕ)
     (front rest : List Timed) (leader : AllocatorState) → let w = world_of ids rows in let whole = front ++ rest in
-    ((p : ℕ) → In (Member p) group → In p ids) → AreRunning group w → In (Member n) group → In (Member m) group → m ≢ n →
+    ((p : ℕ) → In (Member p) group → In p ids) → AreRunning group w → In (Member n) group → In (Member m) group →
+    m ≢ n →
     4 * pace.delay < call_timeout → AreCalm group clocks pace (no_traffic start) w whole → DoNoHarm w (rows_in whole) →
     ((early late : List Timed) → whole ≡ early ++ late → IsLed group n term (after_rows w (rows_in early))) →
     CallsFit n w whole → CanExchange n m w whole → AreInStep n m w → NoCallPends n m w →

@@ -1,4 +1,5 @@
--- What the laws of entries stand on, together: each field is what a law says of these rows. It is a means of their proofs.
+-- What the laws of entries stand on, together: each field is what a law says of these rows. It is a means of their
+-- proofs.
 use Rattle.std.specs.Prelude.{◌≡◌, ◌≢◌, ℕ, ◌≤◌, true, List, ◌++◌, Some}
 use Rattle.raft_model.specs.Lists.{In}
 use Rattle.raft_model.specs.Log.{Same}

@@ -28,8 +28,8 @@ pub record FollowsWithin (m term : ℕ) (w : Cluster) : Type 0 where
   pub follows : server.raft_server.memory.role ≡ Follower
   pub its_term : server.raft_server.store.term ≤ term
 
--- Member n leads in this term, and each other member of the group follows. It is not asked that the others heard it, nor
--- that members outside the group do not run: no frame comes from them in a calm.
+-- Member n leads in this term, and each other member of the group follows. It is not asked that the others heard it,
+-- nor that members outside the group do not run: no frame comes from them in a calm.
 pub record IsLed (group : List Party) (n term : ℕ) (w : Cluster) : Type 0 where
   pub leader : LeadsIn n term w
   pub others : (m : ℕ) → In (Member m) group → m ≢ n → FollowsWithin m term w

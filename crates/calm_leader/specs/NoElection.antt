@@ -20,9 +20,9 @@ use Rattle.cluster_spec.specs.Members.MemberStatus.{Up}
 -- ---- how long
 
 -- In a calm, so long at most behind any row a call of the leader comes to each other member. A call that is pending is
--- given up within the call timeout; the leader reads its clock within a period, and calls; and the call comes within two
--- delays. Mostly the wait is much shorter: a heartbeat is due after 400 ms, and a call is pending only until its answer
--- comes.
+-- given up within the call timeout; the leader reads its clock within a period, and calls; and the call comes within
+-- two delays. Mostly the wait is much shorter: a heartbeat is due after 400 ms, and a call is pending only until its
+-- answer comes.
 abbrev pub heard_within : Pace → ℕ
 heard_within pace = call_timeout + pace.period + 2 * pace.delay
 
@@ -39,9 +39,9 @@ ClocksGoOn group clocks start w = (p : ℕ) → In (Member p) group → (server 
     (w.member p).status ≡ Up server → server.now ≤ start + clocks (Member p)
 
 -- The leader n can call member m, and m will hear it. Each is on the other's list. No frame of an earlier call waits in
--- the leader's queue, and the session that m has for such calls, if any, does not refuse the ID of the first one. In each
--- of the rows m has memory for what comes. The least wait of m is not over when its clock reads `last`, by when it has
--- heard the first call. It is not asked that m has heard the leader before, or knows its term.
+-- the leader's queue, and the session that m has for such calls, if any, does not refuse the ID of the first one. In
+-- each of the rows m has memory for what comes. The least wait of m is not over when its clock reads `last`, by when it
+-- has heard the first call. It is not asked that m has heard the leader before, or knows its term.
 pub record WillHear (n m last : ℕ) (w : Cluster) (whole : List Timed) : Type 0 where
   pub calls : Lists n m w
   pub hears : Lists m n w
@@ -77,9 +77,9 @@ pub record NoElection (group : List Party) (clocks : Party → ℕ) (pace : Pace
       HasHeard m (greatest_wait pace) (end_of start front + clocks (Member m)) (after_rows w (rows_in front))
 
 -- The law: in each calm from the world of these rows on, at a pace at which calls come before the least wait is over. A
--- member of the group leads when the calm begins, and the others follow in no higher term and will hear it. No clock has
--- gone back, the rows do no harm, and the leader's calls find room in its queue. Then no election comes. How long the
--- calm lasts is not limited, nor what devices ask meanwhile.
+-- member of the group leads when the calm begins, and the others follow in no higher term and will hear it. No clock
+-- has gone back, the rows do no harm, and the leader's calls find room in its queue. Then no election comes. How long
+-- the calm lasts is not limited, nor what devices ask meanwhile.
 abbrev pub NoElectionComes : List ℕ → List Row → Type 0
 NoElectionComes ids rows = (group : List Party) (clocks : Party → ℕ) (pace : Pace) (start n term : ℕ)
     (whole : List Timed) → let w = world_of ids rows in ((p : ℕ) → In (Member p) group → In p ids) →

@@ -46,8 +46,8 @@ use transfer_rx::laws::delivers_what_comes_whole;
 
 /// A call is accepted by a member that is in step with the leader: one that begins no further on than up to where the
 /// leader knows the member's log to agree with its own, and whose term is that in which the leader leads now, where the
-/// member's term is no higher. So it is at each moment of every run of the Raft model (`runs`), and where a row that does
-/// no harm delivers the call, behind all rows that do none (`rows`).
+/// member's term is no higher. So it is at each moment of every run of the Raft model (`runs`), and where a row that
+/// does no harm delivers the call, behind all rows that do none (`rows`).
 pub fn calls_to_who_is_in_step_are_accepted()
     ensures runs { CallsInStepAreAcceptedInRuns }
     ensures rows { (ids : List ℕ) (rows : List Row) → AreMembers ids → DoNoHarm (cluster ids) rows →
@@ -63,10 +63,11 @@ pub fn calls_to_who_is_in_step_are_accepted()
     what_is_said_of_messages();
 }
 
-/// Who leads leads on, and who follows follows on. In a calm as above, a member of the group leads in some term when the
-/// calm begins, and each other member of the group follows in no higher term. As long as the rows do no harm, and no
-/// other member reads its clock once its least wait for an election is over, so it is after each row. So no term above
-/// the leader's comes up among them. Members that are not of the group may have higher terms: no frame of theirs comes.
+/// Who leads leads on, and who follows follows on. In a calm as above, a member of the group leads in some term when
+/// the calm begins, and each other member of the group follows in no higher term. As long as the rows do no harm, and
+/// no other member reads its clock once its least wait for an election is over, so it is after each row. So no term
+/// above the leader's comes up among them. Members that are not of the group may have higher terms: no frame of theirs
+/// comes.
 pub fn who_leads_leads_on()
     ensures { (ids : List ℕ) (rows : List Row) → AreMembers ids → DoNoHarm (cluster ids) rows →
         LeadersLeadOn ids rows }
@@ -86,13 +87,13 @@ pub fn who_leads_leads_on()
     what_is_said_of_messages();
 }
 
-/// In a calm no election comes where a leader is known. When the calm begins, a member of the group leads, and the others
-/// follow in no higher term. Then it leads on in this term, however long the calm lasts, and each other member hears it
-/// before its least wait for an election is over, so it follows on. This asks that a call comes in time: the call
-/// timeout, two periods and two delays are less than the least wait. It asks that no clock has gone back, that each
-/// other member will hear the first call (the two list each other, no frame of an earlier call waits, the receiver's
-/// session does not refuse the call's ID, it has memory all the time, and its wait is not over by then), and that the
-/// calls that the leader offers find room in its queue.
+/// In a calm no election comes where a leader is known. When the calm begins, a member of the group leads, and the
+/// others follow in no higher term. Then it leads on in this term, however long the calm lasts, and each other member
+/// hears it before its least wait for an election is over, so it follows on. This asks that a call comes in time: the
+/// call timeout, two periods and two delays are less than the least wait. It asks that no clock has gone back, that
+/// each other member will hear the first call (the two list each other, no frame of an earlier call waits, the
+/// receiver's session does not refuse the call's ID, it has memory all the time, and its wait is not over by then), and
+/// that the calls that the leader offers find room in its queue.
 pub fn no_election_comes_in_calm()
     ensures { (ids : List ℕ) (rows : List Row) → AreMembers ids → DoNoHarm (cluster ids) rows →
         NoElectionComes ids rows }
@@ -129,16 +130,16 @@ pub fn no_election_can_be()
     ensures calls { OffersCallBy sender receiver 2414 led_world heartbeat_rows }
 {}
 
-/// Who is called answers. Where a member is delivered a call of a node on its list, it offers an answer in that step: to
-/// the caller, under the call's transfer ID, and with the verdict of the Raft model on what it had before. Whether its
-/// queue has room for the answer is not said here.
+/// Who is called answers. Where a member is delivered a call of a node on its list, it offers an answer in that step:
+/// to the caller, under the call's transfer ID, and with the verdict of the Raft model on what it had before. Whether
+/// its queue has room for the answer is not said here.
 pub fn calls_are_answered()
     ensures { CallsAreAnswered }
 {}
 
-/// The bytes of an answer read as what it says in the Raft model: its term, and whether it says success. So it is behind
-/// all rows that do no harm, in a row that does none, where the answering member runs and no call of its disk is set to
-/// fail.
+/// The bytes of an answer read as what it says in the Raft model: its term, and whether it says success. So it is
+/// behind all rows that do no harm, in a row that does none, where the answering member runs and no call of its disk is
+/// set to fail.
 pub fn answers_read_as_said()
     ensures { (ids : List ℕ) (rows : List Row) → AreMembers ids → DoNoHarm (cluster ids) rows →
         AnswersReadAsSaid ids rows }
@@ -149,8 +150,8 @@ pub fn answers_read_as_said()
     what_is_said_of_messages();
 }
 
-/// An answer that found room comes to the caller within two delays, in a calm as above, or the calm is over by then. This
-/// asks the same of the responses from the one to the other as [`each_transfer_comes_whole`] does.
+/// An answer that found room comes to the caller within two delays, in a calm as above, or the calm is over by then.
+/// This asks the same of the responses from the one to the other as [`each_transfer_comes_whole`] does.
 pub fn answers_come_in_calm()
     ensures { (ids : List ℕ) (rows : List Row) → AreMembers ids → DoNoHarm (cluster ids) rows →
         AnswersComeInCalm ids rows }
@@ -158,31 +159,31 @@ pub fn answers_come_in_calm()
     each_transfer_comes_whole();
 }
 
-/// A caller takes the answer to its call. Where the answer comes while the caller leads in the term of the call, and less
-/// than the call timeout after it called: if the answer is of that term, the caller knows by it how far the member's log
-/// agrees with its own, or calls it with an earlier place next, and the call is not pending any more. If the answer is of
-/// a higher term, the caller follows.
+/// A caller takes the answer to its call. Where the answer comes while the caller leads in the term of the call, and
+/// less than the call timeout after it called: if the answer is of that term, the caller knows by it how far the
+/// member's log agrees with its own, or calls it with an earlier place next, and the call is not pending any more. If
+/// the answer is of a higher term, the caller follows.
 pub fn answers_are_taken()
     ensures { AnswersAreTaken }
 {}
 
 /// A call asks for the next place. Where a step offers an append request for which its queue has room, the member leads
-/// when the step is over: the call says the request for the place before the peer's next one, with the entry at that one
-/// where the log has one, and the member waits for the answer to this very request, since this moment and under this
-/// transfer ID.
+/// when the step is over: the call says the request for the place before the peer's next one, with the entry at that
+/// one where the log has one, and the member waits for the answer to this very request, since this moment and under
+/// this transfer ID.
 pub fn calls_ask_for_the_next_place()
     ensures { CallsAskNext }
 {
     transfers_of_a_step_are_apart();
 }
 
-/// A leader's call comes back, in a calm as above of rows that do no harm, in which four delays are shorter than the call
-/// timeout. A member may not lead when the calm begins, but once it leads, it leads on in one term. Another member that it
-/// calls then hears the call within two delays and answers, and the leader is delivered that answer within four delays and
-/// takes it, or the calm is over by then. So no call is given up, and no late answer is taken for another one. This asks
-/// of the two what [`each_transfer_comes_whole`] asks, but nothing of the transfer IDs of the answers behind the first;
-/// that each lists the other; and that the queue of the member that is called has a place left for its answer all the
-/// time.
+/// A leader's call comes back, in a calm as above of rows that do no harm, in which four delays are shorter than the
+/// call timeout. A member may not lead when the calm begins, but once it leads, it leads on in one term. Another member
+/// that it calls then hears the call within two delays and answers, and the leader is delivered that answer within four
+/// delays and takes it, or the calm is over by then. So no call is given up, and no late answer is taken for another
+/// one. This asks of the two what [`each_transfer_comes_whole`] asks, but nothing of the transfer IDs of the answers
+/// behind the first; that each lists the other; and that the queue of the member that is called has a place left for
+/// its answer all the time.
 pub fn calls_come_back()
     ensures { (ids : List ℕ) (rows : List Row) → AreMembers ids → DoNoHarm (cluster ids) rows →
         CallsComeBack ids rows }
@@ -212,8 +213,8 @@ pub fn calls_can_come_back()
     calm_can_be();
 }
 
-/// The premises of [`entries_come_in_time`] can be met: behind the rows of [`calls_can_come_back`], from where on member 1
-/// leads and the two read their clocks, for longer than a period and four delays.
+/// The premises of [`entries_come_in_time`] can be met: behind the rows of [`calls_can_come_back`], from where on
+/// member 1 leads and the two read their clocks, for longer than a period and four delays.
 pub fn entries_may_come()
     ensures { EntriesMayCome }
 {
@@ -224,9 +225,9 @@ pub fn entries_may_come()
 /// A leader's entries come to a member that is in step with it, in time. In a calm as above, of rows that do no harm,
 /// in which a member of the group leads in one term and the others follow, and four delays are shorter than the call
 /// timeout: the leader can exchange calls and answers with another member, which is in step with it, and to which no
-/// call pends, when the calm begins. From any moment on, each place that the leader's log has by then is in the member's
-/// log too, and the leader knows so, within a period and four delays, and four delays more for each place that it did not
-/// know the member to have; or the calm is over by then.
+/// call pends, when the calm begins. From any moment on, each place that the leader's log has by then is in the
+/// member's log too, and the leader knows so, within a period and four delays, and four delays more for each place that
+/// it did not know the member to have; or the calm is over by then.
 pub fn entries_come_in_time()
     ensures { (ids : List ℕ) (rows : List Row) → AreMembers ids → DoNoHarm (cluster ids) rows →
         EntriesComeInTime ids rows }

@@ -25,8 +25,8 @@ use Rattle.cluster_spec.specs.Members.MemberStatus.{Up}
 
 -- ---- who sends Allocations
 
--- Member m has nothing to tell devices: no frame of an Allocation waits in its queue, and at this moment of its clock no
--- request counts any more that it accepted. So it is mostly: who does not lead accepts none for longer.
+-- Member m has nothing to tell devices: no frame of an Allocation waits in its queue, and at this moment of its clock
+-- no request counts any more that it accepted. So it is mostly: who does not lead accepts none for longer.
 pub record HasNothingToSay (m now : ℕ) (w : Cluster) : Type 0 where
   pub server : AllocatorState
   pub runs : (w.member m).status ≡ Up server
@@ -54,8 +54,8 @@ pub record HearsWhole (n ahead : ℕ) (uid : List ℕ) (preferred : ℕ) (w : Cl
   pub whole : answer asked.comes.server.accepted message (max asked.comes.server.now asked.comes.ms) true
       ≡ Whole uid preferred
 
--- Device a has this unique ID and no node ID yet. No follow-up waits for its moment, and it does not ask anew before its
--- clock reads `until`, or later.
+-- Device a has this unique ID and no node ID yet. No follow-up waits for its moment, and it does not ask anew before
+-- its clock reads `until`, or later.
 pub record WaitsToBeTold (a : ℕ) (uid : List ℕ) (until : ℕ) (w : Cluster) : Type 0 where
   pub device : Device
   pub there : w.allocatee a ≡ Some device
@@ -64,10 +64,11 @@ pub record WaitsToBeTold (a : ℕ) (uid : List ℕ) (until : ℕ) (w : Cluster) 
   pub asked_all : device.asking.follow_up ≡ None
   pub quiet : until < device.asking.request.since + device.asking.request.length
 
--- Member n hears the whole unique ID in one of these rows, by this moment. Before the row it has settled with this log, and
--- device a waits to be told, so long at least that an answer may come within two delays: `wait` more than the moment.
-pub record HearsWholeBy (n a : ℕ) (log : List Entry) (ahead wait : ℕ) (uid : List ℕ) (preferred start last : ℕ) (w : Cluster)
-    (whole : List Timed) : Type 0 where
+-- Member n hears the whole unique ID in one of these rows, by this moment. Before the row it has settled with this log,
+-- and device a waits to be told, so long at least that an answer may come within two delays: `wait` more than the
+-- moment.
+pub record HearsWholeBy (n a : ℕ) (log : List Entry) (ahead wait : ℕ) (uid : List ℕ) (preferred start last : ℕ)
+    (w : Cluster) (whole : List Timed) : Type 0 where
   pub front : List Timed
   pub timed : Timed
   pub rest : List Timed
@@ -77,17 +78,17 @@ pub record HearsWholeBy (n a : ℕ) (log : List Entry) (ahead wait : ℕ) (uid :
   pub hears : HearsWhole n ahead uid preferred (after_rows w (rows_in front)) timed
   pub waits : WaitsToBeTold a uid (timed.at + wait) (after_rows w (rows_in front))
 
--- In milliseconds, so long it takes at most to ask for a node ID and to be heard out. The device's own timers take 1,000
--- at first, and 400 before each of two follow-ups; each time the device reads its clock within a period. Five frames,
--- three requests and two answers, come within two delays each.
+-- In milliseconds, so long it takes at most to ask for a node ID and to be heard out. The device's own timers take
+-- 1,000 at first, and 400 before each of two follow-ups; each time the device reads its clock within a period. Five
+-- frames, three requests and two answers, come within two delays each.
 abbrev pub time_to_be_heard : Pace → ℕ
 time_to_be_heard pace = 1800 + 3 * pace.period + 10 * pace.delay
 
 -- ---- where it is
 
--- When the calm begins, device a of the group has just come, and it is the only one. Its unique ID has 16 bytes. Member n
--- has settled with this log, no frame of an Allocation waits in its queue, and the other members have nothing to tell. It
--- is not asked that the log knows the unique ID, nor that there is a place for it.
+-- When the calm begins, device a of the group has just come, and it is the only one. Its unique ID has 16 bytes. Member
+-- n has settled with this log, no frame of an Allocation waits in its queue, and the other members have nothing to
+-- tell. It is not asked that the log knows the unique ID, nor that there is a place for it.
 pub record HasJustCome (group : List Party) (clocks : Party → ℕ) (start n a : ℕ) (uid : List ℕ) (preferred : ℕ)
     (log : List Entry) (w : Cluster) : Type 0 where
   pub of_group : In (OfDevice a) group
@@ -105,8 +106,8 @@ pub record HaveRoom (n a : ℕ) (w : Cluster) (whole : List Timed) : Type 0 wher
   pub memory : Throughout (DeviceHasMemory a) w whole
   pub room : Throughout (HasRoomToTell n) w whole
 
--- In each calm from the world of these rows on, at a pace of which a period and four delays take 100 ms at most: a device
--- that has just come is heard out by a leader that has settled, in this time, or the calm is over by then.
+-- In each calm from the world of these rows on, at a pace of which a period and four delays take 100 ms at most: a
+-- device that has just come is heard out by a leader that has settled, in this time, or the calm is over by then.
 abbrev pub DevicesAreHeardOut : List ℕ → List Row → Type 0
 DevicesAreHeardOut ids rows = (group : List Party) (clocks : Party → ℕ) (pace : Pace) (start n a term : ℕ)
     (uid : List ℕ) (preferred : ℕ) (log : List Entry) (whole : List Timed) → let w = world_of ids rows in
@@ -118,8 +119,8 @@ DevicesAreHeardOut ids rows = (group : List Party) (clocks : Party → ℕ) (pac
 
 -- ---- the device is told again
 
--- Behind some front of these rows, which ends by this moment, device a holds this node ID, and member n has settled with
--- this log.
+-- Behind some front of these rows, which ends by this moment, device a holds this node ID, and member n has settled
+-- with this log.
 pub record HoldsBy (n a : ℕ) (log : List Entry) (ahead : ℕ) (uid : List ℕ) (node start last : ℕ) (w : Cluster)
     (whole : List Timed) : Type 0 where
   pub front : List Timed
@@ -133,8 +134,8 @@ pub record HoldsBy (n a : ℕ) (log : List Entry) (ahead : ℕ) (uid : List ℕ)
 abbrev pub time_to_be_told : Pace → ℕ
 time_to_be_told pace = time_to_be_heard pace + 2 * pace.delay
 
--- In each such calm: where the leader's log has the device's unique ID, the device holds the node ID that it has there, in
--- this time, or the calm is over by then. Then the leader has settled with the same log.
+-- In each such calm: where the leader's log has the device's unique ID, the device holds the node ID that it has there,
+-- in this time, or the calm is over by then. Then the leader has settled with the same log.
 abbrev pub KnownDevicesAreTold : List ℕ → List Row → Type 0
 KnownDevicesAreTold ids rows = (group : List Party) (clocks : Party → ℕ) (pace : Pace) (start n a term : ℕ)
     (uid : List ℕ) (preferred node : ℕ) (log : List Entry) (whole : List Timed) → let w = world_of ids rows in

@@ -1,5 +1,5 @@
--- What it is that a leader's log stays as it is in a calm, whether the whole of it is committed or not, until a device's
--- request makes it grow.
+-- What it is that a leader's log stays as it is in a calm, whether the whole of it is committed or not, until a
+-- device's request makes it grow.
 use Rattle.std.specs.Prelude.{◌≡◌, ◌⊎◌, ℕ, ◌+◌, ◌<◌, ◌≤◌, max, false, List, [], ◌∷◌, ◌++◌, length}
 use Rattle.alloc_exchange.specs.declared.heard.Heard.TheVariants.{Whole}
 use Rattle.alloc_exchange.specs.Exchange.{Accepted, after, answer, last_moment}
@@ -24,8 +24,8 @@ use Rattle.cluster_spec.specs.Cluster.{Cluster, after_row, after_rows, world_of}
 use Rattle.cluster_spec.specs.Members.MemberStatus.{Up}
 
 -- Member n leads, with this log, and has accepted these requests of the exchange since the last clearing. It adds no
--- blank: it has committed its whole log, or the last entry is of its own term. All else is as of one that has settled: no
--- call of its disk is set to fail, its clock has not fallen, no node is online that it does not know, and it owes no
+-- blank: it has committed its whole log, or the last entry is of its own term. All else is as of one that has settled:
+-- no call of its disk is set to fail, its clock has not fallen, no node is online that it does not know, and it owes no
 -- Discovery. How much it has committed and told is not asked.
 pub record LeadsWith (n : ℕ) (log : List Entry) (accepted : List Accepted) (now : ℕ) (w : Cluster) : Type 0 where
   pub server : AllocatorState
@@ -44,19 +44,21 @@ pub record LeadsWith (n : ℕ) (log : List Entry) (accepted : List Accepted) (no
 
 -- who has settled leads with its log
 abbrev pub SettledLeads : Type 0
-SettledLeads = (n now : ℕ) (log : List Entry) (accepted : List Accepted) (w : Cluster) → IsSettled n log accepted now w →
+SettledLeads = (n now : ℕ) (log : List Entry) (accepted : List Accepted) (w : Cluster) →
+    IsSettled n log accepted now w →
     LeadsWith n log accepted now w
 
--- and who leads with it has settled, once it has committed and told the whole of it
+-- Who leads with a log has settled with it, once it has committed and told the whole of it.
 abbrev pub LeaderSettles : Type 0
-LeaderSettles = (n now : ℕ) (log : List Entry) (accepted : List Accepted) (w : Cluster) (h : LeadsWith n log accepted now w) →
+LeaderSettles = (n now : ℕ) (log : List Entry) (accepted : List Accepted) (w : Cluster)
+    (h : LeadsWith n log accepted now w) →
     h.server.raft_server.store.commit ≡ length log → h.server.raft_server.memory.told ≡ length log →
     IsSettled n log accepted now w
 
 -- ---- what a row leaves
 
--- The request that comes makes a unique ID whole that the log lacks, and that may be recorded with a node ID. The member
--- leads with a log that has grown by the two.
+-- The request that comes makes a unique ID whole that the log lacks, and that may be recorded with a node ID. The
+-- member leads with a log that has grown by the two.
 pub record Grows (n : ℕ) (log : List Entry) (now : ℕ) (message : Allocation) (w : Cluster) (row : Row)
     (asked : IsAsked n message w row) : Type 0 where
   pub uid : List ℕ
@@ -66,12 +68,14 @@ pub record Grows (n : ℕ) (log : List Entry) (now : ℕ) (message : Allocation)
       (may_follow asked.comes.server) ≡ Whole uid preferred
   pub may : MayRecord asked.comes.server (max asked.comes.server.now asked.comes.ms) preferred uid node
   pub leads : LeadsWith n (log ++ proposal asked.comes.server.raft_server.store.term uid node ∷ [])
-      (after asked.comes.server.accepted message (max asked.comes.server.now asked.comes.ms) (may_follow asked.comes.server))
+      (after asked.comes.server.accepted message (max asked.comes.server.now asked.comes.ms)
+      (may_follow asked.comes.server))
       now (after_row w row)
 
--- Where no request comes in this row, the member leads with its log as before. Where one comes, the log grows by what it
--- makes whole; or the request is taken as the exchange takes it.
-pub record KeepsLog (n : ℕ) (log : List Entry) (accepted : List Accepted) (now : ℕ) (w : Cluster) (row : Row) : Type 0 where
+-- Where no request comes in this row, the member leads with its log as before. Where one comes, the log grows by what
+-- it makes whole; or the request is taken as the exchange takes it.
+pub record KeepsLog (n : ℕ) (log : List Entry) (accepted : List Accepted) (now : ℕ) (w : Cluster)
+    (row : Row) : Type 0 where
   pub unasked : IsNotAsked n w row → LeadsWith n log accepted now (after_row w row)
   pub asked : (message : Allocation) (is : IsAsked n message w row) → Grows n log now message w row is
       ⊎ LeadsWith n log (after accepted message (max is.comes.server.now is.comes.ms) (may_follow is.comes.server)) now
@@ -104,7 +108,8 @@ LogStaysUncommitted ids rows = (group : List Party) (clocks : Party → ℕ) (pa
     LeadsWith n log [] (end_of start first + clocks (Member n)) there → Throughout (IsUncommitted n) there front →
     LeadsWith n log [] (end_of (end_of start first) front + clocks (Member n)) (after_rows there (rows_in front))
 
--- and where nobody asks, it leads with its log, and has accepted no more requests, whatever it has committed
+-- In such a calm, where nobody asks: member n leads with its log, and has accepted no more requests, whatever it has
+-- committed.
 abbrev pub LogStaysUnasked : List ℕ → List Row → Type 0
 LogStaysUnasked ids rows = (group : List Party) (clocks : Party → ℕ) (pace : Pace) (start n term : ℕ)
     (log : List Entry) (accepted : List Accepted) (first front rest : List Timed) →

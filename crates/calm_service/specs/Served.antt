@@ -57,8 +57,8 @@ pub record LeadsWithLog (n term : ℕ) (log : List Entry) (w : Cluster) : Type 0
   pub its_term : server.raft_server.store.term ≡ term
   pub its_log : server.raft_server.store.log ≡ log
 
--- In one of these rows, by this moment, the log of member n grows by the unique ID and a node ID that was left. Before the
--- row it has settled with this log. Whether the pair is committed is not asked, nor whom it is told.
+-- In one of these rows, by this moment, the log of member n grows by the unique ID and a node ID that was left. Before
+-- the row it has settled with this log. Whether the pair is committed is not asked, nor whom it is told.
 pub record IsRecordedBy (ids : List ℕ) (n term : ℕ) (log : List Entry) (ahead : ℕ) (uid : List ℕ) (start last : ℕ)
     (w : Cluster) (whole : List Timed) : Type 0 where
   pub front : List Timed
@@ -69,7 +69,8 @@ pub record IsRecordedBy (ids : List ℕ) (n term : ℕ) (log : List Entry) (ahea
   pub settled : HasSettled n log (end_of start front + ahead) (after_rows w (rows_in front))
   pub node : ℕ
   pub left : IsLeft ids log node
-  pub recorded : LeadsWithLog n term (log ++ proposal term uid node ∷ []) (after_row (after_rows w (rows_in front)) timed.row)
+  pub recorded : LeadsWithLog n term (log ++ proposal term uid node ∷ [])
+      (after_row (after_rows w (rows_in front)) timed.row)
 
 -- In each calm from the world of these rows on, in which a device that has just come is heard out by a leader that has
 -- settled, as `DevicesAreHeardOut` of `specs/Dialog` says: where the leader knows all members, and has a place for the
@@ -89,9 +90,9 @@ abbrev pub KnowsToHave : (n m count : ℕ) → Cluster → Type 0
 KnowsToHave n m count w = (leader : AllocatorState) → (w.member n).status ≡ Up leader →
     count ≤ leader.raft_server.memory.matched m
 
--- In each such calm, in which the leader's calls find room in its queue: between any two moments its log grows behind its
--- end alone; and of a member with which it is in step when the calm begins, the places that it knows the member to have
--- do not become fewer.
+-- In each such calm, in which the leader's calls find room in its queue: between any two moments its log grows behind
+-- its end alone; and of a member with which it is in step when the calm begins, the places that it knows the member to
+-- have do not become fewer.
 abbrev pub LeadersLoseNothing : List ℕ → List Row → Type 0
 LeadersLoseNothing ids rows = (group : List Party) (clocks : Party → ℕ) (pace : Pace) (start n m term : ℕ)
     (early middle late : List Timed) (before after : AllocatorState) → let w = world_of ids rows in
@@ -102,8 +103,8 @@ LeadersLoseNothing ids rows = (group : List Party) (clocks : Party → ℕ) (pac
     ((more : List Entry) × (after.raft_server.store.log ≡ before.raft_server.store.log ++ more))
     × (before.raft_server.memory.matched m ≤ after.raft_server.memory.matched m)
 
--- Some others of the group are with n a quorum of the cluster's members. With each of them n can exchange calls and answers
--- and is in step, no call to it pends, and n knows it to have so many places of its log, when the calm begins.
+-- Some others of the group are with n a quorum of the cluster's members. With each of them n can exchange calls and
+-- answers and is in step, no call to it pends, and n knows it to have so many places of its log, when the calm begins.
 pub record HasFollowers (ids : List ℕ) (group : List Party) (n count : ℕ) (others : List ℕ) (w : Cluster)
     (whole : List Timed) : Type 0 where
   pub apart : (m : ℕ) → In m others → In (Member m) group × (m ≢ n)
@@ -113,9 +114,10 @@ pub record HasFollowers (ids : List ℕ) (group : List Party) (n count : ℕ) (o
   pub none_pends : (m : ℕ) → In m others → NoCallPends n m w
   pub have : (m : ℕ) → In m others → KnowsToHave n m count w
 
--- Behind some front of these rows, which ends by this moment, member n leads in this term; its log begins with this one,
--- and it has committed at least all of it. Whom the pair in it is told is not asked.
-pub record HasCommittedBy (n term : ℕ) (log : List Entry) (start last : ℕ) (w : Cluster) (whole : List Timed) : Type 0 where
+-- Behind some front of these rows, which ends by this moment, member n leads in this term; its log begins with this
+-- one, and it has committed at least all of it. Whom the pair in it is told is not asked.
+pub record HasCommittedBy (n term : ℕ) (log : List Entry) (start last : ℕ) (w : Cluster)
+    (whole : List Timed) : Type 0 where
   pub front : List Timed
   pub rest : List Timed
   pub split : whole ≡ front ++ rest
@@ -125,8 +127,8 @@ pub record HasCommittedBy (n term : ℕ) (log : List Entry) (start last : ℕ) (
   pub committed : length log ≤ leads.server.raft_server.store.commit
 
 -- A row records a pair of the unique ID with a node ID that was left, and by this moment it is committed.
-pub record IsCommittedPairBy (ids : List ℕ) (n term : ℕ) (log : List Entry) (uid : List ℕ) (start last : ℕ) (w : Cluster)
-    (whole : List Timed) : Type 0 where
+pub record IsCommittedPairBy (ids : List ℕ) (n term : ℕ) (log : List Entry) (uid : List ℕ) (start last : ℕ)
+    (w : Cluster) (whole : List Timed) : Type 0 where
   pub node : ℕ
   pub left : IsLeft ids log node
   pub committed : HasCommittedBy n term (log ++ proposal term uid node ∷ []) start last w whole
@@ -135,12 +137,13 @@ pub record IsCommittedPairBy (ids : List ℕ) (n term : ℕ) (log : List Entry) 
 abbrev pub time_to_be_committed : Pace → ℕ
 time_to_be_committed pace = time_to_be_heard pace + come_within pace 1
 
--- In each calm as for `NewDevicesAreRecorded`, in which the leader's calls find room in its queue, and in which followers
--- that have the leader's whole log when the calm begins are with it a quorum: the leader records the device's unique ID with
--- a node ID that was left, and the pair is committed in this time, or the calm is over by then.
+-- In each calm as for `NewDevicesAreRecorded`, in which the leader's calls find room in its queue, and in which
+-- followers that have the leader's whole log when the calm begins are with it a quorum: the leader records the device's
+-- unique ID with a node ID that was left, and the pair is committed in this time, or the calm is over by then.
 abbrev pub NewPairsAreCommitted : List ℕ → List Row → Type 0
 NewPairsAreCommitted ids rows = (group : List Party) (clocks : Party → ℕ) (pace : Pace) (start n a term : ℕ)
-    (uid : List ℕ) (preferred first : ℕ) (next : List ℕ) (log : List Entry) (whole : List Timed) → let w = world_of ids rows in
+    (uid : List ℕ) (preferred first : ℕ) (next : List ℕ) (log : List Entry) (whole : List Timed) →
+    let w = world_of ids rows in
     IsCalmUnder ids rows group clocks pace start n term whole → HasJustCome group clocks start n a uid preferred log w →
     HasPlaceFor ids log uid → ListsAll n ids w → HaveRoom n a w whole → CallsFit n w whole →
     HasFollowers ids group n (length log) (first ∷ next) w whole → pace.period + 4 * pace.delay ≤ 100 →
@@ -149,7 +152,8 @@ NewPairsAreCommitted ids rows = (group : List Party) (clocks : Party → ℕ) (p
 
 -- ---- the pair is told
 
--- In this row member n offers an Allocation with this node ID and this unique ID, whether or not its queue has room for it.
+-- In this row member n offers an Allocation with this node ID and this unique ID, whether or not its queue has room for
+-- it.
 pub record Tells (n node : ℕ) (uid : List ℕ) (w : Cluster) (row : Row) : Type 0 where
   pub server : AllocatorState
   pub runs : (w.member n).status ≡ Up server
@@ -161,8 +165,8 @@ pub record Tells (n node : ℕ) (uid : List ℕ) (w : Cluster) (row : Row) : Typ
   pub to : offer.to ≡ 0
   pub payload : offer.payload ≡ allocation_payload node uid
 
--- In one of these rows, by this moment, member n tells a pair of the unique ID with a node ID that was left. Behind the row
--- it leads in this term, its log begins with the former one and the pair, and it has committed both.
+-- In one of these rows, by this moment, member n tells a pair of the unique ID with a node ID that was left. Behind the
+-- row it leads in this term, its log begins with the former one and the pair, and it has committed both.
 pub record IsToldBy (ids : List ℕ) (n term : ℕ) (log : List Entry) (uid : List ℕ) (start last : ℕ) (w : Cluster)
     (whole : List Timed) : Type 0 where
   pub front : List Timed
@@ -174,14 +178,16 @@ pub record IsToldBy (ids : List ℕ) (n term : ℕ) (log : List Entry) (uid : Li
   pub left : IsLeft ids log node
   pub tells : Tells n node uid (after_rows w (rows_in front)) timed.row
   pub more : List Entry
-  pub leads : LeadsWithLog n term (log ++ proposal term uid node ∷ more) (after_row (after_rows w (rows_in front)) timed.row)
+  pub leads : LeadsWithLog n term (log ++ proposal term uid node ∷ more)
+      (after_row (after_rows w (rows_in front)) timed.row)
   pub committed : length log < leads.server.raft_server.store.commit
 
--- In each calm as for `NewPairsAreCommitted`: the leader tells the pair in the row in which it commits it, within the same
--- time, or the calm is over by then.
+-- In each calm as for `NewPairsAreCommitted`: the leader tells the pair in the row in which it commits it, within the
+-- same time, or the calm is over by then.
 abbrev pub NewPairsAreOffered : List ℕ → List Row → Type 0
 NewPairsAreOffered ids rows = (group : List Party) (clocks : Party → ℕ) (pace : Pace) (start n a term : ℕ)
-    (uid : List ℕ) (preferred first : ℕ) (next : List ℕ) (log : List Entry) (whole : List Timed) → let w = world_of ids rows in
+    (uid : List ℕ) (preferred first : ℕ) (next : List ℕ) (log : List Entry) (whole : List Timed) →
+    let w = world_of ids rows in
     IsCalmUnder ids rows group clocks pace start n term whole → HasJustCome group clocks start n a uid preferred log w →
     HasPlaceFor ids log uid → ListsAll n ids w → HaveRoom n a w whole → CallsFit n w whole →
     HasFollowers ids group n (length log) (first ∷ next) w whole → pace.period + 4 * pace.delay ≤ 100 →
@@ -213,11 +219,12 @@ abbrev pub time_to_be_served : Pace → ℕ
 time_to_be_served pace = time_to_be_committed pace + 2 * pace.delay
 
 -- In each calm as for `NewPairsAreOffered`, in which the leader's queue has room for each pair that it tells, and each
--- Allocation that it sends has three frames at most: the device holds a node ID that was left, in this time, or the calm is over
--- by then. That the leader settles again is not said.
+-- Allocation that it sends has three frames at most: the device holds a node ID that was left, in this time, or the
+-- calm is over by then. That the leader settles again is not said.
 abbrev pub NewDevicesAreServed : List ℕ → List Row → Type 0
 NewDevicesAreServed ids rows = (group : List Party) (clocks : Party → ℕ) (pace : Pace) (start n a term : ℕ)
-    (uid : List ℕ) (preferred first : ℕ) (next : List ℕ) (log : List Entry) (whole : List Timed) → let w = world_of ids rows in
+    (uid : List ℕ) (preferred first : ℕ) (next : List ℕ) (log : List Entry) (whole : List Timed) →
+    let w = world_of ids rows in
     IsCalmUnder ids rows group clocks pace start n term whole → HasJustCome group clocks start n a uid preferred log w →
     HasPlaceFor ids log uid → ListsAll n ids w → HaveRoom n a w whole → CallsFit n w whole → PairsFit n w whole →
     SendsShortAllocations n w whole → HasFollowers ids group n (length log) (first ∷ next) w whole →

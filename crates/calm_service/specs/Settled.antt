@@ -63,11 +63,13 @@ pub record IsSettled (n : ℕ) (log : List Entry) (accepted : List Accepted) (no
 
 -- The request that comes makes a unique ID whole that the log lacks, and that may be recorded with a node ID. The log
 -- has grown by the two. Whether they are committed is not asked, nor whom they were told.
-pub record IsRecorded (n : ℕ) (message : Allocation) (w : Cluster) (row : Row) (asked : IsAsked n message w row) : Type 0 where
+pub record IsRecorded (n : ℕ) (message : Allocation) (w : Cluster) (row : Row)
+    (asked : IsAsked n message w row) : Type 0 where
   pub uid : List ℕ
   pub preferred : ℕ
   pub node : ℕ
-  pub whole : answer asked.comes.server.accepted message (max asked.comes.server.now asked.comes.ms) true ≡ Whole uid preferred
+  pub whole : answer asked.comes.server.accepted message (max asked.comes.server.now asked.comes.ms) true
+      ≡ Whole uid preferred
   pub may : MayRecord asked.comes.server (max asked.comes.server.now asked.comes.ms) preferred uid node
   pub records : Records asked.comes.server uid node
       (step asked.comes.server (w.rows + 1) (receipt_of w asked.comes.k asked.comes.ms))
@@ -77,7 +79,8 @@ pub record IsRecorded (n : ℕ) (message : Allocation) (w : Cluster) (row : Row)
 -- Where no request comes in this row, member n is settled behind it as it was, at this moment of its clock. Where one
 -- comes, its log has grown by what the request makes whole; or it is settled behind the row, with the same log, and has
 -- taken the request as an exchange does in which follow-ups may be given.
-pub record StaysSettled (n : ℕ) (log : List Entry) (accepted : List Accepted) (now : ℕ) (w : Cluster) (row : Row) : Type 0 where
+pub record StaysSettled (n : ℕ) (log : List Entry) (accepted : List Accepted) (now : ℕ) (w : Cluster)
+    (row : Row) : Type 0 where
   pub unasked : IsNotAsked n w row → IsSettled n log accepted now (after_row w row)
   pub asked : (message : Allocation) (is : IsAsked n message w row) → IsRecorded n message w row is
       ⊎ IsSettled n log (after accepted message (max is.comes.server.now is.comes.ms) true) now (after_row w row)
@@ -110,7 +113,8 @@ pub record IsCalmUnder (ids : List ℕ) (rows : List Row) (group : List Party) (
   pub member : In (Member n) group
   pub calm : AreCalm group clocks pace (no_traffic start) (world_of ids rows) whole
   pub harmless : DoNoHarm (world_of ids rows) (rows_in whole)
-  pub led : (front rest : List Timed) → whole ≡ front ++ rest → IsLed group n term (after_rows (world_of ids rows) (rows_in front))
+  pub led : (front rest : List Timed) → whole ≡ front ++ rest → IsLed group n term
+      (after_rows (world_of ids rows) (rows_in front))
   pub lists : (m : ℕ) → In (Member m) group → m ≢ n → Lists n m (world_of ids rows)
   pub missed : NobodyIsMissed n (world_of ids rows) whole
 

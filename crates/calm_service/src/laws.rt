@@ -33,12 +33,12 @@ use raft_model::laws::{law_decisions, law_every_run, law_fit};
 use transfer_rx::laws::delivers_what_comes_whole;
 
 /// Who has settled stays settled in a calm in which it leads, and the others follow: a leader that has committed and
-/// told its whole log, knows each node that is online, and owes no Discovery. So it is behind each row, at the moment of
-/// that row, with the same log; and it has accepted the same requests, where no request of a device comes in the row. A
-/// request that comes is taken as an exchange takes it in which follow-ups may be given; or it makes a unique ID whole
-/// that the log lacks, and the log grows by it: of what comes then nothing is said. The leader lists each other member,
-/// so each node that says in a calm that it is online is known. Who sends it a Discovery has to name as many nodes as
-/// the cluster has members: a shorter list has to be answered.
+/// told its whole log, knows each node that is online, and owes no Discovery. So it is behind each row, at the moment
+/// of that row, with the same log; and it has accepted the same requests, where no request of a device comes in the
+/// row. A request that comes is taken as an exchange takes it in which follow-ups may be given; or it makes a unique ID
+/// whole that the log lacks, and the log grows by it: of what comes then nothing is said. The leader lists each other
+/// member, so each node that says in a calm that it is online is known. Who sends it a Discovery has to name as many
+/// nodes as the cluster has members: a shorter list has to be answered.
 pub fn who_has_settled_stays_settled()
     ensures row { (ids : List ℕ) (rows : List Row) → AreMembers ids → DoNoHarm (cluster ids) rows →
         EachRowLeavesItSettled ids rows }
@@ -61,12 +61,12 @@ pub fn who_has_settled_stays_settled()
     who_is_listed_stays();
 }
 
-/// A leader's log stays as it is in such a calm, whether the whole of it is committed or not, until a request of a device
-/// makes it grow. So it is behind each row (`row`), and the leader is left as it was in all else that counts: it adds no
-/// blank, its clock has not fallen, it knows each node that is online, and it owes no Discovery. Where the log grows, the
-/// leader goes on so with the longer log. While its log is not committed, it gives no follow-up, so nothing is recorded,
-/// whatever devices ask (`uncommitted`). Who has settled leads so (`leads`), and who leads so has settled once it has
-/// committed and told its whole log (`settles`).
+/// A leader's log stays as it is in such a calm, whether the whole of it is committed or not, until a request of a
+/// device makes it grow. So it is behind each row (`row`), and the leader is left as it was in all else that counts: it
+/// adds no blank, its clock has not fallen, it knows each node that is online, and it owes no Discovery. Where the log
+/// grows, the leader goes on so with the longer log. While its log is not committed, it gives no follow-up, so nothing
+/// is recorded, whatever devices ask (`uncommitted`). Who has settled leads so (`leads`), and who leads so has settled
+/// once it has committed and told its whole log (`settles`).
 pub fn a_leaders_log_stays()
     ensures leads { SettledLeads }
     ensures settles { LeaderSettles }
@@ -126,9 +126,9 @@ pub fn devices_are_heard_out_in_calm()
     who_has_settled_stays_settled();
 }
 
-/// A device that asks, and whose unique ID stands in the leader's log, is told its node ID in time. In a calm as above, and
-/// where the same is asked, it holds the node ID that the log has within 1,800 ms, three periods and twelve delays, or the
-/// calm is over by then; and then the leader has settled with the same log.
+/// A device that asks, and whose unique ID stands in the leader's log, is told its node ID in time. In a calm as above,
+/// and where the same is asked, it holds the node ID that the log has within 1,800 ms, three periods and twelve delays,
+/// or the calm is over by then; and then the leader has settled with the same log.
 pub fn known_devices_are_told_in_calm()
     ensures { (ids : List ℕ) (rows : List Row) → AreMembers ids → DoNoHarm (cluster ids) rows →
         KnownDevicesAreTold ids rows }
@@ -155,10 +155,10 @@ pub fn known_devices_are_told_in_calm()
     who_has_settled_stays_settled();
 }
 
-/// A device that asks, and whose unique ID is new, is recorded in time. In a calm as above, and where the same is asked: the
-/// leader knows all members, its log lacks the unique ID and has room, and a node ID is left, which is none of a member
-/// and stands in no entry of the log. Then, in the row in which it hears the whole unique ID, its log grows by it and by a
-/// node ID that was left, within 1,800 ms, three periods and ten delays, or the calm is over by then.
+/// A device that asks, and whose unique ID is new, is recorded in time. In a calm as above, and where the same is
+/// asked: the leader knows all members, its log lacks the unique ID and has room, and a node ID is left, which is none
+/// of a member and stands in no entry of the log. Then, in the row in which it hears the whole unique ID, its log grows
+/// by it and by a node ID that was left, within 1,800 ms, three periods and ten delays, or the calm is over by then.
 pub fn new_devices_are_recorded_in_calm()
     ensures { (ids : List ℕ) (rows : List Row) → AreMembers ids → DoNoHarm (cluster ids) rows →
         NewDevicesAreRecorded ids rows }
@@ -172,9 +172,10 @@ pub fn new_devices_are_recorded_in_calm()
     who_is_listed_stays();
 }
 
-/// A leader loses nothing in a calm as above, in which it leads throughout and its calls find room in its queue. Between
-/// any two moments its log grows behind its end alone: no entry that it has is dropped, moved or changed. And of a member
-/// with which it is in step when the calm begins, the places that it knows the member to have do not become fewer.
+/// A leader loses nothing in a calm as above, in which it leads throughout and its calls find room in its queue.
+/// Between any two moments its log grows behind its end alone: no entry that it has is dropped, moved or changed. And
+/// of a member with which it is in step when the calm begins, the places that it knows the member to have do not become
+/// fewer.
 pub fn leaders_lose_nothing_in_calm()
     ensures { (ids : List ℕ) (rows : List Row) → AreMembers ids → DoNoHarm (cluster ids) rows →
         LeadersLoseNothing ids rows }
@@ -183,10 +184,10 @@ pub fn leaders_lose_nothing_in_calm()
 }
 
 /// The pair of a new device is committed in time. In a calm as for [`new_devices_are_recorded_in_calm`], in which the
-/// leader's calls find room in its queue, and in which followers that have its whole log when the calm begins, that are in
-/// step with it and can exchange calls and answers with it, are a quorum with it: within four periods and 18 delays and
-/// 1,800 ms its log begins with the former one and the pair, and it has committed both, or the calm is over by then. It
-/// loses nothing meanwhile, as [`leaders_lose_nothing_in_calm`] says.
+/// leader's calls find room in its queue, and in which followers that have its whole log when the calm begins, that are
+/// in step with it and can exchange calls and answers with it, are a quorum with it: within four periods and 18 delays
+/// and 1,800 ms its log begins with the former one and the pair, and it has committed both, or the calm is over by
+/// then. It loses nothing meanwhile, as [`leaders_lose_nothing_in_calm`] says.
 pub fn new_pairs_are_committed_in_calm()
     ensures { (ids : List ℕ) (rows : List Row) → AreMembers ids → DoNoHarm (cluster ids) rows →
         NewPairsAreCommitted ids rows }
@@ -200,9 +201,9 @@ pub fn new_pairs_are_committed_in_calm()
     rows_grow_by_one();
 }
 
-/// The pair of a new device is told in time. In a calm as for [`new_pairs_are_committed_in_calm`], the leader tells it in
-/// the row in which it commits it: it offers an Allocation with the unique ID and a node ID that was left, within the same
-/// time, or the calm is over by then. Whether its queue has room for it is not said.
+/// The pair of a new device is told in time. In a calm as for [`new_pairs_are_committed_in_calm`], the leader tells it
+/// in the row in which it commits it: it offers an Allocation with the unique ID and a node ID that was left, within
+/// the same time, or the calm is over by then. Whether its queue has room for it is not said.
 pub fn new_pairs_are_offered_in_calm()
     ensures { (ids : List ℕ) (rows : List Row) → AreMembers ids → DoNoHarm (cluster ids) rows →
         NewPairsAreOffered ids rows }
@@ -217,10 +218,10 @@ pub fn new_pairs_are_offered_in_calm()
     rows_grow_by_one();
 }
 
-/// The pair of a new device is told in time. In a calm as for [`new_pairs_are_committed_in_calm`], in which the leader has
-/// room in each of its steps for the frames of the next pair, and room in its log for one entry more: within four periods
-/// and 18 delays and 1,800 ms it has settled with its former log and the pair, which is committed and told, or the calm is
-/// over by then. So the next device can be heard out. Whether the device hears it is not said.
+/// The pair of a new device is told in time. In a calm as for [`new_pairs_are_committed_in_calm`], in which the leader
+/// has room in each of its steps for the frames of the next pair, and room in its log for one entry more: within four
+/// periods and 18 delays and 1,800 ms it has settled with its former log and the pair, which is committed and told, or
+/// the calm is over by then. So the next device can be heard out. Whether the device hears it is not said.
 pub fn new_pairs_are_told_in_calm()
     ensures { (ids : List ℕ) (rows : List Row) → AreMembers ids → DoNoHarm (cluster ids) rows →
         NewPairsAreTold ids rows }
@@ -237,10 +238,10 @@ pub fn new_pairs_are_told_in_calm()
     rows_grow_by_one();
 }
 
-/// A new device is served in time. In a calm as for [`new_pairs_are_offered_in_calm`], in which the leader's queue has room for
-/// each pair that it tells, and each Allocation that it sends has three frames at most: the device holds a node ID that was
-/// left, within four periods, 20 delays and 1,800 ms, or the calm is over by then. Where it asks again meanwhile, it takes
-/// the Allocation all the same.
+/// A new device is served in time. In a calm as for [`new_pairs_are_offered_in_calm`], in which the leader's queue has
+/// room for each pair that it tells, and each Allocation that it sends has three frames at most: the device holds a
+/// node ID that was left, within four periods, 20 delays and 1,800 ms, or the calm is over by then. Where it asks again
+/// meanwhile, it takes the Allocation all the same.
 pub fn new_devices_are_served_in_calm()
     ensures { (ids : List ℕ) (rows : List Row) → AreMembers ids → DoNoHarm (cluster ids) rows →
         NewDevicesAreServed ids rows }

@@ -7,17 +7,17 @@
 //! request makes it grow ([`laws::a_leaders_log_stays`], `specs/Recorded`).
 //!
 //! So a device that has just come is heard out ([`laws::devices_are_heard_out_in_calm`], `specs/Dialog`). One that the
-//! log knows holds its node ID then ([`laws::known_devices_are_told_in_calm`]). A new one is recorded with a node ID that
-//! was left ([`laws::new_devices_are_recorded_in_calm`], `specs/Served`); the pair is committed
+//! log knows holds its node ID then ([`laws::known_devices_are_told_in_calm`]). A new one is recorded with a node ID
+//! that was left ([`laws::new_devices_are_recorded_in_calm`], `specs/Served`); the pair is committed
 //! ([`laws::new_pairs_are_committed_in_calm`]), since the leader loses nothing meanwhile
 //! ([`laws::leaders_lose_nothing_in_calm`]), and offered in the row in which it is committed
 //! ([`laws::new_pairs_are_offered_in_calm`]). So the device holds this node ID
-//! ([`laws::new_devices_are_served_in_calm`]); and the leader has settled with the pair, so that the next device may come
-//! ([`laws::new_pairs_are_told_in_calm`], `specs/ServedTold`).
+//! ([`laws::new_devices_are_served_in_calm`]); and the leader has settled with the pair, so that the next device may
+//! come ([`laws::new_pairs_are_told_in_calm`], `specs/ServedTold`).
 //!
 //! Why it holds: each kind of delivery leaves alone what the leader judges requests by (`proofs/SettledFrames`,
-//! `proofs/SettledSteps`); the device and the leader take turns, and `proofs/DialogPhases` says whose turn it is and what
-//! is under way; nobody else sends Allocations (`proofs/FollowersSay`); and a leader commits and tells in one step
+//! `proofs/SettledSteps`); the device and the leader take turns, and `proofs/DialogPhases` says whose turn it is and
+//! what is under way; nobody else sends Allocations (`proofs/FollowersSay`); and a leader commits and tells in one step
 //! (`proofs/ServedTells`).
 //!
 //! What a reader must believe: the files of `specs/`, and what they cite of `calm_leader`, `cluster_calm` and below.
