@@ -223,7 +223,7 @@ module _ (n moment : ℕ) (y : SentTransfer) (request : Request) (says : AppendA
         (TakeAppendAnswer taken) g known (λ blank. known)
 
     pub takes : TakesAnswer number taken t (step t number (Rx arrival)).step_state.allocator
-    takes = record { matched = at_end.0; next = at_end.1; ended = at_end.2 }
+    takes = record { own_term = equal ∙ waits.term; waited = waits.pending; matched = at_end.0; next = at_end.1; ended = at_end.2 }
       where
         at_end : Known number m (matched_after t.raft_server.memory taken) (next_after t.raft_server.memory taken) (step t number (Rx arrival)).step_state
         at_end = subst (λ (s : StepResult). Known number m (matched_after t.raft_server.memory taken) (next_after t.raft_server.memory taken) s.step_state) (sym step_is)

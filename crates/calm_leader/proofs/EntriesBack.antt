@@ -1,36 +1,38 @@
--- A call that a leader makes in a calm to a member that is in step comes back with success, and is taken.
-use Rattle.std.proofs.Common.{◌≡◌, ◌≢◌, ℕ, ◌+◌, ◌*◌, ◌<◌, ◌≤◌, Bool, true, List, [], ◌∷◌, ◌++◌, drop, append_assoc, append-nil, sym, ◌∙◌, ap, subst, inr, arith, max, Some}
-use Rattle.std.specs.Prelude.{◌-◌, if◌then◌else◌, slice_index_or}
+-- A call that a leader makes in a calm comes back, and is taken: it is accepted, or the member lacks the place before it.
+use Rattle.std.proofs.Common.{◌≡◌, ◌≢◌, ℕ, ◌+◌, ◌*◌, ◌<◌, ◌≤◌, Bool, true, false, List, [], ◌∷◌, ◌++◌, drop, append_assoc, append-nil, refl, sym, ◌∙◌, ap, subst, inl, inr, arith, max, Some}
+use Rattle.std.specs.Prelude.{◌⊎◌, ◌-◌, if◌then◌else◌, nat_lt, slice_index_or}
+use Rattle.std.proofs.lemmas.Bool.Decides.{leb_tells}
 use Rattle.can_frame.specs.Timing.{call_timeout}
 use Rattle.dsdl_codec.specs.declared.append_request.AppendRequest.{AppendRequest}
-use Rattle.can_frame.specs.declared.entry.Entry.{Entry}
 use Rattle.raft_core.specs.Handled as handled
 use Rattle.raft_model.specs.Decisions.{verdict_on}
 use Rattle.raft_model.specs.Lists.{In}
 use Rattle.raft_model.specs.Messages.{Answer, Request, reach}
 use Rattle.raft_model.specs.Moves.Appending.{is_accepted}
+use Rattle.raft_model.specs.Moves.Elections.{with_term}
+use Rattle.raft_model.specs.Server.{Store}
 use Rattle.replay_text.specs.declared.row.Row.{Row}
 use Rattle.alloc_spec.specs.AllocatorState.{AllocatorState}
 use Rattle.alloc_spec.specs.Step.{Event, step}
 use Rattle.alloc_spec.specs.Transfers.{SentTransfer}
+use Rattle.alloc_spec_laws.proofs.Choices.{lt_tells}
 use Rattle.cluster_recovery.specs.Calm.{Pace, Timed, end_of, rows_in}
-use Rattle.cluster_recovery.proofs.Goes.{after_both}
 use Rattle.cluster_recovery.proofs.Members.{IsUp}
 use Rattle.calm_leader.specs.Answers.{TakesAnswer, answer_by, asked_by}
-use Rattle.calm_leader.specs.CallsComeBack.{ComesBack, IsTakenBy, LeadsIfUp, LeadsOn}
+use Rattle.calm_leader.specs.CallsComeBack.{ComesBack, IsTakenBy, LeadsOn}
 use Rattle.cluster_calm.specs.Calm.{AreCalm, Member as OfMember, Party, no_traffic}
 use Rattle.cluster_calm.specs.Comes.{Delivers, HasMemory, Throughout, sent_by}
 use Rattle.calm_leader.specs.CallsComeBack.{HasPlace}
 use Rattle.calm_leader.specs.Entries.{CanExchange, IsCalledInStep}
-use Rattle.calm_leader.specs.LeadsOn.{FollowsWithin}
 use Rattle.cluster_calm.proofs.Calls.{Goes}
-use Rattle.calm_leader.proofs.EntriesPending.{AtN, MakesCall, at, harmless_at}
+use Rattle.calm_leader.proofs.EntriesParts.{rows_counted, same_front}
+use Rattle.calm_leader.proofs.EntriesPending.{AtN, HoldsAs, MakesCall, WasCalled, at, harmless_at, was_called, world_at}
 use Rattle.calm_leader.specs.EntriesBelow.{EntryLaws}
-use Rattle.calm_leader.proofs.EntriesRows.{AtLeast, IsLedCalm, goes_at, goes_on, here_then, leads_at}
+use Rattle.calm_leader.proofs.EntriesRows.{IsLedCalm, Leading, goes_at, here_then, lead_on}
 use Rattle.cluster_calm.proofs.Pair.{same_server, same_stepper}
 use Rattle.calm_leader.proofs.RowsOfOne.{stepped_up}
-use Rattle.calm_leader.proofs.Stretches.{throughout_by, world_both}
-use Rattle.cluster_spec.specs.Cluster.{Cluster, after_row, after_rows, cluster, receipt_of, step_of, world_of}
+use Rattle.calm_leader.proofs.Stretches.{world_both}
+use Rattle.cluster_spec.specs.Cluster.{Cluster, after_row, after_rows, receipt_of, step_of, world_of}
 use Rattle.cluster_spec.specs.Lawful.{DoNoHarm, DoesNoHarm}
 use Rattle.cluster_spec.specs.Members.MemberStatus.{Up}
 
@@ -40,12 +42,21 @@ AcceptsIn ids v = (n m : ℕ) (x : SentTransfer) (request : AppendRequest) (row 
     → (called : IsCalledInStep n m x request v row)
     → is_accepted (verdict_on called.delivers.server.raft_server (handled.append_request_of request x.step x.by m)) ≡ true
 
+-- who answers in the term of the request had no higher one
+within_term : (store : Store) (term : ℕ) → (with_term store term).term ≡ term → store.term ≤ term
+within_term store term e = elim (lt_tells store.term term) [
+  | inl z ↦ let low = z.1 in omega (arith, low)
+  | inr z ↦ let same = ap (λ (s : Store). s.term) (not_raised z.0) in omega (arith, same, e)
+]
+  where
+    not_raised : nat_lt store.term term ≡ false → with_term store term ≡ store
+    not_raised low = rw (low) refl
+
 module _ (ids : List ℕ) (rows : List Row) (laws : EntryLaws ids rows) (group : List Party) (clocks : Party → ℕ) (pace : Pace) (start n term : ℕ)
     (whole : List Timed)
     (calm : IsLedCalm ids rows group clocks pace start n term whole) (m : ℕ) (in_m : In (OfMember m) group) (other : m ≢ n)
     (short : 4 * pace.delay < call_timeout)
-    (can : CanExchange n m (world_of ids rows) whole)
-    (begins : AtN ids rows laws group clocks pace start n term whole calm (AtLeast ids rows laws group clocks pace start n term whole calm m 0 []) []) where
+    (can : CanExchange n m (world_of ids rows) whole) where
   abbrev w : Cluster
   w = world_of ids rows
 
@@ -55,44 +66,31 @@ module _ (ids : List ℕ) (rows : List Row) (laws : EntryLaws ids rows) (group :
   abbrev pub AtLeader : (AllocatorState → Type 0) → List Timed → Type 0
   AtLeader = AtN ids rows laws group clocks pace start n term whole calm
 
-  abbrev pub Known : (matched : ℕ) (base : List Entry) → AllocatorState → Type 0
-  Known = AtLeast ids rows laws group clocks pace start n term whole calm m
+  abbrev pub Leads : List Timed → Type 0
+  Leads = Leading ids rows laws group clocks pace start n term whole calm
 
   abbrev pub Made : List Timed → Timed → Request → Type 0
   Made = MakesCall ids rows laws group clocks pace start n term whole calm m
 
-  -- the leader's server behind a front
+  abbrev pub Holds : Request → (next matched : ℕ) → AllocatorState → Type 0
+  Holds = HoldsAs ids rows laws group clocks pace start n term whole calm m
+
+  -- the server of the member behind a front
   pub leader_at : (a b : List Timed) → whole ≡ a ++ b → (t : AllocatorState) × (((now a).member n).status ≡ Up t)
   leader_at a b cut = let run = (goes_at ids rows laws group clocks pace start n term whole calm n calm.member a b cut).runs in (run.server, run.up.status)
 
-  -- what is known behind each front
-  pub known_at : (a b : List Timed) → whole ≡ a ++ b → AtLeader (Known 0 []) a
-  known_at a b cut = goes_on ids rows laws group clocks pace start n term whole calm m 0 [] a [] b cut begins
-
-  -- it grows
-  pub grown : (a c b : List Timed) → whole ≡ (a ++ c) ++ b → (t : AllocatorState) → ((now a).member n).status ≡ Up t
-      → AtLeader (Known (t.raft_server.memory.matched m) t.raft_server.store.log) (a ++ c)
-  grown a c b cut t up = goes_on ids rows laws group clocks pace start n term whole calm m (t.raft_server.memory.matched m) t.raft_server.store.log c a b cut
-      (λ u is_up. subst (Known (t.raft_server.memory.matched m) t.raft_server.store.log) (same_server t u (sym up ∙ is_up))
-      (let k = known_at a (c ++ b) (cut ∙ append_assoc a c b) t up in
-      record {
-        its_term = k.its_term;
-        leads = k.leads;
-        matched_is = omega arith;
-        least = k.least;
-        next_is = k.next_is;
-        more = [];
-        log_is = sym
-            (append-nil t.raft_server.store.log);
-      }))
-
   -- ---- a call comes back
 
-  -- Behind this front the row is over in which the leader takes the answer to its call: it knows the peer to have what the
-  -- call reached, calls it next behind there, and a call that pends then was made in that row.
-  abbrev pub TakenThen : List Timed → Request → AllocatorState → Type 0
-  TakenThen before asked t = (reach asked ≤ t.raft_server.memory.matched m) × (t.raft_server.memory.next m ≡ t.raft_server.memory.matched m + 1)
-      × ((again : Request) → t.raft_server.memory.pending m ≡ Some again → again.step ≡ (now before).rows + 1)
+  -- The leader learned from the answer to a call: what the call reached the peer has, and it calls it next behind what it
+  -- knows it to have; or the call began behind there, and the next one begins one place earlier.
+  abbrev pub Learned : Request → (next matched : ℕ) → AllocatorState → Type 0
+  Learned asked next matched t = ((reach asked ≤ t.raft_server.memory.matched m) × (t.raft_server.memory.next m ≡ t.raft_server.memory.matched m + 1))
+      ⊎ ((t.raft_server.memory.matched m ≡ matched) × (t.raft_server.memory.next m + 1 ≡ next) × (matched + 2 ≤ next))
+
+  -- Behind this front the row is over in which the leader takes the answer: a call that pends then was made in that row.
+  abbrev pub TakenThen : List Timed → Request → (next matched : ℕ) → AllocatorState → Type 0
+  TakenThen before asked next matched t =
+      ((again : Request) → t.raft_server.memory.pending m ≡ Some again → again.step ≡ (now before).rows + 1) × Learned asked next matched t
 
   pub record IsTaken (a : List Timed) (x : Timed) (asked : Request) : Type 0 where
     pub before : List Timed
@@ -103,7 +101,11 @@ module _ (ids : List ℕ) (rows : List Row) (laws : EntryLaws ids rows) (group :
     pub behind : before ≡ (a ++ x ∷ []) ++ between
     pub soon : row.at ≤ x.at + 4 * pace.delay
     pub stepped : (event : Event) × (step_of (now before) row.row ≡ Some (n, event))
-    pub taken : AtLeader (TakenThen before asked) (before ++ row ∷ [])
+    pub next : ℕ
+    pub matched : ℕ
+    -- from the call on it pends, and the leader knows the same of the peer
+    pub holds : (c d : List Timed) → between ≡ c ++ d → AtLeader (Holds asked next matched) ((a ++ x ∷ []) ++ c)
+    pub taken : AtLeader (TakenThen before asked next matched) (before ++ row ∷ [])
 
   module _ (a b : List Timed) (x : Timed) (cut : whole ≡ a ++ x ∷ b) (asked : Request) (made : Made a x asked)
       (long : x.at + 4 * pace.delay < end_of x.at b) where
@@ -113,32 +115,28 @@ module _ (ids : List ℕ) (rows : List Row) (laws : EntryLaws ids rows) (group :
     abbrev asks : Request
     asks = asked_by call made.request m
 
-    leads_all : Throughout (LeadsIfUp n term) w whole
-    leads_all = throughout_by (LeadsIfUp n term) whole w (λ front rest timed split. leads_at ids rows laws group clocks pace start n term whole calm front
-        (timed ∷ rest) split)
-
     comes : ComesBack n m call made.request x.at pace.delay (now a) (x ∷ b)
     comes = laws.back group clocks pace start n m term a b x made.offer made.request calm.listed calm.running calm.member in_m (λ e. other (sym e)) short
         can.calls_it can.hears_it can.calls can.first_call can.answers can.first_answer
         (subst (AreCalm group clocks pace (no_traffic start) w) cut calm.calm) (subst (λ (l : List Timed). DoNoHarm w (rows_in l)) cut calm.harmless)
         (subst (Throughout (HasMemory n) w) cut can.memory) (subst (Throughout (HasMemory m) w) cut can.its_memory)
         (subst (Throughout (HasPlace m) w) cut can.place)
-        (subst (LeadsOn n term w) cut (on whole leads_all)) made.calls long
-      where
-        on : (list : List Timed) → Throughout (LeadsIfUp n term) w list → LeadsOn n term w list
-        on [] all = tt
-        on (first ∷ list) all = inr all
+        (subst (LeadsOn n term w) cut calm.leads_on) made.calls long
+
+    -- the server of the leader when the row of the call is over
+    then_ : (t : AllocatorState) × (((now (a ++ x ∷ [])).member n).status ≡ Up t)
+    then_ = leader_at (a ++ x ∷ []) b (cut ∙ sym (append_assoc a (x ∷ []) b))
 
     -- the call as it was made
-    called : (t : AllocatorState) → ((now (a ++ x ∷ [])).member n).status ≡ Up t
-        → (made.request.term ≡ term) × (made.request.prev_index ≤ t.raft_server.memory.matched m)
-    called t up =
-        let owed = sym made.said ∙ made.owed t up in
-        let k = known_at (a ++ x ∷ []) b (cut ∙ sym (append_assoc a (x ∷ []) b)) t up in
-        let e = ap (λ (r : Request). r.previous) owed in
-        let least = k.least in
-        let next = k.next_is in
-        (ap (λ (r : Request). r.term) owed ∙ k.its_term, omega (arith, e, least, next))
+    called_term : made.request.term ≡ term
+    called_term = ap (λ (r : Request). r.term) (sym made.said ∙ made.owed then_.0 then_.1) ∙ (made.leading then_.0 then_.1).1
+
+    called_previous : made.request.prev_index ≡ then_.0.raft_server.memory.next m - 1
+    called_previous = ap (λ (r : Request). r.previous) (sym made.said ∙ made.owed then_.0 then_.1)
+
+    -- the leader leads on behind it
+    on : (c d : List Timed) → whole ≡ ((a ++ x ∷ []) ++ c) ++ d → Leads ((a ++ x ∷ []) ++ c)
+    on c d split = lead_on ids rows laws group clocks pace start n term whole calm (a ++ x ∷ []) c d split then_.0 then_.1 (made.leading then_.0 then_.1).0
 
     -- ---- the member answers
 
@@ -149,8 +147,11 @@ module _ (ids : List ℕ) (rows : List Row) (laws : EntryLaws ids rows) (group :
       cut_heard : whole ≡ heard ++ y ∷ rest
       cut_heard = cut ∙ (ap (λ (l : List Timed). a ++ x ∷ l) split ∙ sym (append_assoc a (x ∷ front) (y ∷ rest)))
 
-      cut_grown : whole ≡ ((a ++ x ∷ []) ++ front) ++ y ∷ rest
-      cut_grown = cut_heard ∙ ap (λ (l : List Timed). l ++ y ∷ rest) (sym (append_assoc a (x ∷ []) front))
+      heard_is : (a ++ x ∷ []) ++ front ≡ heard
+      heard_is = append_assoc a (x ∷ []) front
+
+      leads_heard : Leads heard
+      leads_heard = subst Leads heard_is (on front (y ∷ rest) (cut_heard ∙ ap (λ (l : List Timed). l ++ y ∷ rest) (sym heard_is)))
 
       module _ (d : Delivers m call (now heard) y.row) where
         its_me : d.server.me ≡ m
@@ -158,81 +159,150 @@ module _ (ids : List ℕ) (rows : List Row) (laws : EntryLaws ids rows) (group :
             let run = (goes_at ids rows laws group clocks pace start n term whole calm m in_m heard (y ∷ rest) cut_heard).runs in
             ap (λ (t : AllocatorState). t.me) (same_server d.server run.server (sym d.runs ∙ run.up.status)) ∙ run.holds
 
-        in_step : IsCalledInStep n m call made.request (now heard) y.row
-        in_step =
-            let leader = leader_at heard (y ∷ rest) cut_heard in
-            let then_ = leader_at (a ++ x ∷ []) b (cut ∙ sym (append_assoc a (x ∷ []) b)) in
-            let its = called then_.0 then_.1 in
-            let leading = leads_at ids rows laws group clocks pace start n term whole calm heard (y ∷ rest) cut_heard leader.0 leader.1 in
-            let more : Known (then_.0.raft_server.memory.matched m) then_.0.raft_server.store.log leader.0
-            = subst (AtLeader (Known (then_.0.raft_server.memory.matched m) then_.0.raft_server.store.log)) (append_assoc a (x ∷ []) front)
-            (grown (a ++ x ∷ []) front (y ∷ rest) cut_grown then_.0 then_.1) leader.0 leader.1 in
-            let within : FollowsWithin m term (now heard) = (calm.led heard (y ∷ rest) cut_heard).others m in_m other in
-            let same = ap (λ (t : AllocatorState). t.raft_server.store.term) (same_server within.server d.server (sym within.runs ∙ d.runs)) in
-            record {
-              delivers = d;
-              what = made.calls.what;
-              says = made.calls.says;
-              leader = leader.0;
-              runs = leader.1;
-              leads = leading.0;
-              its_term = its.0 ∙ sym leading.1;
-              not_above = let low = within.its_term in let e = its.0 in omega (arith, low, same, e);
-              known = let p = its.1 in let q = more.matched_is in omega (arith, p, q);
-            }
+        -- the leader's server then
+        l : (t : AllocatorState) × (((now heard).member n).status ≡ Up t)
+        l = leader_at heard (y ∷ rest) cut_heard
 
-        accepted : is_accepted (verdict_on d.server.raft_server asks) ≡ true
-        unfolding in_step
-        accepted =
-            let harm = harmless_at ids rows laws group clocks pace start n term whole calm heard rest y cut_heard in
-            subst (AcceptsIn ids) (after_both (cluster ids) rows (rows_in heard)) (laws.accept (rows_in heard) harm.0)
-            n m call made.request y.row (calm.listed n calm.member) (calm.listed m in_m) other harm.1 in_step
+        -- it accepts a call that begins no further on than what the leader knows it to have
+        module _ (low : d.server.raft_server.store.term ≤ made.request.term) (known : made.request.prev_index ≤ l.0.raft_server.memory.matched m) where
+          in_step : IsCalledInStep n m call made.request (now heard) y.row
+          in_step = record {
+            delivers = d;
+            what = made.calls.what;
+            says = made.calls.says;
+            leader = l.0;
+            runs = l.1;
+            leads = (leads_heard l.0 l.1).0;
+            its_term = called_term ∙ sym (leads_heard l.0 l.1).1;
+            not_above = low;
+            known = known;
+          }
+
+          accepted : is_accepted (verdict_on d.server.raft_server asks) ≡ true
+          unfolding in_step
+          accepted =
+              let harm = harmless_at ids rows laws group clocks pace start n term whole calm heard rest y cut_heard in
+              subst (AcceptsIn ids) (world_at ids rows laws group clocks pace start n term whole calm heard) (laws.accept (rows_in heard) harm.0)
+              n m call made.request y.row (calm.listed n calm.member) (calm.listed m in_m) other harm.1 in_step
 
         -- ---- the leader takes the answer
 
         abbrev answer : Answer
         answer = answer_by ((now heard).rows + 1) d.server asks
 
-        module _ (between last : List Timed) (z : Timed) (split_then : rest ≡ between ++ z ∷ last) (soon : z.at ≤ x.at + 4 * pace.delay) where
+        module _ (between last : List Timed) (z : Timed) (split_then : rest ≡ between ++ z ∷ last) (soon : z.at ≤ x.at + 4 * pace.delay)
+            (y_back : SentTransfer) (e : Delivers n y_back (now (heard ++ y ∷ between)) z.row)
+            (takes : TakesAnswer ((now (heard ++ y ∷ between)).rows + 1) answer e.server (step e.server ((now (heard ++ y ∷ between)).rows + 1)
+            (receipt_of (now (heard ++ y ∷ between)) e.k e.ms)).step_state.allocator) where
           abbrev before : List Timed
           before = heard ++ y ∷ between
 
           cut_before : whole ≡ before ++ z ∷ last
           cut_before = cut_heard ∙ (ap (λ (l : List Timed). heard ++ y ∷ l) split_then ∙ sym (append_assoc heard (y ∷ between) (z ∷ last)))
 
-          learns : (was : AllocatorState) (t : AllocatorState) → TakesAnswer ((now before).rows + 1) answer was t → TakenThen before asked t
-          learns was t takes =
-              let success = accepted in
+          behind : before ≡ (a ++ x ∷ []) ++ (front ++ y ∷ between)
+          behind = append_assoc a (x ∷ front) (y ∷ between) ∙ sym (append_assoc a (x ∷ []) (front ++ y ∷ between))
+
+          leads_before : Leads before
+          leads_before = subst Leads (sym behind) (on (front ++ y ∷ between) (z ∷ last) (cut_before ∙ ap (λ (l : List Timed). l ++ z ∷ last) behind))
+
+          -- the call pends until then
+          pends : e.server.raft_server.memory.pending m ≡ Some asked
+          pends = ap e.server.raft_server.memory.pending (sym its_me) ∙ (takes.waited ∙ ap (λ (r : Request). Some r) (sym made.said))
+
+          its_step : asked.step ≡ (now a).rows + 1
+          its_step = ap (λ (r : Request). r.step) made.said
+
+          was : WasCalled ids rows laws group clocks pace start n term whole calm m asked before
+          was = was_called ids rows laws group clocks pace start n term whole calm m before (z ∷ last) cut_before e.server e.runs asked
+              (let its = its_step in let count = rows_counted w a in omega (arith, its, count)) (ap (λ (r : Request). r.append) made.said) pends
+
+          -- since it was made
+          same_place : (a ≡ was.earlier) × (x ∷ (front ++ y ∷ between) ≡ was.row ∷ was.later)
+          same_place =
+              let its = its_step in
+              let also = ap (λ (r : Request). r.step) was.made.said in
+              let count = rows_counted w a in
+              let other_count = rows_counted w was.earlier in
+              same_front a was.earlier (x ∷ (front ++ y ∷ between)) (was.row ∷ was.later) (omega (arith, its, also, count, other_count))
+              (sym (append_assoc a (x ∷ front) (y ∷ between)) ∙ was.split)
+
+          holds : (c d : List Timed) → front ++ y ∷ between ≡ c ++ d → AtLeader (Holds asked was.next was.matched) ((a ++ x ∷ []) ++ c)
+          holds c d parts = subst (AtLeader (Holds asked was.next was.matched))
+              ((λ i. sym same_place.0 i ++ sym (ap (λ (l : List Timed). slice_index_or l 0 x) same_place.1) i ∷ c) ∙ sym (append_assoc a (x ∷ []) c))
+              (was.since c d (sym (ap (λ (l : List Timed). drop 1 l) same_place.1) ∙ parts))
+
+          held_then : Holds asked was.next was.matched then_.0
+          held_then = subst (AtLeader (Holds asked was.next was.matched)) (append-nil (a ++ x ∷ [])) (holds [] (front ++ y ∷ between) refl) then_.0 then_.1
+
+          held_heard : Holds asked was.next was.matched l.0
+          held_heard = subst (AtLeader (Holds asked was.next was.matched)) heard_is (holds front (y ∷ between) refl) l.0 l.1
+
+          held_before : Holds asked was.next was.matched e.server
+          held_before = subst (AtLeader (Holds asked was.next was.matched)) (sym behind)
+              (holds (front ++ y ∷ between) [] (sym (append-nil (front ++ y ∷ between)))) e.server e.runs
+
+          -- the member's term is not above
+          low : d.server.raft_server.store.term ≤ made.request.term
+          low = within_term d.server.raft_server.store made.request.term
+              (takes.own_term ∙ ((leads_before e.server e.runs).1 ∙ sym called_term))
+
+          learned : (t : AllocatorState) → TakesAnswer ((now before).rows + 1) answer e.server t → (success : Bool)
+              → is_accepted (verdict_on d.server.raft_server asks) ≡ success → Learned asked was.next was.matched t
+          learned t takes true success =
               let from = its_me in
               let same_asked : reach asks ≡ reach asked = ap reach (sym made.said) in
-              let matched = takes.matched ∙ ap (λ (yes : Bool). if yes then max (was.raft_server.memory.matched d.server.me)
-              (reach asks) else was.raft_server.memory.matched d.server.me) success in
-              let next = takes.next ∙ ap (λ (yes : Bool). if yes then max (was.raft_server.memory.matched d.server.me) (reach asks) + 1
-              else max 1 (was.raft_server.memory.next d.server.me - 1)) success in
+              let matched = takes.matched ∙ ap (λ (yes : Bool). if yes then max (e.server.raft_server.memory.matched d.server.me)
+              (reach asks) else e.server.raft_server.memory.matched d.server.me) success in
+              let next = takes.next ∙ ap (λ (yes : Bool). if yes then max (e.server.raft_server.memory.matched d.server.me) (reach asks) + 1
+              else max 1 (e.server.raft_server.memory.next d.server.me - 1)) success in
               let m_matched = ap t.raft_server.memory.matched from in
-              let m_next = ap t.raft_server.memory.next from in (
-                omega (arith, matched, m_matched, same_asked),
-                omega (arith, matched, next, m_matched, m_next),
-                λ again e. takes.ended again (ap t.raft_server.memory.pending from ∙ e),
-              )
+              let m_next = ap t.raft_server.memory.next from in
+              inl (omega (arith, matched, m_matched, same_asked), omega (arith, matched, next, m_matched, m_next))
+          learned t takes false success = elim (leb_tells made.request.prev_index (l.0.raft_server.memory.matched m)) [
+            | inl z ↦ absurd (cc (sym success ∙ accepted low z.1))
+            | inr z ↦
+                let high = z.1 in
+                let from = its_me in
+                let matched = takes.matched ∙ ap (λ (yes : Bool). if yes then max (e.server.raft_server.memory.matched d.server.me)
+                (reach asks) else e.server.raft_server.memory.matched d.server.me) success in
+                let next = takes.next ∙ ap (λ (yes : Bool). if yes then max (e.server.raft_server.memory.matched d.server.me) (reach asks) + 1
+                else max 1 (e.server.raft_server.memory.next d.server.me - 1)) success in
+                let m_matched = ap t.raft_server.memory.matched from in
+                let m_next = ap t.raft_server.memory.next from in
+                let was_matched = ap e.server.raft_server.memory.matched from in
+                let was_next = ap e.server.raft_server.memory.next from in
+                let previous = called_previous in
+                let first_next = held_then.1 in
+                let then_matched = held_heard.2 in
+                let last_next = held_before.1 in
+                let last_matched = held_before.2 in
+                inr (
+                  omega (arith, matched, m_matched, was_matched, last_matched),
+                  omega (arith, next, m_next, was_next, last_next, high, previous, first_next, then_matched),
+                  omega (arith, high, previous, first_next, then_matched),
+                )
+          ]
 
-          taken_here : (y_back : SentTransfer) (e : Delivers n y_back (now before) z.row)
-              → TakesAnswer ((now before).rows + 1) answer e.server (step e.server ((now before).rows + 1)
-              (receipt_of (now before) e.k e.ms)).step_state.allocator
-              → IsTaken a x asked
-          taken_here y_back e takes = record {
+          taken_here : IsTaken a x asked
+          taken_here = record {
             before = before;
             between = front ++ y ∷ between;
             row = z;
             rest = last;
             cut = cut_before;
-            behind = append_assoc a (x ∷ front) (y ∷ between) ∙ sym (append_assoc a (x ∷ []) (front ++ y ∷ between));
+            behind = behind;
             soon = soon;
             stepped = (receipt_of (now before) e.k e.ms, ap (step_of (now before)) e.comes);
-            taken = λ t up. subst (TakenThen before asked)
+            next = was.next;
+            matched = was.matched;
+            holds = holds;
+            taken = λ t up. subst (TakenThen before asked was.next was.matched)
                 (same_server _ t (sym stepped.status ∙ subst (λ (v : Cluster). (v.member n).status ≡ Up t)
-                (here_then ids rows laws group clocks pace start n term whole calm before z) up))
-                (learns e.server _ takes);
+                (here_then ids rows laws group clocks pace start n term whole calm before z) up)) (
+                  λ again p. takes.ended again (ap (step e.server ((now before).rows + 1) (receipt_of (now before) e.k e.ms)).step_state.allocator.raft_server.memory.pending its_me ∙ p),
+                  learned _ takes (is_accepted (verdict_on d.server.raft_server asks)) refl,
+                );
           }
             where
               runs : Goes laws.me group clocks pace n (now before) (z ∷ last)

@@ -1,9 +1,9 @@
+-- The rows of the example of entries that come in time meet what is asked of them, by computation.
 use Rattle.std.proofs.Common.{◌≡◌, ◌≢◌, ℕ, ◌+◌, ◌≤◌, Bool, true, false, List, [], ◌∷◌, ◌++◌, drop, length, refl, sym, ◌∙◌, ap, subst, arith, inl, inr, None, Some, Option}
-use Rattle.std.specs.Prelude.{◌==◌, ◌&&◌, ◌||◌, not, nat_le, nat_lt, slice_index_or}
+use Rattle.std.specs.Prelude.{◌==◌, ◌&&◌, not, nat_le, nat_lt, slice_index_or, if◌then◌else◌}
 use Rattle.can_frame.specs.TransferCrc.{bits_of, crc_of, divide, number_of}
 use Rattle.can_frame.specs.Cutting.{frames_of, payload_of}
-use Rattle.can_frame.specs.Identifier.{identifier_number, identifier_of}
-use Rattle.can_frame.specs.declared.step.What.{What}
+use Rattle.can_frame.specs.Identifier.{identifier_of}
 use Rattle.raft_model.specs.Lists.{In}
 use Rattle.raft_model.specs.Moves.Elections.{is_leader}
 use Rattle.raft_model.specs.Server.{Role}
@@ -12,43 +12,33 @@ use Rattle.replay_text.specs.declared.row.Row.{Row}
 use Rattle.transfer_rx.specs.Acceptance.{wanted}
 use Rattle.transfer_rx.specs.Outcome.{blocks_used, fits_no_part, fits_no_payload, outcome}
 use Rattle.transfer_rx.specs.Reassembly.{session_step, step as frame_step}
-use Rattle.transfer_rx.specs.Sessions.{Session, session_for}
-use Rattle.transfer_rx.specs.declared.key.Key.{Key}
-use Rattle.transfer_tx.specs.Run.{of_identifier}
+use Rattle.transfer_rx.specs.Sessions.{session_for}
 use Rattle.transfer_tx.specs.Queue.{left_behind, next_out, queued_frames}
 use Rattle.alloc_spec.specs.Accepted.{rows}
-use Rattle.alloc_spec.specs.AllocatorState.{AllocatorState, members_of}
+use Rattle.alloc_spec.specs.AllocatorState.{AllocatorState}
 use Rattle.alloc_spec.specs.Delivered.{delivery_phase}
 use Rattle.alloc_spec.specs.Step.{Event, all_nodes, step}
 use Rattle.alloc_spec_laws.proofs.Choices.{and_left, and_right, eq_true, le_true, lt_true}
 use Rattle.allocatee.specs.Accepted.{rows as device_rows}
 use Rattle.allocatee.specs.Allocatee.{step as device_step}
 use Rattle.allocatee.specs.Asking.{clock_phase as device_clock}
-use Rattle.cluster_spec.specs.Cluster.{Cluster, after_row, after_rows, tick_of}
+use Rattle.cluster_spec.specs.Cluster.{Cluster, after_row, after_rows, step_of}
 use Rattle.cluster_spec.specs.Lawful.{DoNoHarm}
 use Rattle.cluster_spec.specs.Members.{MemberStatus}
 use Rattle.cluster_spec.specs.Members.MemberStatus.{Down, Failed, Up}
-use Rattle.replay_text.specs.declared.row.Row.TheVariants.{AEnd, AOpen, ARx, ASend, ATick, Crash, Ext, Fault, Open, Rx, Send, Tick}
-use Rattle.alloc_spec.specs.Transfers.{Offer, id_of, ident_of}
+use Rattle.alloc_spec.specs.Transfers.{Offer}
 use Rattle.node_discovery.specs.Watch.{next_query}
 use Rattle.cluster_recovery.specs.Calm.{NoneIsLate, Timed, rows_in}
-use Rattle.cluster_calm.specs.Calm.{AreCalm, AreRunning, Device, IsInTime, IsRunning, Member, Party, Traffic, no_traffic, queue_in}
-use Rattle.cluster_calm.specs.CalmExample.{clocks, group, pace}
-use Rattle.cluster_calm.specs.Calls.{Lists}
-use Rattle.calm_leader.specs.CallsComeBack.{HasPlace}
-use Rattle.cluster_calm.specs.Comes.{AreReady, HasMemory, Throughout}
-use Rattle.calm_leader.specs.Entries.{AreInStep, CanExchange, NoCallPends}
-use Rattle.can_frame.specs.declared.step.What.TheVariants.{App, AppQ}
-use Rattle.transfer_rx.specs.Keys.{key_of}
-use Rattle.raft_model.specs.Messages.{Request}
-use Rattle.disk_model.specs.Memory.{nothing_set}
-use Rattle.cluster_calm.specs.Sessions.{Admits, AllAdmit}
-use Rattle.std.proofs.lemmas.Bool.Decides.{eqb_tells}
+use Rattle.cluster_calm.specs.Calm.{AreCalm, Device, IsInTime, Member, Party, Traffic, no_traffic, queue_in, traffic_after}
+use Rattle.cluster_calm.specs.CalmExample.{clocks, group, leading_world, pace, then_world}
+use Rattle.calm_leader.specs.CallsComeBack.{HasPlace, LeadsNotIfUp}
+use Rattle.calm_leader.specs.CallsExample.{long_rows}
+use Rattle.cluster_calm.specs.Comes.{HasMemory, Throughout}
+use Rattle.calm_leader.specs.Entries.{calls_left}
 use Rattle.cluster_calm.specs.CallsInTime.{OffersCall}
-use Rattle.calm_leader.specs.EntriesExample.{clock_rows, led_world}
+use Rattle.calm_leader.specs.EntriesExample.{clock_rows, led_rows, won_rows, won_world}
 use Rattle.calm_leader.specs.LeadsOn.{FollowsWithin, IsLed}
 use Rattle.calm_leader.specs.NoElection.{CallsFit}
-use Rattle.cluster_calm.proofs.Pair.{same_event, same_stepper}
 
 abbrev up_at : (AllocatorState → Bool) → MemberStatus → Bool
 up_at test Down = false
@@ -158,116 +148,36 @@ led_at (x ∷ early) late (timed ∷ rest) w split e =
     (led_at early late rest (after_row w timed.row) (ap (λ (l : List Timed). drop 1 l) split)
     (and_right (led_test w) (all_led (after_row w timed.row) rest) e))
 
--- ---- nobody offers anything
+-- ---- each call finds room
 
-abbrev quiet_at : Cluster → Row → Bool
-quiet_at w (Tick k ms word) = up_at (λ s. is_nil (step s (w.rows + 1) (tick_of ms word)).step_state.offers) (w.member k).status
-quiet_at w (ATick a ms word) = true
-quiet_at w row = false
+abbrev all_fit : List Offer → Bool
+all_fit [] = true
+all_fit (offer ∷ offers) = offer.fitted && all_fit offers
 
-quiet_is : (w : Cluster) (row : Row) → quiet_at w row ≡ true → (m : ℕ) → OffersCall 1 m w row → ⊥
-quiet_is w (Tick k ms word) e m call =
-    let same = same_stepper k 1 (tick_of ms word) call.event call.in_step in
-    let event = same_event k 1 (tick_of ms word) call.event call.in_step in
-    let none = nil_is (step call.server (w.rows + 1) (tick_of ms word)).step_state.offers
-    (every (λ s. is_nil (step s (w.rows + 1) (tick_of ms word)).step_state.offers) (w.member k).status e call.server
-    (ap (λ (j : ℕ). (w.member j).status) same ∙ call.runs)) in
-    subst (λ (l : List Offer). In call.offer l) none (subst (λ (ev : Event). In call.offer (step call.server (w.rows + 1) ev).step_state.offers)
-    (sym event) call.offered)
-quiet_is w (ATick a ms word) e m call = cc (call.in_step)
-quiet_is w (Rx k f ms) e m call = cc e
-quiet_is w (Send k) e m call = cc e
-quiet_is w (ARx a k ms word) e m call = cc e
-quiet_is w (ASend a) e m call = cc e
-quiet_is w (Open k told ms word) e m call = cc e
-quiet_is w (Ext frame) e m call = cc e
-quiet_is w (Crash k calls pattern) e m call = cc e
-quiet_is w (Fault k call_number) e m call = cc e
-quiet_is w (AOpen a uid pref ms word) e m call = cc e
-quiet_is w (AEnd a) e m call = cc e
+fits_in : (offers : List Offer) → all_fit offers ≡ true → (offer : Offer) → In offer offers → offer.fitted ≡ true
+fits_in [] e offer i = absurd i
+fits_in (other ∷ offers) e offer (inl same) = ap (λ (o : Offer). o.fitted) same ∙ and_left other.fitted (all_fit offers) e
+fits_in (other ∷ offers) e offer (inr i) = fits_in offers (and_right other.fitted (all_fit offers) e) offer i
 
-abbrev all_quiet : Cluster → List Timed → Bool
-all_quiet w [] = true
-all_quiet w (timed ∷ rest) = quiet_at w timed.row && all_quiet (after_row w timed.row) rest
+abbrev fit_then : Cluster → Option (ℕ × Event) → Bool
+fit_then w None = true
+fit_then w (Some (k, event)) = if k == 1 then up_at (λ s. all_fit (step s (w.rows + 1) event).step_state.offers) (w.member 1).status else true
 
-fit_is : (list : List Timed) (w : Cluster) → all_quiet w list ≡ true → CallsFit 1 w list
+fit_at : (w : Cluster) (row : Row) → fit_then w (step_of w row) ≡ true → (m : ℕ) (call : OffersCall 1 m w row) → call.offer.fitted ≡ true
+fit_at w row e m call = fits_in (step call.server (w.rows + 1) call.event).step_state.offers
+    (every (λ s. all_fit (step s (w.rows + 1) call.event).step_state.offers) (w.member 1).status
+    (sym (ap (fit_then w) call.in_step) ∙ e) call.server call.runs) call.offer call.offered
+
+abbrev all_calls_fit : Cluster → List Timed → Bool
+all_calls_fit w [] = true
+all_calls_fit w (timed ∷ rest) = fit_then w (step_of w timed.row) && all_calls_fit (after_row w timed.row) rest
+
+fit_is : (list : List Timed) (w : Cluster) → all_calls_fit w list ≡ true → CallsFit 1 w list
 fit_is [] w e = tt
 fit_is (timed ∷ rest) w e = (
-  λ m call. absurd (quiet_is w timed.row (and_left (quiet_at w timed.row) (all_quiet (after_row w timed.row) rest) e) m call),
-  fit_is rest (after_row w timed.row) (and_right (quiet_at w timed.row) (all_quiet (after_row w timed.row) rest) e),
+  fit_at w timed.row (and_left (fit_then w (step_of w timed.row)) (all_calls_fit (after_row w timed.row) rest) e),
+  fit_is rest (after_row w timed.row) (and_right (fit_then w (step_of w timed.row)) (all_calls_fit (after_row w timed.row) rest) e),
 )
-
-led_all : all_led led_world clock_rows ≡ true
-unfolding step all_nodes next_query queued_frames next_out left_behind frames_of frame_step outcome fits_no_payload fits_no_part payload_of delivery_phase session_step session_for wanted identifier_of rows blocks_used bits_of crc_of divide number_of device_step device_rows device_clock
-led_all = refl
-
-quiet_all : all_quiet led_world clock_rows ≡ true
-unfolding step all_nodes next_query queued_frames next_out left_behind frames_of frame_step outcome fits_no_payload fits_no_part payload_of delivery_phase session_step session_for wanted identifier_of rows blocks_used bits_of crc_of divide number_of device_step device_rows device_clock
-quiet_all = refl
-
--- ---- calls and answers can be exchanged
-
-abbrev ids_in : List ℕ → ℕ → Bool
-ids_in [] n = false
-ids_in (x ∷ xs) n = (n == x) || ids_in xs n
-
-in_ids : (xs : List ℕ) (n : ℕ) → ids_in xs n ≡ true → In n xs
-in_ids [] n e = absurd (cc e)
-in_ids (x ∷ xs) n e = elim (eqb_tells n x) [
-  | inl z ↦ inl z.1
-  | inr z ↦ inr (in_ids xs n (sym (ap (λ (b : Bool). b || ids_in xs n) z.0) ∙ e))
-]
-
-lists_is : (m node : ℕ) (w : Cluster) → up_at (λ s. ids_in (members_of s) node) (w.member m).status ≡ true → Lists m node w
-lists_is m node w e server up = in_ids (members_of server) node (every (λ s. ids_in (members_of s) node) (w.member m).status e server up)
-
--- in each session of this data type a transfer with this ID may begin
-abbrev admits_all : ℕ → ℕ → List Session → Bool
-admits_all number id [] = true
-admits_all number id (s ∷ sessions) = (((s.expected == id) && (is_nil s.taken && is_nil s.marks)) || not
-    (s.key.number == number)) && admits_all number id sessions
-
-admits_is : (now : ℕ) (key : Key) (id : ℕ) (sessions : List Session) → admits_all key.number id sessions ≡ true → AllAdmit now key id sessions
-admits_is now key id [] e = tt
-admits_is now key id (s ∷ sessions) e = (
-  λ same recent. first (and_left (((s.expected == id) && (is_nil s.taken && is_nil s.marks)) || not (s.key.number == key.number))
-      (admits_all key.number id sessions) e) same,
-  admits_is now key id sessions (and_right (((s.expected == id) && (is_nil s.taken && is_nil s.marks)) || not (s.key.number == key.number))
-      (admits_all key.number id sessions) e),
-)
-  where
-    first : (((s.expected == id) && (is_nil s.taken && is_nil s.marks)) || not (s.key.number == key.number)) ≡ true → s.key ≡ key → Admits id s
-    first e same = elim (eqb_tells s.key.number key.number) [
-      | inr z ↦ absurd (z.1 (ap (λ (k : Key). k.number) same))
-      | inl z ↦ by (or_false ((s.expected == id) && (is_nil s.taken && is_nil s.marks)) (not (s.key.number == key.number)) (ap not z.0) e)
-    ]
-      where
-        or_false : (a b : Bool) → b ≡ false → (a || b) ≡ true → a ≡ true
-        or_false true b f g = refl
-        or_false false b f g = absurd (cc (sym f ∙ g))
-
-        by : ((s.expected == id) && (is_nil s.taken && is_nil s.marks)) ≡ true → Admits id s
-        by f = inl (
-          eq_true s.expected id (and_left (s.expected == id) (is_nil s.taken && is_nil s.marks) f),
-          nil_is s.taken (and_left (is_nil s.taken) (is_nil s.marks) (and_right (s.expected == id) (is_nil s.taken && is_nil s.marks) f)),
-          nil_is s.marks (and_right (is_nil s.taken) (is_nil s.marks) (and_right (s.expected == id) (is_nil s.taken && is_nil s.marks) f)),
-        )
-
-abbrev free_of : ℕ → What → ℕ → AllocatorState → Bool
-free_of n what to s = is_nil (of_identifier (identifier_number (ident_of n what to)) s.queue)
-
-ready_is : (n m : ℕ) (what : What) (to : ℕ) (w : Cluster) → up_at (free_of n what to) (w.member n).status ≡ true
-    → up_at (λ s. true) (w.member m).status ≡ true → AreReady n m what to w
-ready_is n m what to w e f =
-    let sender = found (free_of n what to) (w.member n).status e in
-    let receiver = found (λ s. true) (w.member m).status f in
-    record {
-      sender = sender.server;
-      sends = sender.runs;
-      none_waits = nil_is (of_identifier (identifier_number (ident_of n what to)) sender.server.queue) sender.passes;
-      receiver = receiver.server;
-      receives = receiver.runs;
-    }
 
 -- ---- memory and places
 
@@ -300,128 +210,96 @@ has_place s = nat_lt (length s.queue) 32
 place_is : (n : ℕ) (w : Cluster) → up_at has_place (w.member n).status ≡ true → HasPlace n w
 place_is n w passes server up = lt_true (length server.queue) 32 (every has_place (w.member n).status passes server up)
 
--- ---- what the leader knows
-
-abbrev is_none : Option Request → Bool
-is_none None = true
-is_none (Some request) = false
-
-none_is : (p : Option Request) → is_none p ≡ true → p ≡ None
-none_is None e = refl
-none_is (Some request) e = absurd (cc e)
-
-abbrev knows_all : AllocatorState → Bool
-knows_all s = nat_le (s.raft_server.memory.next 2) (s.raft_server.memory.matched 2 + 1)
-    && (is_none (s.raft_server.memory.pending 2) && nat_le (length s.raft_server.store.log) (s.raft_server.memory.matched 2 + 0))
-
 -- ---- the tests pass
 
-pub exchange_calls : AreReady 1 2 AppQ 2 led_world
-unfolding step all_nodes next_query queued_frames next_out left_behind frames_of frame_step outcome fits_no_payload fits_no_part payload_of delivery_phase session_step session_for wanted identifier_of rows blocks_used bits_of crc_of divide number_of device_step device_rows device_clock
-exchange_calls = ready_is 1 2 AppQ 2 led_world refl refl
+-- the world in which the last rows begin
+abbrev pub clock_world : Cluster
+clock_world = after_rows then_world (rows_in long_rows)
 
-pub exchange_answers : AreReady 2 1 App 1 led_world
-unfolding step all_nodes next_query queued_frames next_out left_behind frames_of frame_step outcome fits_no_payload fits_no_part payload_of delivery_phase session_step session_for wanted identifier_of rows blocks_used bits_of crc_of divide number_of device_step device_rows device_clock
-exchange_answers = ready_is 2 1 App 1 led_world refl refl
-
-call_admitted : admits_all 30 (id_of exchange_calls.sender.ids AppQ 2) exchange_calls.receiver.sessions ≡ true
-unfolding step all_nodes next_query queued_frames next_out left_behind frames_of frame_step outcome fits_no_payload fits_no_part payload_of delivery_phase session_step session_for wanted identifier_of rows blocks_used bits_of crc_of divide number_of device_step device_rows device_clock exchange_calls ready_is found
-call_admitted = refl
-
-answer_admitted : admits_all 30 (id_of exchange_calls.sender.ids AppQ 2) exchange_answers.receiver.sessions ≡ true
-unfolding step all_nodes next_query queued_frames next_out left_behind frames_of frame_step outcome fits_no_payload fits_no_part payload_of delivery_phase session_step session_for wanted identifier_of rows blocks_used bits_of crc_of divide number_of device_step device_rows device_clock exchange_calls exchange_answers ready_is found
-answer_admitted = refl
-
-lists_two : up_at (λ s. ids_in (members_of s) 2) (led_world.member 1).status ≡ true
-unfolding step all_nodes next_query queued_frames next_out left_behind frames_of frame_step outcome fits_no_payload fits_no_part payload_of delivery_phase session_step session_for wanted identifier_of rows blocks_used bits_of crc_of divide number_of device_step device_rows device_clock
-lists_two = refl
-
-lists_one : up_at (λ s. ids_in (members_of s) 1) (led_world.member 2).status ≡ true
-unfolding step all_nodes next_query queued_frames next_out left_behind frames_of frame_step outcome fits_no_payload fits_no_part payload_of delivery_phase session_step session_for wanted identifier_of rows blocks_used bits_of crc_of divide number_of device_step device_rows device_clock
-lists_one = refl
-
-memory_one : all_up has_memory 1 led_world clock_rows ≡ true
+memory_one : all_up has_memory 1 clock_world clock_rows ≡ true
 unfolding step all_nodes next_query queued_frames next_out left_behind frames_of frame_step outcome fits_no_payload fits_no_part payload_of delivery_phase session_step session_for wanted identifier_of rows blocks_used bits_of crc_of divide number_of device_step device_rows device_clock
 memory_one = refl
 
-memory_two : all_up has_memory 2 led_world clock_rows ≡ true
+memory_two : all_up has_memory 2 clock_world clock_rows ≡ true
 unfolding step all_nodes next_query queued_frames next_out left_behind frames_of frame_step outcome fits_no_payload fits_no_part payload_of delivery_phase session_step session_for wanted identifier_of rows blocks_used bits_of crc_of divide number_of device_step device_rows device_clock
 memory_two = refl
 
-places_two : all_up has_place 2 led_world clock_rows ≡ true
+places_two : all_up has_place 2 clock_world clock_rows ≡ true
 unfolding step all_nodes next_query queued_frames next_out left_behind frames_of frame_step outcome fits_no_payload fits_no_part payload_of delivery_phase session_step session_for wanted identifier_of rows blocks_used bits_of crc_of divide number_of device_step device_rows device_clock
 places_two = refl
 
-known : up_at knows_all (led_world.member 1).status ≡ true
+led_all : all_led won_world led_rows ≡ true
 unfolding step all_nodes next_query queued_frames next_out left_behind frames_of frame_step outcome fits_no_payload fits_no_part payload_of delivery_phase session_step session_for wanted identifier_of rows blocks_used bits_of crc_of divide number_of device_step device_rows device_clock
-known = refl
+led_all = refl
 
-pub can_exchange : CanExchange 1 2 led_world clock_rows
-can_exchange = record {
-  calls_it = lists_is 1 2 led_world lists_two;
-  hears_it = lists_is 2 1 led_world lists_one;
-  calls = exchange_calls;
-  first_call = admits_is exchange_calls.receiver.now (key_of (ident_of 1 AppQ 2))
-      (id_of exchange_calls.sender.ids AppQ 2) exchange_calls.receiver.sessions call_admitted;
-  answers = exchange_answers;
-  first_answer = admits_is exchange_answers.receiver.now (key_of (ident_of 2 App 1))
-      (id_of exchange_calls.sender.ids AppQ 2) exchange_answers.receiver.sessions answer_admitted;
-  memory = throughout has_memory 1 (HasMemory 1) (memory_is 1) clock_rows led_world memory_one;
-  its_memory = throughout has_memory 2 (HasMemory 2) (memory_is 2) clock_rows led_world memory_two;
-  place = throughout has_place 2 (HasPlace 2) (place_is 2) clock_rows led_world places_two;
-}
-
-pub led : (early late : List Timed) → clock_rows ≡ early ++ late → IsLed group 1 1 (after_rows led_world (rows_in early))
-led early late split = led_at early late clock_rows led_world split led_all
-
-pub fit : CallsFit 1 led_world clock_rows
-fit = fit_is clock_rows led_world quiet_all
-
-pub in_step : AreInStep 1 2 led_world
-in_step leader up = le_true (leader.raft_server.memory.next 2) (leader.raft_server.memory.matched 2 + 1)
-    (and_left (nat_le (leader.raft_server.memory.next 2) (leader.raft_server.memory.matched 2 + 1))
-    (is_none (leader.raft_server.memory.pending 2) && nat_le (length leader.raft_server.store.log) (leader.raft_server.memory.matched 2 + 0))
-    (every knows_all (led_world.member 1).status known leader up))
-
-pub none_pends : NoCallPends 1 2 led_world
-none_pends leader up = none_is (leader.raft_server.memory.pending 2)
-    (and_left (is_none (leader.raft_server.memory.pending 2)) (nat_le (length leader.raft_server.store.log) (leader.raft_server.memory.matched 2 + 0))
-    (and_right (nat_le (leader.raft_server.memory.next 2) (leader.raft_server.memory.matched 2 + 1))
-    (is_none (leader.raft_server.memory.pending 2) && nat_le (length leader.raft_server.store.log) (leader.raft_server.memory.matched 2 + 0))
-    (every knows_all (led_world.member 1).status known leader up)))
-
-pub few : (leader : AllocatorState) → (led_world.member 1).status ≡ Up leader → length leader.raft_server.store.log ≤ leader.raft_server.memory.matched 2 + 0
-few leader up = le_true (length leader.raft_server.store.log) (leader.raft_server.memory.matched 2 + 0)
-    (and_right (is_none (leader.raft_server.memory.pending 2)) (nat_le (length leader.raft_server.store.log) (leader.raft_server.memory.matched 2 + 0))
-    (and_right (nat_le (leader.raft_server.memory.next 2) (leader.raft_server.memory.matched 2 + 1))
-    (is_none (leader.raft_server.memory.pending 2) && nat_le (length leader.raft_server.store.log) (leader.raft_server.memory.matched 2 + 0))
-    (every knows_all (led_world.member 1).status known leader up)))
-
--- ---- the rows are calm, and do no harm
-
-disk_one : (led_world.member 1).disk.calls ≡ nothing_set 0
+led_last : all_led clock_world clock_rows ≡ true
 unfolding step all_nodes next_query queued_frames next_out left_behind frames_of frame_step outcome fits_no_payload fits_no_part payload_of delivery_phase session_step session_for wanted identifier_of rows blocks_used bits_of crc_of divide number_of device_step device_rows device_clock
-disk_one = refl
+led_last = refl
 
-disk_two : (led_world.member 2).disk.calls ≡ nothing_set 0
+fit_all : all_calls_fit then_world (won_rows ++ led_rows) ≡ true
 unfolding step all_nodes next_query queued_frames next_out left_behind frames_of frame_step outcome fits_no_payload fits_no_part payload_of delivery_phase session_step session_for wanted identifier_of rows blocks_used bits_of crc_of divide number_of device_step device_rows device_clock
-disk_two = refl
+fit_all = refl
 
-led_now : led_test led_world ≡ true
+abbrev not_leading : AllocatorState → Bool
+not_leading s = not (is_leader s.raft_server.memory.role)
+
+not_yet : (w : Cluster) → up_at not_leading (w.member 1).status ≡ true → LeadsNotIfUp 1 w
+not_yet w e server up leads = cc (sym (every not_leading (w.member 1).status e server up) ∙ ap (λ (r : Role). not (is_leader r)) leads)
+
+not_first : up_at not_leading (then_world.member 1).status ≡ true
 unfolding step all_nodes next_query queued_frames next_out left_behind frames_of frame_step outcome fits_no_payload fits_no_part payload_of delivery_phase session_step session_for wanted identifier_of rows blocks_used bits_of crc_of divide number_of device_step device_rows device_clock
-led_now = refl
+not_first = refl
 
-pub running : AreRunning group led_world
-running n (inl i) = subst (λ (k : ℕ). IsRunning k led_world) (sym (ap number_in i))
-    (let f = found leader_test (led_world.member 1).status (and_left (up_at leader_test (led_world.member 1).status)
-    (up_at follower_test (led_world.member 2).status) led_now) in
-    record { server = f.server; runs = f.runs; faults = 0; disk = disk_one })
-running n (inr (inl i)) = subst (λ (k : ℕ). IsRunning k led_world) (sym (ap number_in i))
-    (let f = found follower_test (led_world.member 2).status (and_right (up_at leader_test (led_world.member 1).status)
-    (up_at follower_test (led_world.member 2).status) led_now) in
-    record { server = f.server; runs = f.runs; faults = 0; disk = disk_two })
-running n (inr (inr (inl i))) = absurd (cc i)
-running n (inr (inr (inr i))) = absurd i
+not_before : up_at not_leading (leading_world.member 1).status ≡ true
+unfolding step all_nodes next_query queued_frames next_out left_behind frames_of frame_step outcome fits_no_payload fits_no_part payload_of delivery_phase session_step session_for wanted identifier_of rows blocks_used bits_of crc_of divide number_of device_step device_rows device_clock
+not_before = refl
+
+abbrev none_left : AllocatorState → Bool
+none_left s = nat_le (calls_left s 2) 0
+
+few_left : up_at none_left (won_world.member 1).status ≡ true
+unfolding step all_nodes next_query queued_frames next_out left_behind frames_of frame_step outcome fits_no_payload fits_no_part payload_of delivery_phase session_step session_for wanted identifier_of rows blocks_used bits_of crc_of divide number_of device_step device_rows device_clock
+few_left = refl
+
+-- ---- what is asked
+
+pub leads_not : LeadsNotIfUp 1 then_world
+leads_not = not_yet then_world not_first
+
+pub leads_not_yet : LeadsNotIfUp 1 leading_world
+leads_not_yet = not_yet leading_world not_before
+
+pub led : (early late : List Timed) → led_rows ≡ early ++ late → IsLed group 1 1 (after_rows won_world (rows_in early))
+led early late split = led_at early late led_rows won_world split led_all
+
+pub led_at_last : (early late : List Timed) → clock_rows ≡ early ++ late → IsLed group 1 1 (after_rows clock_world (rows_in early))
+led_at_last early late split = led_at early late clock_rows clock_world split led_last
+
+pub fit : CallsFit 1 then_world (won_rows ++ led_rows)
+fit = fit_is (won_rows ++ led_rows) then_world fit_all
+
+pub few : (leader : AllocatorState) → (won_world.member 1).status ≡ Up leader → calls_left leader 2 ≤ 0
+few leader up = le_true (calls_left leader 2) 0 (every none_left (won_world.member 1).status few_left leader up)
+
+pub memory : Throughout (HasMemory 1) clock_world clock_rows
+memory = throughout has_memory 1 (HasMemory 1) (memory_is 1) clock_rows clock_world memory_one
+
+pub its_memory : Throughout (HasMemory 2) clock_world clock_rows
+its_memory = throughout has_memory 2 (HasMemory 2) (memory_is 2) clock_rows clock_world memory_two
+
+pub place : Throughout (HasPlace 2) clock_world clock_rows
+place = throughout has_place 2 (HasPlace 2) (place_is 2) clock_rows clock_world places_two
+
+-- ---- calm rows behind others
+
+abbrev traffic_then : Traffic → Cluster → List Timed → Traffic
+traffic_then traffic w [] = traffic
+traffic_then traffic w (timed ∷ rest) = traffic_then (traffic_after traffic w timed) (after_row w timed.row) rest
+
+calm_both : (xs ys : List Timed) (traffic : Traffic) (w : Cluster) → AreCalm group clocks pace traffic w xs
+    → AreCalm group clocks pace (traffic_then traffic w xs) (after_rows w (rows_in xs)) ys → AreCalm group clocks pace traffic w (xs ++ ys)
+calm_both [] ys traffic w first second = second
+calm_both (timed ∷ xs) ys traffic w first second = (first.0, first.1, calm_both xs ys (traffic_after traffic w timed) (after_row w timed.row) first.2 second)
 
 of_each : (Holds : Party → Type 0) → Holds (Member 1) → Holds (Member 2) → Holds (Device 1) → (party : Party) → In party group → Holds party
 of_each Holds first second device party (inl e) = subst Holds (sym e) first
@@ -442,25 +320,25 @@ in_time traffic w at moments one second device one_empty two_empty device_empty 
   hears = of_each (λ party. NoneIsLate at 10 (traffic.to party)) one_hears two_hears device_hears;
 }
 
-pub calm : AreCalm group clocks pace (no_traffic 2056) led_world clock_rows
+clock_calm : AreCalm group clocks pace (traffic_then (no_traffic 1990) then_world long_rows) clock_world clock_rows
 unfolding step all_nodes next_query queued_frames next_out left_behind frames_of frame_step outcome fits_no_payload fits_no_part payload_of delivery_phase session_step session_for wanted identifier_of rows blocks_used bits_of crc_of divide number_of device_step device_rows device_clock
-calm = (
-  in_time _ _ 2106 (omega arith) (omega arith) (omega arith) (omega arith) refl refl refl tt tt tt,
+clock_calm = (
+  in_time _ _ 2090 (omega arith) (omega arith) (omega arith) (omega arith) refl refl refl tt tt tt,
   (inl refl, refl),
   (
-    in_time _ _ 2106 (omega arith) (omega arith) (omega arith) (omega arith) refl refl refl tt tt tt,
+    in_time _ _ 2090 (omega arith) (omega arith) (omega arith) (omega arith) refl refl refl tt tt tt,
     (inr (inl refl), refl),
     (
-      in_time _ _ 2106 (omega arith) (omega arith) (omega arith) (omega arith) refl refl refl tt tt tt,
+      in_time _ _ 2090 (omega arith) (omega arith) (omega arith) (omega arith) refl refl refl tt tt tt,
       (inr (inr (inl refl)), refl),
       (
-        in_time _ _ 2157 (omega arith) (omega arith) (omega arith) (omega arith) refl refl refl tt tt tt,
+        in_time _ _ 2140 (omega arith) (omega arith) (omega arith) (omega arith) refl refl refl tt tt tt,
         (inl refl, refl),
         (
-          in_time _ _ 2157 (omega arith) (omega arith) (omega arith) (omega arith) refl refl refl tt tt tt,
+          in_time _ _ 2140 (omega arith) (omega arith) (omega arith) (omega arith) refl refl refl tt tt tt,
           (inr (inl refl), refl),
           (
-            in_time _ _ 2157 (omega arith) (omega arith) (omega arith) (omega arith) refl refl refl tt tt tt,
+            in_time _ _ 2140 (omega arith) (omega arith) (omega arith) (omega arith) refl refl refl tt tt tt,
             (inr (inr (inl refl)), refl),
             tt,
           ),
@@ -470,6 +348,9 @@ calm = (
   ),
 )
 
-pub harmless : DoNoHarm led_world (rows_in clock_rows)
+pub calm : AreCalm group clocks pace (no_traffic 1990) then_world long_rows → AreCalm group clocks pace (no_traffic 1990) then_world (long_rows ++ clock_rows)
+calm first = calm_both long_rows clock_rows (no_traffic 1990) then_world first clock_calm
+
+pub harmless : DoNoHarm clock_world (rows_in clock_rows)
 unfolding step all_nodes next_query queued_frames next_out left_behind frames_of frame_step outcome fits_no_payload fits_no_part payload_of delivery_phase session_step session_for wanted identifier_of rows blocks_used bits_of crc_of divide number_of device_step device_rows device_clock
 harmless = (inl refl, (inl refl, (inl refl, (inl refl, (inl refl, (inl refl, tt))))))

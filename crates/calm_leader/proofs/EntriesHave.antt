@@ -1,5 +1,5 @@
 -- What a leader knows a member to have the member has; and where a calm begins, what the run says of a leader.
-use Rattle.std.proofs.Common.{◌≡◌, ℕ, ◌≤◌, Bool, List, ◌∙◌, ap, subst, arith}
+use Rattle.std.proofs.Common.{◌≡◌, ℕ, ◌+◌, ◌≤◌, Bool, List, length, ◌∙◌, ap, subst, arith}
 use Rattle.raft_model.specs.Fit.{IsFit}
 use Rattle.raft_model.specs.Invariants.{Invariants}
 use Rattle.raft_model.specs.Lists.{In}
@@ -12,7 +12,7 @@ use Rattle.cluster_agreement.specs.LawsBelow.{CodecLaws}
 use Rattle.cluster_agreement.specs.Shows.{Shows}
 use Rattle.cluster_progress.specs.CatchingUp.{AreJoined, two_of}
 use Rattle.cluster_progress.proofs.InRuns.{joined_in}
-use Rattle.calm_leader.specs.EntriesBelow.{AppendsPend, CallsFromOne, HasWhatIsKnown}
+use Rattle.calm_leader.specs.EntriesBelow.{AppendsPend, CallsInside, HasWhatIsKnown, PendingCallsArePast}
 use Rattle.calm_leader.proofs.EntriesJudged.{run_up}
 use Rattle.cluster_spec.specs.Cluster.{Cluster}
 use Rattle.cluster_spec.specs.Members.MemberStatus.{Up}
@@ -37,10 +37,19 @@ module _ (choice : ℕ → Bool) (made : List SentTransfer) (w : Cluster) (run :
       joined = joined_in run inv n m (fit n) other (ap (λ (s : RaftServer). s.memory.role) here ∙ leads)
           (let a = ap (λ (s : RaftServer). s.store.term) here in let b = ap (λ (s : RaftServer). s.store.term) there in omega (arith, low, a, b))
 
-  pub from_one : CallsFromOne w.ids w
-  from_one n m leader in_n up leads =
+  pub inside : CallsInside w.ids w
+  inside n m leader in_n up leads =
       let here = server_of n leader in_n up in
-      subst (λ (s : RaftServer). 1 ≤ s.memory.next m) here ((fit n).peers (ap (λ (s : RaftServer). s.memory.role) here ∙ leads) m).least
+      subst (λ (s : RaftServer). (1 ≤ s.memory.next m) × (s.memory.next m ≤ length s.store.log + 1)) here
+      (let its = (fit n).peers (ap (λ (s : RaftServer). s.memory.role) here ∙ leads) m in (its.least, its.most))
+
+  -- a call that pends was made in a row that is past
+  pub past : PendingCallsArePast w.ids w
+  past n m server request in_n up pends =
+      let called = ((run_up codec choice made w run shows n server in_n up).works.called m request pends).2 in
+      let then = shows.past called.call called.was_made in
+      let same = called.step in
+      omega (arith, then, same)
 
   pub appends_pend : AppendsPend w.ids w
   appends_pend n m leader request in_n up leads pends =

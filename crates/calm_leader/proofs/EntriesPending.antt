@@ -1,11 +1,13 @@
--- A call that pends in a calm, to a peer to which none did when it began, was made in one of its rows, and pends since.
-use Rattle.std.proofs.Common.{◌≡◌, ℕ, ◌+◌, Bool, true, List, [], ◌∷◌, ◌++◌, append_assoc, append-nil, refl, sym, ◌∙◌, ap, subst, inl, inr, Option, Some}
-use Rattle.std.specs.Prelude.{if◌then◌else◌}
+-- A call that pends in a calm, and was made in it, was made in one of its rows by a leader, and pends since; by then the
+-- leader knows of the peer what it knew.
+use Rattle.std.proofs.Common.{◌≡◌, ℕ, ◌+◌, ◌<◌, ◌≤◌, Bool, true, List, [], ◌∷◌, ◌++◌, drop, length, length-append, append_assoc, append-nil, refl, sym, ◌∙◌, ap, subst, inl, inr, arith, Option, Some}
+use Rattle.std.specs.Prelude.{⊤, ◌⊎◌, if◌then◌else◌, slice_index_or}
 use Rattle.can_frame.specs.declared.step.What.TheVariants.{AppQ, VoteQ}
 use Rattle.dsdl_codec.specs.declared.append_request.AppendRequest.{AppendRequest}
 use Rattle.raft_core.specs.Handled as handled
 use Rattle.raft_model.specs.Messages.{Message, Request}
 use Rattle.raft_model.specs.Messages.Message.{Requests}
+use Rattle.raft_model.specs.Server.{RaftServer}
 use Rattle.replay_text.specs.declared.row.Row.{Row}
 use Rattle.alloc_spec.specs.AllocatorState.{AllocatorState}
 use Rattle.alloc_spec.specs.Step.{Event, step}
@@ -16,14 +18,17 @@ use Rattle.cluster_recovery.specs.Calm.{Pace, Timed, rows_in}
 use Rattle.cluster_recovery.proofs.Goes.{after_both}
 use Rattle.cluster_calm.specs.Calls.{Calls, ReadsAsSaid}
 use Rattle.cluster_calm.specs.Calm.{IsRunning, Party}
-use Rattle.cluster_calm.specs.Comes.{Sends, Throughout, sent_by}
-use Rattle.calm_leader.specs.Entries.{NoCallPends}
+use Rattle.cluster_calm.specs.Comes.{Sends, sent_by}
+use Rattle.calm_leader.specs.CallsComeBack.{LeadsIfUp}
+use Rattle.calm_leader.specs.Entries.{PendsSince}
 use Rattle.cluster_calm.proofs.Calls.{Goes}
-use Rattle.calm_leader.specs.CallsAsk.{next_request}
-use Rattle.calm_leader.specs.EntriesBelow.{AppendsPend, EntryLaws}
-use Rattle.calm_leader.proofs.EntriesRows.{AtLeader, IsLedCalm, cut_more, goes_at, here, leads_at, row_of}
+use Rattle.calm_leader.specs.CallsAsk.{AsksNext, next_request}
+use Rattle.calm_leader.specs.EntriesBelow.{AppendsPend, CallsInside, EntryLaws}
+use Rattle.calm_leader.proofs.EntriesHold.{holds_on}
+use Rattle.calm_leader.proofs.EntriesParts.{rows_counted}
+use Rattle.calm_leader.proofs.EntriesRows.{AtLeader, IsLedCalm, cut_more, goes_at, here, lead_here, row_of}
 use Rattle.cluster_calm.proofs.Pair.{same_server}
-use Rattle.calm_leader.proofs.Stretches.{rows_both, throughout_more, world_both}
+use Rattle.calm_leader.proofs.Stretches.{rows_both}
 use Rattle.cluster_spec.specs.Cluster.{Cluster, cluster, step_of, world_of}
 use Rattle.cluster_spec.specs.Lawful.{DoNoHarm, DoesNoHarm}
 use Rattle.cluster_spec.specs.Members.MemberStatus.{Up}
@@ -33,6 +38,23 @@ one_request a b e = cc (e)
 
 its_request : (a b : Request) → Some a ≡ Some b → a ≡ b
 its_request a b e = cc (e)
+
+-- no rows have no first part
+no_first : (c d : List Timed) → [] ≡ c ++ d → c ≡ []
+no_first [] d e = refl
+no_first (y ∷ c) d e = absurd (cc e)
+
+-- where one row more is cut, the first part is one of the first rows, or all of them
+pub prefix_more : (xs c d : List Timed) (x : Timed) → xs ++ x ∷ [] ≡ c ++ d → ((tail : List Timed) × (xs ≡ c ++ tail)) ⊎ (c ≡ xs ++ x ∷ [])
+prefix_more [] [] d x e = inl ([], refl)
+prefix_more [] (y ∷ c) d x e = inr (λ i. sym (ap (λ (l : List Timed). slice_index_or l 0 x) e) i ∷ no_first c d (ap (λ (l : List Timed). drop 1 l) e) i)
+prefix_more (z ∷ xs) [] d x e = inl (z ∷ xs, refl)
+prefix_more (z ∷ xs) (y ∷ c) d x e =
+    let first : z ≡ y = ap (λ (l : List Timed). slice_index_or l 0 x) e in
+    elim (prefix_more xs c d x (ap (λ (l : List Timed). drop 1 l) e)) [
+      | inl k ↦ inl (k.0, λ i. first i ∷ k.1 i)
+      | inr k ↦ inr (λ i. sym first i ∷ k i)
+    ]
 
 -- calls read as said in this world
 abbrev CallsReadIn : Cluster → Type 0
@@ -51,6 +73,10 @@ module _ (ids : List ℕ) (rows : List Row) (laws : EntryLaws ids rows) (group :
   abbrev pub AtN : (AllocatorState → Type 0) → List Timed → Type 0
   AtN = AtLeader ids rows laws group clocks pace start n term whole calm
 
+  -- the world behind all rows up to a front
+  pub world_at : (a : List Timed) → world_of ids (rows ++ rows_in a) ≡ at a
+  world_at a = after_both (cluster ids) rows (rows_in a)
+
   -- the rows of a front, and the next one, do no harm
   pub harmless_at : (a b : List Timed) (x : Timed) → whole ≡ a ++ x ∷ b → DoNoHarm w (rows_in a) × DoesNoHarm (at a) x.row
   harmless_at a b x cut = (first_harmless w (rows_in a) (rows_in (x ∷ b)) harm, row_harmless w (rows_in a) (rows_in b) x.row harm)
@@ -58,44 +84,57 @@ module _ (ids : List ℕ) (rows : List Row) (laws : EntryLaws ids rows) (group :
       harm : DoNoHarm w (rows_in a ++ rows_in (x ∷ b))
       harm = subst (DoNoHarm w) (ap rows_in cut ∙ rows_both a (x ∷ b)) calm.harmless
 
+  -- where the member leads, each of its calls that pends is an append request
+  pub appends_at : (m : ℕ) (a b : List Timed) → whole ≡ a ++ b → LeadsIfUp n term (at a)
+      → AtN (λ t. (asked : Request) → t.raft_server.memory.pending m ≡ Some asked → asked.append ≡ true) a
+  appends_at m a b cut leads t up asked pends = subst (AppendsPend ids) (world_at a)
+      (laws.appends (rows_in a) (first_harmless w (rows_in a) (rows_in b) (subst (DoNoHarm w) (ap rows_in cut ∙ rows_both a b) calm.harmless)))
+      n m t asked (calm.listed n calm.member) up (leads t up).0 pends
+
+  -- so it calls the peer next at a place of its log, or just behind them
+  pub inside_at : (m : ℕ) (a b : List Timed) → whole ≡ a ++ b → LeadsIfUp n term (at a)
+      → AtN (λ t. (1 ≤ t.raft_server.memory.next m) × (t.raft_server.memory.next m ≤ length t.raft_server.store.log + 1)) a
+  inside_at m a b cut leads t up = subst (CallsInside ids) (world_at a)
+      (laws.inside (rows_in a) (first_harmless w (rows_in a) (rows_in b) (subst (DoNoHarm w) (ap rows_in cut ∙ rows_both a b) calm.harmless)))
+      n m t (calm.listed n calm.member) up (leads t up).0
+
   module _ (m : ℕ) where
-    -- in this row behind a front the leader calls the peer, as it owes it when the step is over
+    -- in this row behind a front the member calls the peer, as it owes it when the step is over, and leads then
     pub record MakesCall (a : List Timed) (x : Timed) (asked : Request) : Type 0 where
       pub offer : Offer
       pub request : AppendRequest
       pub calls : Calls n m (at a) x.row offer request
       pub said : asked ≡ handled.append_request_of request ((at a).rows + 1) n m
       pub owed : AtN (λ t. asked ≡ next_request m ((at a).rows + 1) t) (a ++ x ∷ [])
+      pub leading : LeadsIfUp n term (at (a ++ x ∷ []))
 
     makes_call : (a b : List Timed) (x : Timed) → whole ≡ a ++ x ∷ b → (t after : AllocatorState) → ((at a).member n).status ≡ Up t
         → ((at (a ++ x ∷ [])).member n).status ≡ Up after → (event : Event) → step_of (at a) x.row ≡ Some (n, event)
-        → after ≡ (step t ((at a).rows + 1) event).step_state.allocator → (asked : Request) → after.raft_server.memory.pending m ≡ Some asked
+        → after ≡ (step t ((at a).rows + 1) event).step_state.allocator → (asked : Request) → asked.append ≡ true
+        → after.raft_server.memory.pending m ≡ Some asked
         → IsCalled ((at a).rows + 1) (step t ((at a).rows + 1) event).step_state m asked → MakesCall a x asked
-    makes_call a b x cut t after up then_up event in_step is asked pends called = record {
+    makes_call a b x cut t after up then_up event in_step is asked append pends called = record {
       offer = called.offer;
       request = reads.request;
       calls = record { sends = sends; what = what; to = called.to; says = reads.read };
       said = one_request asked _ (sym called.says ∙ (reads.said ∙ ap
           (λ (to : ℕ). Some (Requests (handled.append_request_of reads.request ((at a).rows + 1) n to))) called.to));
       owed = λ later later_up. owed ∙ ap (next_request m ((at a).rows + 1)) (sym is ∙ same_server after later (sym then_up ∙ later_up));
+      leading = lead_here ids rows laws group clocks pace start n term whole calm (a ++ x ∷ []) b cut_then after then_up
+          (ap (λ (u : AllocatorState). u.raft_server.memory.role) is ∙ asks.leads);
     }
       where
         cut_then : whole ≡ (a ++ x ∷ []) ++ b
         cut_then = cut_more ids rows laws group clocks pace start n term whole calm a b x cut
 
-        append : asked.append ≡ true
-        append = subst (AppendsPend ids) (after_both (cluster ids) rows (rows_in (a ++ x ∷ [])))
-            (laws.appends (rows_in (a ++ x ∷ [])) (first_harmless w (rows_in (a ++ x ∷ [])) (rows_in b)
-            (subst (DoNoHarm w) (ap rows_in cut_then ∙ rows_both (a ++ x ∷ []) b) calm.harmless)))
-            n m after asked (calm.listed n calm.member) then_up (leads_at ids rows laws group clocks pace start n term whole calm
-            (a ++ x ∷ []) b cut_then after then_up).0 pends
-
         what : called.offer.what ≡ AppQ
         what = called.what ∙ ap (λ (b : Bool). if b then AppQ else VoteQ) append
 
+        asks : AsksNext m ((at a).rows + 1) called.offer (step t ((at a).rows + 1) event).step_state.allocator
+        asks = laws.ask t ((at a).rows + 1) event m called.offer called.offered what called.to called.fitted
+
         owed : asked ≡ next_request m ((at a).rows + 1) (step t ((at a).rows + 1) event).step_state.allocator
-        owed = its_request asked _ (sym pends ∙ (ap (λ (u : AllocatorState). u.raft_server.memory.pending m) is
-            ∙ (laws.ask t ((at a).rows + 1) event m called.offer called.offered what called.to called.fitted).pending))
+        owed = its_request asked _ (sym pends ∙ (ap (λ (u : AllocatorState). u.raft_server.memory.pending m) is ∙ asks.pending))
 
         sends : Sends n (at a) x.row called.offer
         sends = record { server = t; runs = up; event = event; in_step = in_step; offered = called.offered; fitted = called.fitted }
@@ -107,68 +146,121 @@ module _ (ids : List ℕ) (rows : List Row) (laws : EntryLaws ids rows) (group :
         running = record { server = goes.runs.server; runs = goes.runs.up.status; faults = goes.runs.up.quiet.faults; disk = goes.runs.up.quiet.calls }
 
         reads : ReadsAsSaid (sent_by n (at a) called.offer)
-        reads = subst CallsReadIn (after_both (cluster ids) rows (rows_in a)) (laws.read (rows_in a) (harmless_at a b x cut).0)
+        reads = subst CallsReadIn (world_at a) (laws.read (rows_in a) (harmless_at a b x cut).0)
             n x.row called.offer (harmless_at a b x cut).1 running sends what
 
     -- a call that pends
     abbrev pub Pends : Request → AllocatorState → Type 0
     Pends asked t = t.raft_server.memory.pending m ≡ Some asked
 
-    -- behind this front, the call was made in one of its rows, and pends in each world since
-    pub record PendsSince (asked : Request) (a : List Timed) : Type 0 where
+    -- it pends, and this is what the member knows of the peer
+    abbrev pub HoldsAs : Request → (next matched : ℕ) → AllocatorState → Type 0
+    HoldsAs asked next matched t = Pends asked t × (t.raft_server.memory.next m ≡ next) × (t.raft_server.memory.matched m ≡ matched)
+
+    -- Behind this front, the call was made in one of its rows, and pends in each world since, in which the member knows the
+    -- same of the peer.
+    pub record WasCalled (asked : Request) (a : List Timed) : Type 0 where
       pub earlier : List Timed
       pub row : Timed
       pub later : List Timed
       pub split : a ≡ earlier ++ row ∷ later
       pub made : MakesCall earlier row asked
-      pub since : Throughout (λ v. (t : AllocatorState) → (v.member n).status ≡ Up t → Pends asked t) (at (earlier ++ row ∷ [])) later
+      pub next : ℕ
+      pub matched : ℕ
+      pub since : (c d : List Timed) → later ≡ c ++ d → AtN (HoldsAs asked next matched) (earlier ++ row ∷ c)
 
-    abbrev IsSince : List Timed → Type 0
-    IsSince a = AtN (λ t. (asked : Request) → Pends asked t → PendsSince asked a) a
+    -- so it is of each append request of these that pends
+    abbrev pub IsSince : (Request → Type 0) → List Timed → Type 0
+    IsSince Late a = AtN (λ t. (asked : Request) → Late asked → asked.append ≡ true → Pends asked t → WasCalled asked a) a
 
-    goes_by : (asked : Request) (a : List Timed) (x : Timed) → AtN (Pends asked) a → PendsSince asked a → PendsSince asked (a ++ x ∷ [])
-    goes_by asked a x pends s = record {
+    -- one row more, in which nothing changes
+    goes_by : (asked : Request) (a : List Timed) (x : Timed) (t after : AllocatorState) → ((at a).member n).status ≡ Up t
+        → ((at (a ++ x ∷ [])).member n).status ≡ Up after → Pends asked after
+        → (after.raft_server.memory.next m ≡ t.raft_server.memory.next m) × (after.raft_server.memory.matched m ≡ t.raft_server.memory.matched m)
+        → WasCalled asked a → WasCalled asked (a ++ x ∷ [])
+    goes_by asked a x t after up then_up pends same s = record {
       earlier = s.earlier;
       row = s.row;
       later = s.later ++ x ∷ [];
-      split = ap (λ (l : List Timed). l ++ x ∷ []) s.split ∙ append_assoc s.earlier (s.row ∷ s.later) (x ∷ []);
+      split = longer;
       made = s.made;
-      since = throughout_more (λ v. (t : AllocatorState) → (v.member n).status ≡ Up t → Pends asked t) s.later x (at (s.earlier ++ s.row ∷ [])) s.since
-          (subst (λ (v : Cluster). (t : AllocatorState) → (v.member n).status ≡ Up t → Pends asked t)
-          (ap at (s.split ∙ sym (append_assoc s.earlier (s.row ∷ []) s.later)) ∙ world_both w (s.earlier ++ s.row ∷ []) s.later) pends);
+      next = s.next;
+      matched = s.matched;
+      since = λ c d e. elim (prefix_more s.later c d x e) [
+        | inl z ↦ s.since c z.0 z.1
+        | inr z ↦ subst (λ (l : List Timed). AtN (HoldsAs asked s.next s.matched) (s.earlier ++ s.row ∷ l)) (sym z)
+            (subst (AtN (HoldsAs asked s.next s.matched)) longer (λ u is_up. subst (HoldsAs asked s.next s.matched) (same_server after u (sym then_up ∙ is_up)) now))
+      ];
     }
-
-    one_row : (a b : List Timed) (x : Timed) → whole ≡ a ++ x ∷ b → IsSince a → IsSince (a ++ x ∷ [])
-    one_row a b x cut before after then_up asked pends = elim (row_of ids rows laws group clocks pace start n term whole calm a b x cut t after up then_up) [
-      | inr same ↦ keeps (ap (λ (s : _). s.memory.pending m) (sym same) ∙ pends)
-      | inl s ↦ elim (laws.made t ((at a).rows + 1) s.0 m asked (ap (λ (u : AllocatorState). u.raft_server.memory.pending m) (sym s.2) ∙ pends)) [
-        | inl stays ↦ keeps (sym stays.pending ∙ (ap (λ (u : AllocatorState). u.raft_server.memory.pending m) (sym s.2) ∙ pends))
-        | inr called ↦ record {
-          earlier = a;
-          row = x;
-          later = [];
-          split = refl;
-          made = makes_call a b x cut t after up then_up s.0 s.1 s.2 asked pends called;
-          since = tt;
-        }
-      ]
-    ]
       where
-        t : AllocatorState
-        t = (goes_at ids rows laws group clocks pace start n term whole calm n calm.member a (x ∷ b) cut).runs.server
+        longer : a ++ x ∷ [] ≡ s.earlier ++ s.row ∷ (s.later ++ x ∷ [])
+        longer = ap (λ (l : List Timed). l ++ x ∷ []) s.split ∙ append_assoc s.earlier (s.row ∷ s.later) (x ∷ [])
 
-        up : ((at a).member n).status ≡ Up t
-        up = (goes_at ids rows laws group clocks pace start n term whole calm n calm.member a (x ∷ b) cut).runs.up.status
+        was : HoldsAs asked s.next s.matched t
+        was = subst (AtN (HoldsAs asked s.next s.matched)) (sym s.split) (s.since s.later [] (sym (append-nil s.later))) t up
 
-        keeps : Pends asked t → PendsSince asked (a ++ x ∷ [])
-        keeps was = goes_by asked a x (λ u is_up. subst (Pends asked) (same_server t u (sym up ∙ is_up)) was) (before t up asked was)
+        now : HoldsAs asked s.next s.matched after
+        now = (pends, same.0 ∙ was.1, same.1 ∙ was.2)
 
-    further_rows : (c a b : List Timed) → whole ≡ (a ++ c) ++ b → IsSince a → IsSince (a ++ c)
-    further_rows [] a b cut h = subst IsSince (sym (append-nil a)) h
-    further_rows (x ∷ c) a b cut h = subst IsSince (append_assoc a (x ∷ []) c)
-        (further_rows c (a ++ x ∷ []) b (cut ∙ ap (λ (l : List Timed). l ++ b) (sym (append_assoc a (x ∷ []) c)))
-        (one_row a (c ++ b) x (cut ∙ append_assoc a (x ∷ c) b) h))
+    -- a call of an earlier row is not one of this row
+    not_here : (asked : Request) (a : List Timed) → WasCalled asked a → asked.step ≡ (at a).rows + 1 → ⊥
+    not_here asked a s here_step =
+        let its = ap (λ (r : Request). r.step) s.made.said in
+        let here_rows = rows_counted w a in
+        let there_rows = rows_counted w s.earlier in
+        let size = ap length s.split in
+        let both = length-append s.earlier (s.row ∷ s.later) in
+        omega (arith, here_step, its, here_rows, there_rows, size, both)
 
-    -- so it is behind each front
-    pub pends_since : NoCallPends n m w → (a b : List Timed) → whole ≡ a ++ b → IsSince a
-    pends_since none a b cut = further_rows a [] b cut (λ t up asked pends. absurd (cc (sym (none t up), pends)))
+    module _ (Late : Request → Type 0) where
+      one_row : (a b : List Timed) (x : Timed) → whole ≡ a ++ x ∷ b → IsSince Late a → IsSince Late (a ++ x ∷ [])
+      one_row a b x cut before after then_up asked late append pends = elim (row_of ids rows laws group clocks pace start n term whole calm a b x cut t after up then_up) [
+        | inr same ↦ goes_by asked a x t after up then_up pends (ap (λ (s : RaftServer). s.memory.next m) same, ap (λ (s : RaftServer). s.memory.matched m) same)
+            (before t up asked late append (ap (λ (s : RaftServer). s.memory.pending m) (sym same) ∙ pends))
+        | inl s ↦ elim (laws.made t ((at a).rows + 1) s.0 m asked (ap (λ (u : AllocatorState). u.raft_server.memory.pending m) (sym s.2) ∙ pends)) [
+          | inl stays ↦ on s (before t up asked late append (sym stays.pending ∙ (ap (λ (u : AllocatorState). u.raft_server.memory.pending m) (sym s.2) ∙ pends)))
+          | inr called ↦ record {
+            earlier = a;
+            row = x;
+            later = [];
+            split = refl;
+            made = makes_call a b x cut t after up then_up s.0 s.1 s.2 asked append pends called;
+            next = after.raft_server.memory.next m;
+            matched = after.raft_server.memory.matched m;
+            since = λ c d e. subst (λ (l : List Timed). AtN (HoldsAs asked (after.raft_server.memory.next m) (after.raft_server.memory.matched m)) (a ++ x ∷ l)) (sym (no_first c d e))
+                (λ u is_up. subst (HoldsAs asked (after.raft_server.memory.next m) (after.raft_server.memory.matched m)) (same_server after u (sym then_up ∙ is_up)) (pends, refl, refl));
+          }
+        ]
+      ]
+        where
+          t : AllocatorState
+          t = (goes_at ids rows laws group clocks pace start n term whole calm n calm.member a (x ∷ b) cut).runs.server
+
+          up : ((at a).member n).status ≡ Up t
+          up = (goes_at ids rows laws group clocks pace start n term whole calm n calm.member a (x ∷ b) cut).runs.up.status
+
+          on : (event : Event) × (step_of (at a) x.row ≡ Some (n, event)) × (after ≡ (step t ((at a).rows + 1) event).step_state.allocator)
+              → WasCalled asked a → WasCalled asked (a ++ x ∷ [])
+          on s was = elim (holds_on m ((at a).rows + 1) t s.0 asked (ap (λ (u : AllocatorState). u.raft_server.memory.pending m) (sym s.2) ∙ pends)) [
+            | inl now ↦ absurd (not_here asked a was now)
+            | inr kept ↦ goes_by asked a x t after up then_up pends (
+              ap (λ (u : AllocatorState). u.raft_server.memory.next m) s.2 ∙ kept.0,
+              ap (λ (u : AllocatorState). u.raft_server.memory.matched m) s.2 ∙ kept.1,
+            ) was
+          ]
+
+      further_rows : (c a b : List Timed) → whole ≡ (a ++ c) ++ b → IsSince Late a → IsSince Late (a ++ c)
+      further_rows [] a b cut h = subst (IsSince Late) (sym (append-nil a)) h
+      further_rows (x ∷ c) a b cut h = subst (IsSince Late) (append_assoc a (x ∷ []) c)
+          (further_rows c (a ++ x ∷ []) b (cut ∙ ap (λ (l : List Timed). l ++ b) (sym (append_assoc a (x ∷ []) c)))
+          (one_row a (c ++ b) x (cut ∙ append_assoc a (x ∷ c) b) h))
+
+    -- so it is, behind each front, of a call that was made in the calm
+    pub was_called : (a b : List Timed) → whole ≡ a ++ b → IsSince (λ asked. w.rows < asked.step) a
+    was_called a b cut = further_rows (λ asked. w.rows < asked.step) a [] b cut
+        (λ t up asked late append pends. let past = laws.past n m t asked (calm.listed n calm.member) up pends in absurd (omega (arith, late, past)))
+
+    -- and from a front on of each, where a call that pends behind it was made in the calm
+    pub was_called_from : (first c b : List Timed) → whole ≡ (first ++ c) ++ b → PendsSince n m w.rows (at first) → IsSince (λ asked. ⊤) (first ++ c)
+    was_called_from first c b cut since = further_rows (λ asked. ⊤) c first b cut
+        (λ t up asked late append pends. was_called first (c ++ b) (cut ∙ append_assoc first c b) t up asked (since t asked up pends) append pends)

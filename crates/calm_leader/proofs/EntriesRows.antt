@@ -1,5 +1,5 @@
 -- What a leader knows of a peer as a calm goes on: it loses nothing of it, and its calls begin no further on.
-use Rattle.std.proofs.Common.{◌≡◌, ℕ, ◌+◌, List, [], ◌∷◌, ◌++◌, append_assoc, append-nil, sym, ◌∙◌, ap, subst, inl, inr, arith, Option, None, Some}
+use Rattle.std.proofs.Common.{◌≡◌, ℕ, ◌+◌, ◌≤◌, List, [], ◌∷◌, ◌++◌, length, append_assoc, append-nil, sym, ◌∙◌, ap, subst, inl, inr, arith, max, Option, None, Some}
 use Rattle.std.specs.Prelude.{◌⊎◌}
 use Rattle.std.proofs.lemmas.Bool.Decides.{eqb_tells}
 use Rattle.can_frame.specs.declared.entry.Entry.{Entry}
@@ -11,14 +11,16 @@ use Rattle.alloc_spec.specs.AllocatorState.{AllocatorState}
 use Rattle.alloc_spec.specs.Step.{Event, step}
 use Rattle.cluster_recovery.specs.Calm.{Pace, Timed, rows_in}
 use Rattle.cluster_calm.specs.Calm.{AreCalm, AreRunning, IsRunning, Member as OfMember, Party, no_traffic}
+use Rattle.cluster_calm.specs.Comes.{Throughout}
+use Rattle.calm_leader.specs.CallsComeBack.{LeadsIfUp, LeadsOn}
 use Rattle.calm_leader.specs.EntriesBelow.{EntryLaws}
-use Rattle.calm_leader.specs.LeadsOn.{IsLed}
+use Rattle.calm_leader.specs.LeadsOn.{IsLedThroughout, LeadsIn}
 use Rattle.calm_leader.specs.NoElection.{CallsFit}
 use Rattle.cluster_calm.proofs.Calls.{Goes, further_on}
-use Rattle.calm_leader.proofs.EntriesSteps.{Knows, Leads, step_knows}
+use Rattle.calm_leader.proofs.EntriesSteps.{Knows, Leads, step_knows, still_left}
 use Rattle.cluster_calm.proofs.Pair.{same_server, same_stepper}
 use Rattle.calm_leader.proofs.RowsOfOne.{IsLeft, left_up, stepped_up}
-use Rattle.calm_leader.proofs.Stretches.{world_both}
+use Rattle.calm_leader.proofs.Stretches.{throughout_at, throughout_by, throughout_rest, world_both}
 use Rattle.cluster_spec.specs.Cluster.{Cluster, after_row, after_rows, step_of, world_of}
 use Rattle.cluster_spec.specs.Lawful.{DoNoHarm}
 use Rattle.cluster_spec.specs.Members.MemberStatus.{Up}
@@ -35,7 +37,7 @@ step_or_not w row n = by (step_of w row)
       | inr z ↦ inr (λ other e. z.1 (same_stepper p n event other e))
     ]
 
--- a calm in which a member of the group leads on
+-- a calm in which a member of the group leads on in one term, once it leads
 pub record IsLedCalm (ids : List ℕ) (rows : List Row) (group : List Party) (clocks : Party → ℕ) (pace : Pace) (start n term : ℕ)
     (whole : List Timed) : Type 0 where
   pub listed : (p : ℕ) → In (OfMember p) group → In p ids
@@ -43,8 +45,43 @@ pub record IsLedCalm (ids : List ℕ) (rows : List Row) (group : List Party) (cl
   pub member : In (OfMember n) group
   pub calm : AreCalm group clocks pace (no_traffic start) (world_of ids rows) whole
   pub harmless : DoNoHarm (world_of ids rows) (rows_in whole)
-  pub led : (front rest : List Timed) → whole ≡ front ++ rest → IsLed group n term (after_rows (world_of ids rows) (rows_in front))
+  pub leads_on : LeadsOn n term (world_of ids rows) whole
+  pub at_end : LeadsIfUp n term (after_rows (world_of ids rows) (rows_in whole))
   pub fit : CallsFit n (world_of ids rows) whole
+
+-- ---- who leads on
+
+-- where a member leads in one world, it leads before each row from there on
+leads_from : (n term : ℕ) (rest : List Timed) (w : Cluster) (t : AllocatorState) → (w.member n).status ≡ Up t → t.raft_server.memory.role ≡ Leader
+    → LeadsOn n term w rest → Throughout (LeadsIfUp n term) w rest
+leads_from n term [] w t up leads on = tt
+leads_from n term (timed ∷ rest) w t up leads (inl z) = absurd (z.0 t up leads)
+leads_from n term (timed ∷ rest) w t up leads (inr all) = all
+
+-- further on it is so too
+leads_further : (n term : ℕ) (front rest : List Timed) (w : Cluster) → LeadsOn n term w (front ++ rest) → LeadsOn n term (after_rows w (rows_in front)) rest
+leads_further n term [] rest w on = on
+leads_further n term (timed ∷ front) rest w (inl z) = leads_further n term front rest (after_row w timed.row) z.1
+leads_further n term (timed ∷ front) rest w (inr all) = by rest (throughout_rest (LeadsIfUp n term) (timed ∷ front) rest w all)
+  where
+    by : (list : List Timed) → Throughout (LeadsIfUp n term) (after_rows (after_row w timed.row) (rows_in front)) list
+        → LeadsOn n term (after_rows (after_row w timed.row) (rows_in front)) list
+    by [] all = tt
+    by (next ∷ list) all = inr all
+
+-- where a member is led to be, so it is if it runs
+pub leads_if_up : (n term : ℕ) (w : Cluster) → LeadsIn n term w → LeadsIfUp n term w
+leads_if_up n term w leader t up =
+    let same = same_server leader.server t (sym leader.runs ∙ up) in (
+      ap (λ (s : AllocatorState). s.raft_server.memory.role) (sym same) ∙ leader.leads,
+      ap (λ (s : AllocatorState). s.raft_server.store.term) (sym same) ∙ leader.its_term,
+    )
+
+-- who leads behind each front leads on
+pub leads_throughout : (group : List Party) (n term : ℕ) (w : Cluster) (whole : List Timed) → IsLedThroughout group n term w whole → LeadsOn n term w whole
+leads_throughout group n term w [] led = tt
+leads_throughout group n term w (first ∷ rest) led = inr (throughout_by (LeadsIfUp n term) (first ∷ rest) w
+    (λ front behind timed split. leads_if_up n term (after_rows w (rows_in front)) (led front (timed ∷ behind) split).leader))
 
 module _ (ids : List ℕ) (rows : List Row) (laws : EntryLaws ids rows) (group : List Party) (clocks : Party → ℕ) (pace : Pace) (start n term : ℕ)
     (whole : List Timed)
@@ -82,14 +119,23 @@ module _ (ids : List ℕ) (rows : List Row) (laws : EntryLaws ids rows) (group :
   abbrev pub AtLeader : (AllocatorState → Type 0) → List Timed → Type 0
   AtLeader Holds a = (t : AllocatorState) → ((here a).member n).status ≡ Up t → Holds t
 
-  pub leads_at : (a b : List Timed) → whole ≡ a ++ b → AtLeader (λ t. (t.raft_server.memory.role ≡ Leader) × (t.raft_server.store.term ≡ term)) a
-  leads_at a b cut t up =
-      let leader = (calm.led a b cut).leader in
-      let same = same_server leader.server t (sym leader.runs ∙ up) in (
-        ap (λ (s : AllocatorState). s.raft_server.memory.role) (sym same) ∙ leader.leads,
-        ap (λ (s : AllocatorState). s.raft_server.store.term) (sym same)
-            ∙ leader.its_term,
-      )
+  -- the member leads in the term, behind this front
+  abbrev pub Leading : List Timed → Type 0
+  Leading a = LeadsIfUp n term (here a)
+
+  -- where it leads, it leads further on
+  pub lead_on : (a c b : List Timed) → whole ≡ (a ++ c) ++ b → (t : AllocatorState) → ((here a).member n).status ≡ Up t → t.raft_server.memory.role ≡ Leader
+      → Leading (a ++ c)
+  lead_on a c [] cut t up leads = subst (λ (l : List Timed). LeadsIfUp n term (after_rows w (rows_in l))) (cut ∙ append-nil (a ++ c)) calm.at_end
+  lead_on a c (x ∷ b) cut t up leads = subst (LeadsIfUp n term) (sym (world_both w a c))
+      (throughout_at (LeadsIfUp n term) c b x (here a)
+      (leads_from n term (c ++ x ∷ b) (here a) t up leads (leads_further n term a (c ++ x ∷ b) w
+      (subst (LeadsOn n term w) (cut ∙ append_assoc a c (x ∷ b)) calm.leads_on))))
+
+  -- where it leads, it does so in the term
+  pub lead_here : (a b : List Timed) → whole ≡ a ++ b → (t : AllocatorState) → ((here a).member n).status ≡ Up t → t.raft_server.memory.role ≡ Leader
+      → Leading a
+  lead_here a b cut t up leads = subst Leading (append-nil a) (lead_on a [] b (cut ∙ ap (λ (l : List Timed). l ++ b) (sym (append-nil a))) t up leads)
 
   -- a row is a step of the leader, or leaves its server of the Raft model
   abbrev pub IsRowOf : (a : List Timed) (x : Timed) (t after : AllocatorState) → Type 0
@@ -123,33 +169,72 @@ module _ (ids : List ℕ) (rows : List Row) (laws : EntryLaws ids rows) (group :
 
   -- ---- what is known
 
+  -- so many calls are left until the leader knows the peer to have its log
+  abbrev pub left_of : (m : ℕ) → AllocatorState → ℕ
+  left_of m t = still_left (t.raft_server.memory.next m) (t.raft_server.memory.matched m) (length t.raft_server.store.log)
+
   module _ (m : ℕ) where
-    abbrev pub AtLeast : (matched : ℕ) (base : List Entry) → AllocatorState → Type 0
-    AtLeast matched base t = Leads m term matched base t.raft_server
+    abbrev pub AtLeast : (matched : ℕ) (base : List Entry) (left over : ℕ) → AllocatorState → Type 0
+    AtLeast matched base left over t = Leads m term matched base left over t.raft_server
 
-    one_row : (matched : ℕ) (base : List Entry) (a b : List Timed) (x : Timed) → whole ≡ a ++ x ∷ b → AtLeader (AtLeast matched base) a
-        → AtLeader (AtLeast matched base) (a ++ x ∷ [])
-    one_row matched base a b x cut before after then_up = elim (row_of a b x cut t after up then_up) [
-      | inl s ↦ subst (AtLeast matched base) (sym s.2) (stays (step t ((here a).rows + 1) s.0).step_state.allocator.raft_server
-          (ap (λ (u : AllocatorState). u.raft_server.store.term) (sym s.2) ∙ (leads_at (a ++ x ∷ []) b (cut_more a b x cut) after then_up).1)
-          (step_knows m term matched base ((here a).rows + 1) t s.0 (inr (before t up))))
-      | inr same ↦ subst (Leads m term matched base) (sym same) (before t up)
-    ]
-      where
-        t : AllocatorState
-        t = (goes_at n calm.member a (x ∷ b) cut).runs.server
+    module _ (matched : ℕ) (base : List Entry) (left over : ℕ) where
+      one_row : (a b : List Timed) (x : Timed) → whole ≡ a ++ x ∷ b → AtLeader (AtLeast matched base left over) a
+          → AtLeader (AtLeast matched base left over) (a ++ x ∷ [])
+      one_row a b x cut before after then_up = elim (row_of a b x cut t after up then_up) [
+        | inl s ↦ subst (AtLeast matched base left over) (sym s.2) (stays (step t ((here a).rows + 1) s.0).step_state.allocator.raft_server
+            (ap (λ (u : AllocatorState). u.raft_server.store.term) (sym s.2)
+            ∙ (lead_on a (x ∷ []) b (cut_more a b x cut) t up (before t up).leads after then_up).1)
+            (step_knows m term matched base left over ((here a).rows + 1) t s.0 (inr (before t up))))
+        | inr same ↦ subst (Leads m term matched base left over) (sym same) (before t up)
+      ]
+        where
+          t : AllocatorState
+          t = (goes_at n calm.member a (x ∷ b) cut).runs.server
 
-        up : ((here a).member n).status ≡ Up t
-        up = (goes_at n calm.member a (x ∷ b) cut).runs.up.status
+          up : ((here a).member n).status ≡ Up t
+          up = (goes_at n calm.member a (x ∷ b) cut).runs.up.status
 
-        stays : (s : RaftServer) → s.store.term ≡ term → Knows m term matched base s → Leads m term matched base s
-        stays s e (inl high) = absurd (omega (arith, high, e))
-        stays s e (inr l) = l
+          stays : (s : RaftServer) → s.store.term ≡ term → Knows m term matched base left over s → Leads m term matched base left over s
+          stays s e (inl high) = absurd (omega (arith, high, e))
+          stays s e (inr l) = l
 
-    -- it holds further on
-    pub goes_on : (matched : ℕ) (base : List Entry) (c a b : List Timed) → whole ≡ (a ++ c) ++ b → AtLeader (AtLeast matched base) a
-        → AtLeader (AtLeast matched base) (a ++ c)
-    goes_on matched base [] a b cut h = subst (AtLeader (AtLeast matched base)) (sym (append-nil a)) h
-    goes_on matched base (x ∷ c) a b cut h = subst (AtLeader (AtLeast matched base)) (append_assoc a (x ∷ []) c)
-        (goes_on matched base c (a ++ x ∷ []) b (cut ∙ ap (λ (l : List Timed). l ++ b) (sym (append_assoc a (x ∷ []) c)))
-        (one_row matched base a (c ++ b) x (cut ∙ append_assoc a (x ∷ c) b) h))
+      -- it holds further on
+      pub goes_on : (c a b : List Timed) → whole ≡ (a ++ c) ++ b → AtLeader (AtLeast matched base left over) a
+          → AtLeader (AtLeast matched base left over) (a ++ c)
+      goes_on [] a b cut h = subst (AtLeader (AtLeast matched base left over)) (sym (append-nil a)) h
+      goes_on (x ∷ c) a b cut h = subst (AtLeader (AtLeast matched base left over)) (append_assoc a (x ∷ []) c)
+          (goes_on c (a ++ x ∷ []) b (cut ∙ ap (λ (l : List Timed). l ++ b) (sym (append_assoc a (x ∷ []) c)))
+          (one_row a (c ++ b) x (cut ∙ append_assoc a (x ∷ c) b) h))
+
+    -- From a front on, behind which the member leads: of the peer it knows no less further on, its log grows behind its
+    -- end, and no more calls are left.
+    pub grown : (a c b : List Timed) (over : ℕ) → whole ≡ (a ++ c) ++ b → Leading a → (t : AllocatorState) → ((here a).member n).status ≡ Up t
+        → t.raft_server.memory.next m ≤ max (length t.raft_server.store.log) (t.raft_server.memory.matched m + 1) + over
+        → AtLeader (AtLeast (t.raft_server.memory.matched m) t.raft_server.store.log (left_of m t) over) (a ++ c)
+    grown a c b over cut leads t up near = goes_on (t.raft_server.memory.matched m) t.raft_server.store.log (left_of m t) over c a b cut
+        (λ u is_up. subst (AtLeast (t.raft_server.memory.matched m) t.raft_server.store.log (left_of m t) over) (same_server t u (sym up ∙ is_up)) (record {
+          its_term = (leads t up).1;
+          leads = (leads t up).0;
+          matched_is = omega arith;
+          few = omega arith;
+          near = near;
+          more = [];
+          log_is = sym (append-nil t.raft_server.store.log);
+        }))
+
+-- a calm in which a member of the group leads from the beginning on
+pub led_from_start : (ids : List ℕ) (rows : List Row) (group : List Party) (clocks : Party → ℕ) (pace : Pace) (start n term : ℕ) (whole : List Timed)
+    → ((p : ℕ) → In (OfMember p) group → In p ids) → AreRunning group (world_of ids rows) → In (OfMember n) group
+    → AreCalm group clocks pace (no_traffic start) (world_of ids rows) whole → DoNoHarm (world_of ids rows) (rows_in whole)
+    → IsLedThroughout group n term (world_of ids rows) whole → CallsFit n (world_of ids rows) whole
+    → IsLedCalm ids rows group clocks pace start n term whole
+led_from_start ids rows group clocks pace start n term whole listed running member calm harmless led fit = record {
+  listed = listed;
+  running = running;
+  member = member;
+  calm = calm;
+  harmless = harmless;
+  leads_on = leads_throughout group n term (world_of ids rows) whole led;
+  at_end = leads_if_up n term (after_rows (world_of ids rows) (rows_in whole)) (led whole [] (sym (append-nil whole))).leader;
+  fit = fit;
+}

@@ -47,15 +47,20 @@ not_raised store term low = rw (low) refl
 raised_to : (store : Store) (term : ℕ) → nat_lt store.term term ≡ true → (with_term store term).term ≡ term
 raised_to store term high = rw (high) refl
 
-module _ (m term matched : ℕ) (base : List Entry) where
-  -- The server leads in this term. It knows the peer to have so many places of its log, or more, and calls it next behind
-  -- them or earlier; and its log begins with these entries.
+-- so many calls at most until a peer is known to have so many places, where it is known to have these
+abbrev pub still_left : (next matched count : ℕ) → ℕ
+still_left next matched count = (next - (matched + 1)) + (count - matched)
+
+module _ (m term matched : ℕ) (base : List Entry) (left over : ℕ) where
+  -- The server leads in this term. It knows the peer to have so many places of its log, or more; its log begins with these
+  -- entries, and no more calls than these are left until it knows the peer to have them. It calls the peer next no further
+  -- on than so many places behind those that its log has and those that it knows the peer to have.
   pub record Leads (s : RaftServer) : Type 0 where
     pub its_term : s.store.term ≡ term
     pub leads : s.memory.role ≡ Leader
     pub matched_is : matched ≤ s.memory.matched m
-    pub least : 1 ≤ s.memory.next m
-    pub next_is : s.memory.next m ≤ s.memory.matched m + 1
+    pub few : still_left (s.memory.next m) (s.memory.matched m) (length base) ≤ left
+    pub near : s.memory.next m ≤ max (length s.store.log) (s.memory.matched m + 1) + over
     pub more : List Entry
     pub log_is : s.store.log ≡ base ++ more
 
@@ -74,28 +79,28 @@ module _ (m term matched : ℕ) (base : List Entry) where
     its_term = e ∙ l.its_term;
     leads = role ∙ l.leads;
     matched_is = let k = l.matched_is in omega (arith, k, match);
-    least = let k = l.least in omega (arith, k, next);
-    next_is = let k = l.next_is in omega (arith, k, next, match);
+    few = let k = l.few in omega (arith, k, next, match);
+    near = let k = l.near in let size = ap length log in omega (arith, k, next, match, size);
     more = l.more;
     log_is = log ∙ l.log_is;
   }
 
   -- ---- an answer of the peer, or of another
 
-  module _ (answer : Answer) (memory : Memory) (known : matched ≤ memory.matched m) (least : 1 ≤ memory.next m)
-      (next : memory.next m ≤ memory.matched m + 1) where
+  module _ (answer : Answer) (memory : Memory) (size : ℕ) (known : matched ≤ memory.matched m)
+      (few : still_left (memory.next m) (memory.matched m) (length base) ≤ left) (near : memory.next m ≤ max size (memory.matched m + 1) + over) where
     abbrev after : Memory
     after = matched_memory memory answer
 
     abbrev Three : ℕ → ℕ → Type 0
-    Three match next_one = (matched ≤ match) × (1 ≤ next_one) × (next_one ≤ match + 1)
+    Three match next_one = (matched ≤ match) × (still_left next_one match (length base) ≤ left) × (next_one ≤ max size (match + 1) + over)
 
     of_peer : answer.from ≡ m → (success : Bool)
         → Three (if success then max (memory.matched answer.from) (reach answer.request) else memory.matched answer.from)
         (if success then max (memory.matched answer.from) (reach answer.request) + 1 else max 1 (memory.next answer.from - 1))
-    of_peer same true = let e = ap memory.matched same in (omega (arith, known, e), omega arith, omega arith)
+    of_peer same true = let e = ap memory.matched same in (omega (arith, known, e), omega (arith, few, e), omega arith)
     of_peer same false = let e = ap memory.matched same in let f = ap memory.next same in
-        (omega (arith, known, e), omega arith, omega (arith, next, least, e, f))
+        (omega (arith, known, e), omega (arith, few, e, f), omega (arith, near, e, f))
 
     three : Three (after.matched m) (after.next m)
     three = elim (eqb_tells m answer.from) [
@@ -103,7 +108,7 @@ module _ (m term matched : ℕ) (base : List Entry) where
           (subst (λ (k : ℕ). Three (matched_after memory answer) k) (sym (at_here memory.next answer.from m (next_after memory answer) z.1))
           (of_peer (sym z.1) answer.success))
       | inr z ↦ subst (λ (k : ℕ). Three k (after.next m)) (sym (at_other memory.matched answer.from m (matched_after memory answer) z.1))
-          (subst (λ (k : ℕ). Three (memory.matched m) k) (sym (at_other memory.next answer.from m (next_after memory answer) z.1)) (known, least, next))
+          (subst (λ (k : ℕ). Three (memory.matched m) k) (sym (at_other memory.next answer.from m (next_after memory answer) z.1)) (known, few, near))
     ]
 
   module _ (number : ℕ) where
@@ -169,8 +174,8 @@ module _ (m term matched : ℕ) (base : List Entry) where
               else (if acknowledges s answer then matched_memory s.memory answer else memory_without_call s.memory answer.from)) z.0))
               (either (λ (x : Memory). Knows (record { store = s.store; memory = x })) (acknowledges s answer) (matched_memory s.memory answer)
               (memory_without_call s.memory answer.from)
-              (λ e. let t = three answer s.memory l.matched_is l.least l.next_is in
-              inr (record { its_term = l.its_term; leads = l.leads; matched_is = t.0; least = t.1; next_is = t.2; more = l.more; log_is = l.log_is }))
+              (λ e. let t = three answer s.memory (length s.store.log) l.matched_is l.few l.near in
+              inr (record { its_term = l.its_term; leads = l.leads; matched_is = t.0; few = t.1; near = t.2; more = l.more; log_is = l.log_is }))
               (λ e. inr (same s (record { store = s.store; memory = memory_without_call s.memory answer.from }) refl refl refl refl refl l))))
         ]
 
@@ -235,8 +240,8 @@ module _ (m term matched : ℕ) (base : List Entry) where
       its_term = l.its_term;
       leads = l.leads;
       matched_is = l.matched_is;
-      least = l.least;
-      next_is = l.next_is;
+      few = l.few;
+      near = let k = l.near in let size = length-append s.store.log (entry ∷ []) in omega (arith, k, size);
       more = l.more ++ entry ∷ [];
       log_is = ap (λ (list : List Entry). list ++ entry ∷ []) l.log_is ∙ append_assoc base l.more (entry ∷ []);
     })

@@ -5,13 +5,13 @@ use Rattle.raft_model.specs.Lists.{In}
 use Rattle.replay_text.specs.declared.row.Row.{Row}
 use Rattle.replay_text.specs.declared.row.Row.TheVariants.{AEnd, AOpen, ARx, ASend, ATick, Crash, Ext, Fault, Open, Rx, Send, Tick}
 use Rattle.transfer_tx.specs.Queue.{Queued}
-use Rattle.cluster_recovery.specs.Calm.{IsNext, OnItsWay, Pace, next_on_bus}
-use Rattle.cluster_calm.specs.Calm.{Device as OfDevice, IsCalmRow, Member as OfMember, Party, Traffic, on_way_after}
-use Rattle.cluster_calm.proofs.Group.{AreWell, CalmLaws, sent_anonymous, sent_own}
+use Rattle.cluster_recovery.specs.Calm.{IsNext, OnItsWay, Pace, Timed, next_on_bus, rows_in}
+use Rattle.cluster_calm.specs.Calm.{AreCalm, AreRunning, Device as OfDevice, IsCalmRow, Member as OfMember, Party, Traffic, on_way_after, traffic_after}
+use Rattle.cluster_calm.proofs.Group.{AreWell, CalmLaws, sent_anonymous, sent_own, well_after}
 use Rattle.calm_leader.proofs.TermsHeard.{IsOfGroup}
 use Rattle.cluster_calm.proofs.Ways.{Flying, flying_more, flying_other}
 use Rattle.cluster_spec.specs.Allocatees.{next_from}
-use Rattle.cluster_spec.specs.Cluster.{Cluster, after_row, frame_at, in_list}
+use Rattle.cluster_spec.specs.Cluster.{Cluster, after_row, after_rows, frame_at, in_list}
 use Rattle.cluster_spec.specs.Members.{next_frame}
 
 module _ (group : List Party) where
@@ -84,3 +84,27 @@ module _ (group : List Party) where
     of_group_after (Fault n call) calm party = absurd calm
     of_group_after (AOpen a uid pref ms word) calm party = absurd calm
     of_group_after (AEnd a) calm party = absurd calm
+
+  -- ---- row by row
+
+  -- these rows are calm from a world on in which the members run, and what is on its way is of the group
+  pub record IsCalmOn (clocks : Party → ℕ) (pace : Pace) (w : Cluster) (whole : List Timed) : Type 0 where
+    pub traffic : Traffic
+    pub calm : AreCalm group clocks pace traffic w whole
+    pub are : AreWell group w
+    pub flies : (party : Party) → AreOfGroup w.frames (traffic.to party)
+
+  pub all_run : (w : Cluster) → AreWell group w → AreRunning group w
+  all_run w are m i = let is = are.members m i in
+      record { server = is.server; runs = is.up.status; faults = is.up.quiet.faults; disk = is.up.quiet.calls }
+
+  -- so it is further on
+  pub calm_on : CalmLaws → ((p : ℕ) → In (OfMember p) group → (1 ≤ p) × (p ≤ 125)) → (clocks : Party → ℕ) (pace : Pace) (first rest : List Timed)
+      (w : Cluster) → IsCalmOn clocks pace w (first ++ rest) → IsCalmOn clocks pace (after_rows w (rows_in first)) rest
+  calm_on laws nodes clocks pace [] rest w on = on
+  calm_on laws nodes clocks pace (timed ∷ first) rest w on = calm_on laws nodes clocks pace first rest (after_row w timed.row) (record {
+    traffic = traffic_after on.traffic w timed;
+    calm = on.calm.2;
+    are = well_after laws group nodes w on.are clocks pace on.traffic timed.at timed.row on.calm.1;
+    flies = λ party. of_group_after laws nodes clocks pace on.traffic w on.are on.flies timed.at timed.row on.calm.1 party;
+  })

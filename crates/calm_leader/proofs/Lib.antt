@@ -13,6 +13,7 @@ pub mod Stretches
 pub mod FirstWait
 pub mod NextCall
 pub mod NoElection
+pub mod NoElectionBegins
 pub mod Deliveries
 pub mod AnswersOffered
 pub mod AnswersTaken
@@ -21,6 +22,7 @@ pub mod PendingStays
 pub mod CallsPend
 pub mod RowsOfOne
 pub mod EntriesSteps
+pub mod EntriesHold
 pub mod EntriesRows
 pub mod EntriesPending
 pub mod EntriesBack
@@ -35,4 +37,6 @@ pub mod EntriesHave
 pub mod EntriesCome
 pub mod EntriesCommitted
 pub mod EntriesQuorum
+pub mod EntriesPremises
+pub mod WinnersCall
 pub mod EntriesExample

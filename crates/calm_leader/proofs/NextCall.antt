@@ -1,9 +1,9 @@
 -- In a calm in which a member leads, each other member hears it lately: from whatever row on the leader calls it in time,
--- and the call is heard.
+-- and the call is heard. The rows may go on from any moment of the calm.
 use Rattle.std.proofs.Common.{◌≡◌, ◌≢◌, ℕ, ◌+◌, ◌*◌, ◌<◌, ◌≤◌, arith, max, List, [], ◌∷◌, ◌++◌, refl, sym, ◌∙◌, ap, subst, inl, inr, Some}
 use Rattle.std.proofs.lemmas.List.{append_assoc, append-nil}
 use Rattle.can_frame.specs.declared.step.What.TheVariants.{AppQ}
-use Rattle.can_frame.specs.Timing.{call_timeout, election_wait, transfer_timeout}
+use Rattle.can_frame.specs.Timing.{call_timeout, election_wait}
 use Rattle.dsdl_codec.specs.declared.append_request.AppendRequest.{AppendRequest}
 use Rattle.raft_model.specs.Lists.{In, at_here}
 use Rattle.raft_model.specs.Server.Role.{Leader}
@@ -18,12 +18,12 @@ use Rattle.cluster_agreement.proofs.Concatenations.{first_harmless, row_harmless
 use Rattle.cluster_recovery.specs.Calm.{Pace, Timed, end_of, rows_in}
 use Rattle.cluster_recovery.proofs.Goes.{after_both}
 use Rattle.cluster_recovery.proofs.Members.{IsUp, steps_up}
-use Rattle.cluster_calm.specs.Calm.{AreCalm, AreRunning, IsRunning, Member as OfMember, Party, no_traffic}
-use Rattle.cluster_calm.specs.Calls.{Calls, CallsAreHeard, CallsReadAsSaid, CalmLeavesFollowers, FollowsFrom, FollowsSince, HearsCallBy, Lists, ListsStay, MayFollow, ReadsAsSaid}
+use Rattle.cluster_calm.specs.Calm.{AreCalm, AreRunning, IsRunning, Member as OfMember, Party}
+use Rattle.cluster_calm.specs.Calls.{Calls, CallsReadAsSaid, CalmLeavesFollowers, FollowsFrom, FollowsSince, HearsCallBy, Lists, ListsStay, MayFollow, ReadsAsSaid}
 use Rattle.cluster_calm.specs.CallsInTime.{CalledUntil, Leads, LeadersCallInTime, OffersCall, OffersCallBy}
-use Rattle.cluster_calm.specs.Comes.{HasMemory, Sends, Throughout, sent_by}
+use Rattle.cluster_calm.specs.Comes.{Sends, Throughout, sent_by}
 use Rattle.calm_leader.specs.LeadsOn.{FollowsWithin, IsLed}
-use Rattle.calm_leader.specs.NoElection.{CallsFit, ClocksGoOn, WillHear, greatest_wait, heard_within}
+use Rattle.calm_leader.specs.NoElection.{CallsFit, ClocksGoOn, greatest_wait, heard_within}
 use Rattle.cluster_calm.proofs.CallsKept.{GoesOn, IsKept, RunsWith, further}
 use Rattle.calm_leader.proofs.CallsPast.{calls_past_in, until_later}
 use Rattle.calm_leader.proofs.CallsTerm.{says_its_term}
@@ -67,7 +67,6 @@ pub record CallLaws (ids : List ℕ) (rows : List Row) : Type 0 where
   pub stay : ListsStay
   pub call : LeadersCallInTime
   pub read : (more : List Row) → DoNoHarm (world_of ids rows) more → CallsReadAsSaid ids (rows ++ more)
-  pub hear : CallsAreHeard ids rows
   pub follow : CalmLeavesFollowers
 
 -- the server has the node ID, and its clock read no more than this
@@ -86,13 +85,20 @@ read_kept keeps_me p last = record {
   popped = λ t is. record { me = is.me; clock = is.clock };
 }
 
+-- in these rows, which go on from this world, member m hears each call of member n within two delays, or they are over
+-- by then
+abbrev pub HearsCalls : (Party → ℕ) → Pace → (n m : ℕ) → Cluster → List Timed → Type 0
+HearsCalls clocks pace n m v whole = (a b : List Timed) (x : Timed) (offer : Offer) (request : AppendRequest) → whole ≡ a ++ x ∷ b
+    → Calls n m (after_rows v (rows_in a)) x.row offer request → x.at + 2 * pace.delay < end_of x.at b
+    → HearsCallBy m (clocks (OfMember m)) (sent_by n (after_rows v (rows_in a)) offer) request (x.at + 2 * pace.delay) (after_rows v (rows_in a)) (x ∷ b)
+
 -- calls read as said in this world
 abbrev CallsReadIn : Cluster → Type 0
 CallsReadIn v = (n : ℕ) (row : Row) (offer : Offer) → DoesNoHarm v row → IsRunning n v → Sends n v row offer → offer.what ≡ AppQ
     → ReadsAsSaid (sent_by n v offer)
 
 module _ (ids : List ℕ) (rows : List Row) (laws : CallLaws ids rows) (group : List Party) (clocks : Party → ℕ) (pace : Pace) (start : ℕ)
-    (listed : (p : ℕ) → In (OfMember p) group → In p ids) (running : AreRunning group (world_of ids rows))
+    (running : AreRunning group (world_of ids rows))
     (server_me : (p : ℕ) → In (OfMember p) group → (server : AllocatorState) → ((world_of ids rows).member p).status ≡ Up server → server.me ≡ p)
     (clocks_go : ClocksGoOn group clocks start (world_of ids rows)) where
   abbrev pub w : Cluster
@@ -129,11 +135,11 @@ module _ (ids : List ℕ) (rows : List Row) (laws : CallLaws ids rows) (group : 
           })
 
   module _ (n term : ℕ) (in_n : In (OfMember n) group) (front : List Timed) (timed : Timed)
-      (calm : AreCalm group clocks pace (no_traffic start) w (front ++ timed ∷ []))
+      (from : GoesOnFrom group clocks pace start w (front ++ timed ∷ []))
       (harmless : DoNoHarm w (rows_in (front ++ timed ∷ []))) (fits : CallsFit n w (front ++ timed ∷ []))
       (led : Throughout (IsLed group n term) w (front ++ timed ∷ []))
-      (m last : ℕ) (in_m : In (OfMember m) group) (differs : m ≢ n) (will : WillHear n m last w (front ++ timed ∷ []))
-      (quick : 2 * pace.delay ≤ transfer_timeout) where
+      (m : ℕ) (in_m : In (OfMember m) group) (differs : m ≢ n) (lists_it : Lists n m w) (lists_back : Lists m n w)
+      (in_time : HearsCalls clocks pace n m w (front ++ timed ∷ [])) where
     -- ---- what holds at each front of the rows before the last
 
     abbrev pub upto : List Timed
@@ -142,11 +148,11 @@ module _ (ids : List ℕ) (rows : List Row) (laws : CallLaws ids rows) (group : 
     whole_cut : (a b : List Timed) → front ≡ a ++ b → upto ≡ a ++ (b ++ timed ∷ [])
     whole_cut a b cut = ap (λ (l : List Timed). l ++ timed ∷ []) cut ∙ append_assoc a b (timed ∷ [])
 
-    calm_cut : (a b : List Timed) → front ≡ a ++ b → AreCalm group clocks pace (no_traffic start) w (a ++ (b ++ timed ∷ []))
-    calm_cut a b cut = subst (AreCalm group clocks pace (no_traffic start) w) (whole_cut a b cut) calm
+    calm_cut : (a b : List Timed) → front ≡ a ++ b → AreCalm group clocks pace from.traffic w (a ++ (b ++ timed ∷ []))
+    calm_cut a b cut = subst (AreCalm group clocks pace from.traffic w) (whole_cut a b cut) from.calm
 
     from_start : (a b : List Timed) → front ≡ a ++ b → GoesOnFrom group clocks pace start w (a ++ (b ++ timed ∷ []))
-    from_start a b cut = record { traffic = no_traffic start; calm = calm_cut a b cut; at_end = refl; ticked = λ party. omega arith }
+    from_start a b cut = record { traffic = from.traffic; calm = calm_cut a b cut; at_end = from.at_end; ticked = from.ticked }
 
     goes_at : (a b : List Timed) → front ≡ a ++ b → GoesOnFrom group clocks pace (end_of start a) (here a) (b ++ timed ∷ [])
     goes_at a b cut = calm_rest group clocks pace a (b ++ timed ∷ []) start w (from_start a b cut)
@@ -217,7 +223,7 @@ module _ (ids : List ℕ) (rows : List Row) (laws : CallLaws ids rows) (group : 
         → OffersCallBy n m (end_of start a + call_timeout + pace.period) (here a) (b ++ timed ∷ [])
     offers_by a b cut long = laws.call group clocks pace goes.traffic n m moment (end_of start a + call_timeout) (b ++ timed ∷ []) (here a)
         (leader_runs a b cut) in_n
-        (laws.stay group clocks pace (no_traffic start) n m a (b ++ timed ∷ []) w (running n in_n) (calm_cut a b cut) will.calls run.server run.up.status)
+        (laws.stay group clocks pace from.traffic n m a (b ++ timed ∷ []) w (running n in_n) (calm_cut a b cut) lists_it run.server run.up.status)
         (λ e. differs (e ∙ run.holds.me)) until goes.calm
         (throughout_so (IsLed group n term) (Leads n) so (b ++ timed ∷ []) (here a) (leds_at a b cut))
         (omega arith) (omega (arith, goes.at_end)) (let ticked = goes.ticked (OfMember n) in omega (arith, ticked))
@@ -292,8 +298,8 @@ module _ (ids : List ℕ) (rows : List Row) (laws : CallLaws ids rows) (group : 
         same = same_server within.server by.call.delivers.server (sym within.runs ∙ by.call.delivers.runs)
 
         lists : Lists m n (after_rows (here a) (rows_in by.front))
-        lists = subst (Lists m n) there (laws.stay group clocks pace (no_traffic start) m n before ((by.timed ∷ found.0) ++ timed ∷ []) w (running m in_m)
-            (calm_cut before (by.timed ∷ found.0) split_at) will.hears)
+        lists = subst (Lists m n) there (laws.stay group clocks pace from.traffic m n before ((by.timed ∷ found.0) ++ timed ∷ []) w (running m in_m)
+            (calm_cut before (by.timed ∷ found.0) split_at) lists_back)
 
         may : MayFollow n request by.call.delivers.server
         may = record {
@@ -316,9 +322,7 @@ module _ (ids : List ℕ) (rows : List Row) (laws : CallLaws ids rows) (group : 
     hears_from a b cut long = hears_it c (by.timed ∷ found.0) split_at (end_of start a) above call.offer call.request call.its_term
         (by.timed.at + 2 * pace.delay)
         (let soon = by.soon in omega (arith, soon, long))
-        (laws.hear group clocks pace start n m c (found.0 ++ timed ∷ []) by.timed call.offer call.request listed running in_n in_m (λ e. differs (sym e)) quick
-        will.ready will.first
-        (calm_cut c (by.timed ∷ found.0) split_at) (subst (Throughout (HasMemory m) w) (whole_cut c (by.timed ∷ found.0) split_at) will.memory) call.calls
+        (in_time c (found.0 ++ timed ∷ []) by.timed call.offer call.request (whole_cut c (by.timed ∷ found.0) split_at) call.calls
         (let soon = by.soon in let ends = end_last by.timed.at found.0 timed in omega (arith, soon, ends, long)))
       where
         by : OffersCallBy n m (end_of start a + call_timeout + pace.period) (here a) (b ++ timed ∷ [])

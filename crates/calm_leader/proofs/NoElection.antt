@@ -1,61 +1,69 @@
--- No election comes in a calm: row by row, each member that reads its clock has heard the leader lately.
-use Rattle.std.proofs.Common.{◌≡◌, ◌≢◌, ℕ, ◌+◌, ◌*◌, ◌<◌, ◌≤◌, arith, List, [], ◌∷◌, ◌++◌, refl, sym, ◌∙◌, ap, subst, inl, inr}
+-- No election comes in a calm, from a world on in which a member leads: row by row, each member that reads its clock has
+-- heard the leader lately.
+use Rattle.std.proofs.Common.{◌≡◌, ◌≢◌, ℕ, ◌+◌, ◌<◌, ◌≤◌, arith, List, [], ◌∷◌, ◌++◌, refl, sym, ◌∙◌, ap, subst, inl, inr}
 use Rattle.std.proofs.lemmas.Bool.Decides.{leb_tells}
 use Rattle.std.proofs.lemmas.List.{append_assoc, append-nil}
-use Rattle.can_frame.specs.Timing.{election_wait, transfer_timeout}
+use Rattle.can_frame.specs.Timing.{election_wait}
 use Rattle.raft_model.specs.Lists.{In}
-use Rattle.raft_model.specs.Server.Role.{Follower}
 use Rattle.replay_text.specs.declared.row.Row.{Row}
 use Rattle.replay_text.specs.declared.row.Row.TheVariants.{AEnd, AOpen, ARx, ASend, ATick, Crash, Ext, Fault, Open, Rx, Send, Tick}
 use Rattle.alloc_spec.specs.AllocatorState.{AllocatorState}
 use Rattle.cluster_agreement.proofs.Concatenations.{first_harmless}
 use Rattle.cluster_progress.specs.InTime.{FramesLeaveFollowers, StaysFollower}
 use Rattle.cluster_recovery.specs.Calm.{Pace, Timed, end_of, rows_in}
-use Rattle.cluster_calm.specs.Calm.{AreCalm, AreRunning, IsCalmRow, Member as OfMember, Party, no_traffic}
-use Rattle.cluster_calm.specs.Comes.{HasMemory, Throughout}
-use Rattle.calm_leader.specs.LeadsOn.{FollowsWithin, IsLed, LeadersLeadOn, NobodyStands, WaitsOn}
-use Rattle.calm_leader.specs.NoElection.{CallsFit, ClocksGoOn, HasHeard, NoElection, WillHear, greatest_wait, heard_within}
+use Rattle.cluster_calm.specs.Calm.{AreRunning, IsCalmRow, Member as OfMember, Party}
+use Rattle.cluster_calm.specs.Calls.{Lists}
+use Rattle.cluster_calm.specs.Comes.{Throughout}
+use Rattle.calm_leader.specs.LeadsOn.{FollowsWithin, IsLed, NobodyStands, WaitsOn}
+use Rattle.calm_leader.specs.NoElection.{CallsFit, ClocksGoOn, HasHeard, NoElection, greatest_wait, heard_within}
 use Rattle.cluster_calm.proofs.CallsKept.{GoesOn, IsKept, RunsWith, further}
 use Rattle.calm_leader.proofs.FirstWait.{FollowsUntil, IsBetween, first_wait}
-use Rattle.calm_leader.proofs.NextCall.{CallLaws, FollowsLately, follows_lately, runs_at}
+use Rattle.calm_leader.proofs.NextCall.{CallLaws, FollowsLately, HearsCalls, follows_lately, runs_at}
 use Rattle.cluster_calm.proofs.Pair.{same_server}
-use Rattle.calm_leader.proofs.Stretches.{GoesOnFrom, HasLast, calm_first, calm_front, calm_rest, end_last, fits_front, in_between, nobody_front, nobody_more, none_or_last, rows_both, throughout_by, throughout_front, throughout_more}
+use Rattle.calm_leader.proofs.Stretches.{GoesOnFrom, HasLast, calm_first, calm_rest, end_last, fits_front, in_between, nobody_front, nobody_more, none_or_last, rows_both, throughout_by, throughout_more}
 use Rattle.cluster_spec.specs.Cluster.{Cluster, after_rows, world_of}
 use Rattle.cluster_spec.specs.Lawful.{DoNoHarm}
 use Rattle.cluster_spec.specs.Members.MemberStatus.{Up}
 
-module _ (ids : List ℕ) (rows : List Row) (laws : CallLaws ids rows) (leads_on : LeadersLeadOn ids rows) (ticks : StaysFollower)
-    (frames : FramesLeaveFollowers) (group : List Party) (clocks : Party → ℕ) (pace : Pace) (start : ℕ)
-    (listed : (p : ℕ) → In (OfMember p) group → In p ids) (running : AreRunning group (world_of ids rows))
-    (server_me : (p : ℕ) → In (OfMember p) group → (server : AllocatorState) → ((world_of ids rows).member p).status ≡ Up server → server.me ≡ p)
-    (clocks_go : ClocksGoOn group clocks start (world_of ids rows)) (n term : ℕ) (in_n : In (OfMember n) group)
-    (is_led : IsLed group n term (world_of ids rows)) (short : greatest_wait pace < election_wait) (whole : List Timed)
-    (will : (m : ℕ) → In (OfMember m) group → m ≢ n → WillHear n m (start + clocks (OfMember m) + heard_within pace) (world_of ids rows) whole)
-    (calm : AreCalm group clocks pace (no_traffic start) (world_of ids rows) whole)
-    (harmless : DoNoHarm (world_of ids rows) (rows_in whole)) (fits : CallsFit n (world_of ids rows) whole) where
+-- ---- what is asked of the world before the rows
+
+module _ (group : List Party) (clocks : Party → ℕ) (pace : Pace) (start n term : ℕ) (whole : List Timed) where
+  -- member n calls member m in these rows, and m hears it in time; its wait is not over before
+  pub record CanHear (m : ℕ) (v : Cluster) : Type 0 where
+    pub calls : Lists n m v
+    pub hears : Lists m n v
+    pub in_time : (front rest : List Timed) → whole ≡ front ++ rest → HearsCalls clocks pace n m v front
+    pub waits : (server : AllocatorState) → (v.member m).status ≡ Up server
+        → start + clocks (OfMember m) + heard_within pace < server.times.since + election_wait
+
+  -- the rows go on calmly from this world, in which n leads, at this moment
+  pub record Begins (v : Cluster) : Type 0 where
+    pub running : AreRunning group v
+    pub server_me : (p : ℕ) → In (OfMember p) group → (server : AllocatorState) → (v.member p).status ≡ Up server → server.me ≡ p
+    pub clocks_go : ClocksGoOn group clocks start v
+    pub from : GoesOnFrom group clocks pace start v whole
+    pub harmless : DoNoHarm v (rows_in whole)
+    pub fits : CallsFit n v whole
+    pub leads_on : (front rest : List Timed) → whole ≡ front ++ rest → NobodyStands n v front → IsLed group n term (after_rows v (rows_in front))
+    pub will : (m : ℕ) → In (OfMember m) group → m ≢ n → CanHear m v
+
+module _ (ids : List ℕ) (rows : List Row) (laws : CallLaws ids rows) (ticks : StaysFollower)
+    (frames : FramesLeaveFollowers) (group : List Party) (clocks : Party → ℕ) (pace : Pace) (start n term : ℕ) (in_n : In (OfMember n) group)
+    (short : greatest_wait pace < election_wait) (whole : List Timed)
+    (begins : Begins group clocks pace start n term whole (world_of ids rows)) where
   abbrev w : Cluster
   w = world_of ids rows
 
   abbrev here : List Timed → Cluster
   here front = after_rows w (rows_in front)
 
-  quick : 2 * pace.delay ≤ transfer_timeout
-  quick = omega (arith, short)
-
   -- ---- at a front
 
-  calm_at : (front rest : List Timed) → whole ≡ front ++ rest → AreCalm group clocks pace (no_traffic start) w (front ++ rest)
-  calm_at front rest cut = subst (AreCalm group clocks pace (no_traffic start) w) cut calm
-
-  abbrev from_start : (front rest : List Timed) → whole ≡ front ++ rest → GoesOnFrom group clocks pace start w (front ++ rest)
-  from_start front rest cut = record { traffic = no_traffic start; calm = calm_at front rest cut; at_end = refl; ticked = λ party. omega arith }
+  from_start : (front rest : List Timed) → whole ≡ front ++ rest → GoesOnFrom group clocks pace start w (front ++ rest)
+  from_start front rest cut = subst (GoesOnFrom group clocks pace start w) cut begins.from
 
   harmless_at : (front rest : List Timed) → whole ≡ front ++ rest → DoNoHarm w (rows_in front)
-  harmless_at front rest cut = first_harmless w (rows_in front) (rows_in rest) (subst (DoNoHarm w) (ap rows_in cut ∙ rows_both front rest) harmless)
-
-  led_at : (front rest : List Timed) → whole ≡ front ++ rest → NobodyStands n w front → IsLed group n term (here front)
-  led_at front rest cut nobody =
-      leads_on group clocks pace start n term front rest listed running in_n is_led (calm_at front rest cut) (harmless_at front rest cut) nobody
+  harmless_at front rest cut = first_harmless w (rows_in front) (rows_in rest) (subst (DoNoHarm w) (ap rows_in cut ∙ rows_both front rest) begins.harmless)
 
   -- ---- at a row, where nobody stood before
 
@@ -68,10 +76,10 @@ module _ (ids : List ℕ) (rows : List Row) (laws : CallLaws ids rows) (leads_on
 
     led_upto : Throughout (IsLed group n term) w upto
     led_upto = throughout_more (IsLed group n term) front timed w
-        (throughout_by (IsLed group n term) front w (λ a b x same. led_at a (x ∷ b ++ timed ∷ rest)
+        (throughout_by (IsLed group n term) front w (λ a b x same. begins.leads_on a (x ∷ b ++ timed ∷ rest)
         (cut ∙ ap (λ (l : List Timed). l ++ timed ∷ rest) same ∙ append_assoc a (x ∷ b) (timed ∷ rest))
         (nobody_front n a (x ∷ b) w (subst (NobodyStands n w) same nobody))))
-        (led_at front (timed ∷ rest) cut nobody)
+        (begins.leads_on front (timed ∷ rest) cut nobody)
 
     module _ (m : ℕ) (in_m : In (OfMember m) group) (differs : m ≢ n) where
       abbrev base : ℕ
@@ -80,24 +88,17 @@ module _ (ids : List ℕ) (rows : List Row) (laws : CallLaws ids rows) (leads_on
       abbrev last : ℕ
       last = base + heard_within pace
 
-      its : WillHear n m last w whole
-      its = will m in_m differs
+      its : CanHear group clocks pace start n term whole m w
+      its = begins.will m in_m differs
 
       -- after the first call the member has heard the leader lately
       lately : start + heard_within pace < timed.at
-          → FollowsLately ids rows laws group clocks pace start listed running server_me clocks_go n term in_n front timed
-          (calm_front group clocks pace upto rest (no_traffic start) w (calm_at upto rest upto_cut)) (harmless_at upto rest upto_cut)
-          (fits_front n upto rest w (subst (CallsFit n w) upto_cut fits)) led_upto m last in_m differs
-          (record {
-            calls = its.calls;
-            hears = its.hears;
-            ready = its.ready;
-            first = its.first;
-            memory = throughout_front (HasMemory m) upto rest w (subst (Throughout (HasMemory m) w) upto_cut its.memory);
-            waits = its.waits;
-          }) quick
-      lately long = follows_lately ids rows laws group clocks pace start listed running server_me clocks_go n term in_n front timed _ _ _ _
-          m _ in_m differs _ quick short long
+          → FollowsLately ids rows laws group clocks pace start begins.running begins.server_me begins.clocks_go n term in_n front timed
+          (calm_first group clocks pace upto rest start w (from_start upto rest upto_cut)) (harmless_at upto rest upto_cut)
+          (fits_front n upto rest w (subst (CallsFit n w) upto_cut begins.fits)) led_upto m in_m differs
+          its.calls its.hears (its.in_time upto rest upto_cut)
+      lately long = follows_lately ids rows laws group clocks pace start begins.running begins.server_me begins.clocks_go n term in_n front timed _ _ _ _
+          m in_m differs _ _ _ short long
 
       -- before, its first wait is not over
       at_first : timed.at ≤ start + heard_within pace
@@ -118,7 +119,7 @@ module _ (ids : List ℕ) (rows : List Row) (laws : CallLaws ids rows) (leads_on
               (omega (arith, within.0), omega (arith, within.1, moments, ends, early))
 
           follows : FollowsWithin m term w
-          follows = is_led.others m in_m differs
+          follows = (begins.leads_on [] whole refl tt).others m in_m differs
 
           kept : IsKept (IsBetween base last) (FollowsUntil last)
           kept = first_wait ticks frames base last (omega (arith, short))
@@ -126,16 +127,18 @@ module _ (ids : List ℕ) (rows : List Row) (laws : CallLaws ids rows) (leads_on
           later : GoesOn (IsBetween base last) (FollowsUntil last) kept group clocks pace m (here front) (timed ∷ rest)
           later = further (IsBetween base last) (FollowsUntil last) kept group clocks pace m front (timed ∷ rest) w between
               (record {
-                traffic = no_traffic start;
+                traffic = from.traffic;
                 calm = from.calm;
                 runs = record {
-                  server = its.ready.receiver;
-                  up = record { status = its.ready.receives; quiet = record { faults = (running m in_m).faults; calls = (running m in_m).disk } };
+                  server = follows.server;
+                  up = record {
+                    status = follows.runs;
+                    quiet = record { faults = (begins.running m in_m).faults; calls = (begins.running m in_m).disk };
+                  };
                   holds = record {
-                    follows = subst (λ (t : AllocatorState). t.raft_server.memory.role ≡ Follower)
-                        (same_server follows.server its.ready.receiver (sym follows.runs ∙ its.ready.receives)) follows.follows;
-                    waits = its.waits;
-                    reads = let clock = clocks_go m in_m its.ready.receiver its.ready.receives in omega (arith, clock);
+                    follows = follows.follows;
+                    waits = its.waits follows.server follows.runs;
+                    reads = let clock = begins.clocks_go m in_m follows.server follows.runs in omega (arith, clock);
                   };
                 };
               })
@@ -163,7 +166,7 @@ module _ (ids : List ℕ) (rows : List Row) (laws : CallLaws ids rows) (leads_on
         by_row : (row : Row) → IsCalmRow group clocks pace goes.traffic (here front) timed.at row → WaitsOn n (here front) row
         by_row (Tick m ms word) reading = λ differs server up.
             let waits = waits_yet m reading.0 differs server up in
-            let run = runs_at ids rows laws group clocks pace start listed running server_me clocks_go m reading.0 front (timed ∷ rest)
+            let run = runs_at ids rows laws group clocks pace start begins.running begins.server_me begins.clocks_go m reading.0 front (timed ∷ rest)
             (from_start front (timed ∷ rest) cut) in
             let clock : server.now ≤ end_of start front + clocks (OfMember m)
             = subst (λ (t : AllocatorState). t.now ≤ end_of start front + clocks (OfMember m))
@@ -217,4 +220,4 @@ module _ (ids : List ℕ) (rows : List Row) (laws : CallLaws ids rows) (leads_on
           split_at = cut ∙ ap (λ (l : List Timed). l ++ rest) some.split ∙ append_assoc some.front (some.last ∷ []) rest
 
   pub no_election : NoElection group clocks pace start n term w whole
-  no_election = record { led = λ front rest cut. led_at front rest cut (nobody_at front rest cut); nobody = nobody; heard = has_heard }
+  no_election = record { led = λ front rest cut. begins.leads_on front rest cut (nobody_at front rest cut); nobody = nobody; heard = has_heard }

@@ -33,6 +33,11 @@ pub harmless_both : (w : Cluster) (first rest : List Row) → DoNoHarm w first �
 harmless_both w [] rest a b = b
 harmless_both w (row ∷ first) rest a b = (a.0, harmless_both (after_row w row) first rest a.1 b)
 
+-- where rows do no harm, neither do those behind the first of them
+pub harmless_rest : (w : Cluster) (first rest : List Row) → DoNoHarm w (first ++ rest) → DoNoHarm (after_rows w first) rest
+harmless_rest w [] rest all = all
+harmless_rest w (row ∷ first) rest all = harmless_rest (after_row w row) first rest all.1
+
 -- the last row says when rows end
 pub end_last : (start : ℕ) (front : List Timed) (last : Timed) → end_of start (front ++ last ∷ []) ≡ last.at
 end_last start front last = end_both start front (last ∷ [])

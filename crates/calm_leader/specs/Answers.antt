@@ -108,10 +108,13 @@ pub record WaitsForAnswer (m id moment : ℕ) (request : Request) (t : Allocator
   pub kept : t.times.sending m ≡ Some (record { id = id; moment = moment })
 
 -- What a leader knows of the answering member when it has taken an answer of its own term, in the step with this
--- number. If the answer says success, the member's log agrees with the leader's up to the reach of the call, and its
--- next call begins behind there (`matched_after`, `next_after`); if not, the next call begins one place earlier, down
--- to the first. The call is not pending any more: one that is was made in this step.
+-- number. Until then the call that is answered was pending. If the answer says success, the member's log agrees with
+-- the leader's up to the reach of the call, and its next call begins behind there (`matched_after`, `next_after`); if
+-- not, the next call begins one place earlier, down to the first. The call is not pending any more: one that is was
+-- made in this step.
 pub record TakesAnswer (number : ℕ) (answer : Answer) (before after : AllocatorState) : Type 0 where
+  pub own_term : answer.term ≡ before.raft_server.store.term
+  pub waited : before.raft_server.memory.pending answer.from ≡ Some answer.request
   pub matched : after.raft_server.memory.matched answer.from ≡ matched_after before.raft_server.memory answer
   pub next : after.raft_server.memory.next answer.from ≡ next_after before.raft_server.memory answer
   pub ended : (again : Request) → after.raft_server.memory.pending answer.from ≡ Some again → again.step ≡ number

@@ -1,5 +1,5 @@
 -- What it is that a leader's entries come to a member and are committed, in a calm.
-use Rattle.std.specs.Prelude.{◌≡◌, ◌≢◌, ℕ, ◌+◌, ◌*◌, ◌<◌, ◌≤◌, ◌==◌, ◌||◌, Bool, true}
+use Rattle.std.specs.Prelude.{◌≡◌, ◌≢◌, ◌⊎◌, ℕ, ◌+◌, ◌-◌, ◌*◌, ◌<◌, ◌≤◌, ◌==◌, ◌||◌, max, Bool, true}
 use Rattle.std.specs.Prelude.{List, ◌∷◌, ◌++◌, length, None, Some}
 use Rattle.can_frame.specs.declared.step.What.TheVariants.{App, AppQ}
 use Rattle.can_frame.specs.Timing.{call_timeout}
@@ -20,10 +20,10 @@ use Rattle.alloc_spec.specs.AllocatorState.{AllocatorState}
 use Rattle.alloc_spec.specs.Transfers.{SentTransfer, id_of}
 use Rattle.cluster_recovery.specs.Calm.{Pace, Timed, end_of, rows_in}
 use Rattle.cluster_calm.specs.Calls.{Lists}
-use Rattle.calm_leader.specs.CallsComeBack.{HasPlace}
+use Rattle.calm_leader.specs.CallsComeBack.{HasPlace, LeadsOn}
 use Rattle.cluster_calm.specs.Calm.{AreCalm, AreRunning, Member, Party, no_traffic}
 use Rattle.cluster_calm.specs.Comes.{AreReady, Delivers, HasMemory, MayComeFirst, Throughout}
-use Rattle.calm_leader.specs.LeadsOn.{IsLed}
+use Rattle.calm_leader.specs.LeadsOn.{IsLedThroughout}
 use Rattle.calm_leader.specs.NoElection.{CallsFit}
 use Rattle.cluster_spec.specs.Cluster.{Cluster, after_rows, world_of}
 use Rattle.cluster_spec.specs.Lawful.{DoNoHarm, DoesNoHarm}
@@ -77,6 +77,27 @@ abbrev pub NoCallPends : (n m : ℕ) → Cluster → Type 0
 NoCallPends n m w = (leader : AllocatorState) → (w.member n).status ≡ Up leader →
     leader.raft_server.memory.pending m ≡ None
 
+-- each call of the leader n to member m that waits for its answer in this world was made in a step behind this one
+abbrev pub PendsSince : (n m number : ℕ) → Cluster → Type 0
+PendsSince n m number w = (leader : AllocatorState) (request : Request) → (w.member n).status ≡ Up leader →
+    leader.raft_server.memory.pending m ≡ Some request → number < request.step
+
+-- The leader n goes on calling member m: a call waits for its answer, or the next one carries an entry, or begins no
+-- further on than behind the places that n knows m to have. Behind a step of a leader whose calls found room it is
+-- otherwise in one case alone: since the leader won, its log has not grown, and of all answers of m it has taken those
+-- alone that m gave to calls of an earlier term, for those to later calls. Then its next call is a heartbeat.
+abbrev pub GoesOnCalling : (n m : ℕ) → Cluster → Type 0
+GoesOnCalling n m w = (leader : AllocatorState) → (w.member n).status ≡ Up leader →
+    (leader.raft_server.memory.pending m ≢ None)
+    ⊎ (leader.raft_server.memory.next m
+    ≤ max (length leader.raft_server.store.log) (leader.raft_server.memory.matched m + 1))
+
+-- So many calls at most, each with its answer, until the leader knows the member to have its whole log: one for each
+-- place by which the next call is too far on, and one for each place that the leader does not know the member to have.
+abbrev pub calls_left : AllocatorState → (m : ℕ) → ℕ
+calls_left leader m = (leader.raft_server.memory.next m - (leader.raft_server.memory.matched m + 1))
+    + (length leader.raft_server.store.log - leader.raft_server.memory.matched m)
+
 -- The leader n can call member m in these rows, and m can answer. Each is on the other's list. When the rows begin, no
 -- frame of an earlier call waits, nor one of an earlier answer, and the first call has a transfer ID under which it may
 -- begin at m, and its answer at n. Both have memory for what they receive, and the queue of m has a place for an
@@ -106,31 +127,33 @@ pub record HasComeBy (n m count last start : ℕ) (w : Cluster) (whole : List Ti
   pub known : count ≤ leader.raft_server.memory.matched m
   pub has : Same count leader.raft_server.store.log peer.raft_server.store.log
 
--- So long it takes at most until a member has so many places more. A leader reads its clock within a period. Then a
--- call may be under way, which carries none of them; behind it each call carries one. A call and its answer take two
--- delays each.
+-- So long it takes at most until so many calls are answered. A leader reads its clock within a period. Then a call may
+-- be under way, which is none of them; behind it each answer is followed by the next call at once. A call and its
+-- answer take two delays each.
 abbrev pub come_within : Pace → ℕ → ℕ
 come_within pace more = pace.period + 4 * pace.delay * (more + 1)
 
 -- In each calm from the world of these rows on, of rows that do no harm, in which four delays are shorter than the call
--- timeout. After each front of them member n leads in this term, and the other members of the group follow in no higher
--- one (`no_election_comes_in_calm` says when that is so); its calls find room in its queue. It can exchange calls and
--- answers with another member of the group, which is in step with it when the calm begins, and to which no call pends
--- then. From each front on, of which the leader's log has at most so many places more than it knows the member to have:
--- all places that the log has then come to the member in time, or the calm is over by then. What is put into the log
--- meanwhile does not count.
+-- timeout. Member n may not lead when the calm begins; once it leads, it leads on in this term. After some first rows
+-- it leads, and from there on the other members of the group follow in no higher term (`no_election_comes_in_calm` says
+-- when that is so); its calls find room in its queue. It can exchange calls and answers with another member of the
+-- group, whatever that one's log is. After the first rows it goes on calling it, and a call to it that waits for its
+-- answer then was made in the calm. From each front on behind there, at which so many calls at most are left: all
+-- places that the leader's log has then come to the member in time, or the calm is over by then. What is put into the
+-- log meanwhile does not count.
 abbrev pub EntriesComeInTime : List ℕ → List Row → Type 0
 EntriesComeInTime ids rows = (group : List Party) (clocks : Party → ℕ) (pace : Pace) (start n m term more : ℕ)
-    (front rest : List Timed) (leader : AllocatorState) → let w = world_of ids rows in let whole = front ++ rest in
+    (first front rest : List Timed) (leader : AllocatorState) → let w = world_of ids rows in
+    let there = after_rows w (rows_in first) in let whole = first ++ (front ++ rest) in
     ((p : ℕ) → In (Member p) group → In p ids) → AreRunning group w → In (Member n) group → In (Member m) group →
     m ≢ n →
     4 * pace.delay < call_timeout → AreCalm group clocks pace (no_traffic start) w whole → DoNoHarm w (rows_in whole) →
-    ((early late : List Timed) → whole ≡ early ++ late → IsLed group n term (after_rows w (rows_in early))) →
-    CallsFit n w whole → CanExchange n m w whole → AreInStep n m w → NoCallPends n m w →
-    ((after_rows w (rows_in front)).member n).status ≡ Up leader →
-    length leader.raft_server.store.log ≤ leader.raft_server.memory.matched m + more →
-    end_of start front + come_within pace more < end_of start whole →
-    HasComeBy n m (length leader.raft_server.store.log) (end_of start front + come_within pace more) start w whole
+    LeadsOn n term w whole → IsLedThroughout group n term there (front ++ rest) → CallsFit n w whole →
+    CanExchange n m w whole → PendsSince n m w.rows there → GoesOnCalling n m there →
+    ((after_rows there (rows_in front)).member n).status ≡ Up leader → calls_left leader m ≤ more →
+    let then = end_of (end_of start first) front in then + come_within pace more < end_of start whole →
+    HasComeBy n m (length leader.raft_server.store.log) (then + come_within pace more) (end_of start first) there
+    (front ++ rest)
 
 -- ---- entries are committed
 
@@ -154,16 +177,16 @@ pub record IsCommittedBy (n count last start : ℕ) (w : Cluster) (whole : List 
 -- the leader has committed all of them by the same moment.
 abbrev pub EntriesAreCommittedInTime : List ℕ → List Row → Type 0
 EntriesAreCommittedInTime ids rows = (group : List Party) (clocks : Party → ℕ) (pace : Pace) (start n term more : ℕ)
-    (first : ℕ) (next : List ℕ) (front rest : List Timed) (leader : AllocatorState) → let w = world_of ids rows in
-    let whole = front ++ rest in let others = first ∷ next in
+    (other : ℕ) (next : List ℕ) (first front rest : List Timed) (leader : AllocatorState) →
+    let w = world_of ids rows in let there = after_rows w (rows_in first) in
+    let whole = first ++ (front ++ rest) in let others = other ∷ next in
     ((p : ℕ) → In (Member p) group → In p ids) → AreRunning group w → In (Member n) group →
     ((m : ℕ) → In m others → In (Member m) group × (m ≢ n)) → quorum ids ≤ how_many (is_one_of n others) ids →
     4 * pace.delay < call_timeout → AreCalm group clocks pace (no_traffic start) w whole → DoNoHarm w (rows_in whole) →
-    ((early late : List Timed) → whole ≡ early ++ late → IsLed group n term (after_rows w (rows_in early))) →
-    CallsFit n w whole →
-    ((m : ℕ) → In m others → CanExchange n m w whole × AreInStep n m w × NoCallPends n m w) →
-    ((after_rows w (rows_in front)).member n).status ≡ Up leader →
-    ((m : ℕ) → In m others → length leader.raft_server.store.log ≤ leader.raft_server.memory.matched m + more) →
+    LeadsOn n term w whole → IsLedThroughout group n term there (front ++ rest) → CallsFit n w whole →
+    ((m : ℕ) → In m others → CanExchange n m w whole × PendsSince n m w.rows there × GoesOnCalling n m there) →
+    ((after_rows there (rows_in front)).member n).status ≡ Up leader →
+    ((m : ℕ) → In m others → calls_left leader m ≤ more) →
     term_at leader.raft_server.store.log (length leader.raft_server.store.log) ≡ term →
-    end_of start front + come_within pace more < end_of start whole →
-    IsCommittedBy n (length leader.raft_server.store.log) (end_of start front + come_within pace more) start w whole
+    let then = end_of (end_of start first) front in then + come_within pace more < end_of start whole →
+    IsCommittedBy n (length leader.raft_server.store.log) (then + come_within pace more) start w whole

@@ -1,6 +1,6 @@
 -- What the laws of entries stand on, together: each field is what a law says of these rows. It is a means of their
 -- proofs.
-use Rattle.std.specs.Prelude.{◌≡◌, ◌≢◌, ℕ, ◌≤◌, true, List, ◌++◌, Some}
+use Rattle.std.specs.Prelude.{◌≡◌, ◌≢◌, ℕ, ◌+◌, ◌≤◌, true, List, ◌++◌, length, Some}
 use Rattle.raft_model.specs.Lists.{In}
 use Rattle.raft_model.specs.Log.{Same}
 use Rattle.raft_model.specs.Messages.{Request}
@@ -26,10 +26,17 @@ HasWhatIsKnown ids w = (n m : ℕ) (leader peer : AllocatorState) → In n ids �
     peer.raft_server.store.term ≤ leader.raft_server.store.term →
     Same (leader.raft_server.memory.matched m) leader.raft_server.store.log peer.raft_server.store.log
 
--- where member n leads, it calls each peer next at place 1 or behind it
-abbrev pub CallsFromOne : List ℕ → Cluster → Type 0
-CallsFromOne ids w = (n m : ℕ) (leader : AllocatorState) → In n ids → (w.member n).status ≡ Up leader →
-    leader.raft_server.memory.role ≡ Leader → 1 ≤ leader.raft_server.memory.next m
+-- where member n leads, it calls each peer next at a place of its log, or just behind them
+abbrev pub CallsInside : List ℕ → Cluster → Type 0
+CallsInside ids w = (n m : ℕ) (leader : AllocatorState) → In n ids → (w.member n).status ≡ Up leader →
+    leader.raft_server.memory.role ≡ Leader →
+    (1 ≤ leader.raft_server.memory.next m)
+    × (leader.raft_server.memory.next m ≤ length leader.raft_server.store.log + 1)
+
+-- each call of member n that pends was made in a row that is past
+abbrev pub PendingCallsArePast : List ℕ → Cluster → Type 0
+PendingCallsArePast ids w = (n m : ℕ) (server : AllocatorState) (request : Request) → In n ids →
+    (w.member n).status ≡ Up server → server.raft_server.memory.pending m ≡ Some request → request.step ≤ w.rows
 
 -- where member n leads, each of its calls that pends is an append request
 abbrev pub AppendsPend : List ℕ → Cluster → Type 0
@@ -50,7 +57,8 @@ pub record EntryLaws (ids : List ℕ) (rows : List Row) : Type 0 where
   pub duty : (more : List Row) → DoNoHarm (world_of ids rows) more → AreDutiful ids (rows ++ more)
   pub has : (more : List Row) → DoNoHarm (world_of ids rows) more → HasWhatIsKnown ids (world_of ids (rows ++ more))
   pub appends : (more : List Row) → DoNoHarm (world_of ids rows) more → AppendsPend ids (world_of ids (rows ++ more))
-  pub from_one : CallsFromOne ids (world_of ids rows)
+  pub inside : (more : List Row) → DoNoHarm (world_of ids rows) more → CallsInside ids (world_of ids (rows ++ more))
+  pub past : PendingCallsArePast ids (world_of ids rows)
   pub node : (p : ℕ) (server : AllocatorState) → In p ids → ((world_of ids rows).member p).status ≡ Up server →
       server.me ≡ p
   pub back : CallsComeBack ids rows

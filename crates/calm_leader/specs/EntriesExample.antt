@@ -1,50 +1,57 @@
--- Rows that meet the premises of entries that come in time: behind those of `CallsExample` the calm goes on, and the
--- members and the device read their clocks.
-use Rattle.std.specs.Prelude.{◌≡◌, ◌+◌, ◌<◌, ◌≤◌, List, [], ◌∷◌, ◌++◌, length}
-use Rattle.replay_text.specs.declared.row.Row.{Row}
+-- Rows that meet the premises of entries that come in time: those of `CallsExample`, in which member 1 comes to lead,
+-- and behind them the members and the device read their clocks.
+use Rattle.std.specs.Prelude.{◌≡◌, ◌+◌, ◌<◌, ◌≤◌, List, [], ◌∷◌, ◌++◌}
 use Rattle.replay_text.specs.declared.row.Row.TheVariants.{ATick, Tick}
 use Rattle.alloc_spec.specs.AllocatorState.{AllocatorState}
 use Rattle.cluster_recovery.specs.Calm.{Timed, end_of, rows_in}
-use Rattle.calm_leader.specs.CallsExample.{long_rows}
+use Rattle.calm_leader.specs.CallsExample.{answer_rows}
 use Rattle.cluster_calm.specs.Calm.{AreCalm, AreRunning, no_traffic}
-use Rattle.cluster_calm.specs.CalmExample.{clocks, first_rows, group, pace, receiver, sender, two}
-use Rattle.calm_leader.specs.Entries.{AreInStep, CanExchange, NoCallPends, come_within}
-use Rattle.calm_leader.specs.LeadsOn.{IsLed}
+use Rattle.cluster_calm.specs.CalmExample.{append_rows, clocks, first_rows, group, leading_row, pace, receiver, sender}
+use Rattle.cluster_calm.specs.CalmExample.{sending_row, start, then_world, two, vote_rows}
+use Rattle.calm_leader.specs.CallsComeBack.{LeadsNotIfUp, LeadsOn}
+use Rattle.calm_leader.specs.Entries.{CanExchange, GoesOnCalling, PendsSince, calls_left, come_within}
+use Rattle.calm_leader.specs.LeadsOn.{IsLedThroughout}
 use Rattle.calm_leader.specs.NoElection.{CallsFit}
-use Rattle.cluster_spec.specs.Cluster.{Cluster, after_rows, cluster, world_of}
+use Rattle.cluster_spec.specs.Cluster.{Cluster, after_rows, cluster}
 use Rattle.cluster_spec.specs.Lawful.{DoNoHarm}
 use Rattle.cluster_spec.specs.Members.MemberStatus.{Up}
 
--- member 1 leads, and has taken the answer to its first call
-abbrev pub led_rows : List Row
-led_rows = first_rows ++ rows_in long_rows
+-- until member 1 has the vote of member 2, and leads
+abbrev pub won_rows : List Timed
+won_rows = (sending_row ∷ vote_rows) ++ leading_row ∷ []
 
-abbrev pub led_world : Cluster
-led_world = world_of two led_rows
+abbrev pub won_world : Cluster
+won_world = after_rows then_world (rows_in won_rows)
 
 -- who is there reads its clock, twice
 abbrev pub clock_rows : List Timed
-clock_rows = record { at = 2106; row = Tick 1 2206 0 }
-    ∷ record { at = 2106; row = Tick 2 2306 0 }
-    ∷ record { at = 2106; row = ATick 1 2146 0 }
-    ∷ record { at = 2157; row = Tick 1 2257 0 }
-    ∷ record { at = 2157; row = Tick 2 2357 0 }
-    ∷ record { at = 2157; row = ATick 1 2197 0 }
+clock_rows = record { at = 2090; row = Tick 1 2190 0 }
+    ∷ record { at = 2090; row = Tick 2 2290 0 }
+    ∷ record { at = 2090; row = ATick 1 2130 0 }
+    ∷ record { at = 2140; row = Tick 1 2240 0 }
+    ∷ record { at = 2140; row = Tick 2 2340 0 }
+    ∷ record { at = 2140; row = ATick 1 2180 0 }
     ∷ []
 
--- They meet each premise, from the beginning of these rows on. The log has no entry yet.
+-- its first call is answered, and the rows go on
+abbrev pub led_rows : List Timed
+led_rows = append_rows ++ (answer_rows ++ clock_rows)
+
+-- They meet each premise: member 1 does not lead when the calm begins, and leads behind the first rows. The log has no
+-- entry, so no call is left.
 pub record EntriesMayCome : Type 0 where
-  pub before : DoNoHarm (cluster two) led_rows
-  pub running : AreRunning group led_world
-  pub calm : AreCalm group clocks pace (no_traffic 2056) led_world clock_rows
-  pub harmless : DoNoHarm led_world (rows_in clock_rows)
-  pub led : (early late : List Timed) → clock_rows ≡ early ++ late →
-      IsLed group sender 1 (after_rows led_world (rows_in early))
-  pub fit : CallsFit sender led_world clock_rows
-  pub can : CanExchange sender receiver led_world clock_rows
-  pub in_step : AreInStep sender receiver led_world
-  pub none : NoCallPends sender receiver led_world
+  pub before : DoNoHarm (cluster two) first_rows
+  pub running : AreRunning group then_world
+  pub leads_not : LeadsNotIfUp sender then_world
+  pub calm : AreCalm group clocks pace (no_traffic start) then_world (won_rows ++ led_rows)
+  pub harmless : DoNoHarm then_world (rows_in (won_rows ++ led_rows))
+  pub leads_on : LeadsOn sender 1 then_world (won_rows ++ led_rows)
+  pub led : IsLedThroughout group sender 1 won_world led_rows
+  pub fit : CallsFit sender then_world (won_rows ++ led_rows)
+  pub can : CanExchange sender receiver then_world (won_rows ++ led_rows)
+  pub since : PendsSince sender receiver then_world.rows won_world
+  pub goes_on : GoesOnCalling sender receiver won_world
   pub leader : AllocatorState
-  pub leads : (led_world.member sender).status ≡ Up leader
-  pub few : length leader.raft_server.store.log ≤ leader.raft_server.memory.matched receiver + 0
-  pub long : 2056 + come_within pace 0 < end_of 2056 clock_rows
+  pub leads : (won_world.member sender).status ≡ Up leader
+  pub few : calls_left leader receiver ≤ 0
+  pub long : end_of start won_rows + come_within pace 0 < end_of start (won_rows ++ led_rows)

@@ -34,6 +34,11 @@ pub record IsLed (group : List Party) (n term : ℕ) (w : Cluster) : Type 0 wher
   pub leader : LeadsIn n term w
   pub others : (m : ℕ) → In (Member m) group → m ≢ n → FollowsWithin m term w
 
+-- so it is behind each front of these rows
+abbrev pub IsLedThroughout : List Party → (n term : ℕ) → Cluster → List Timed → Type 0
+IsLedThroughout group n term w whole = (front rest : List Timed) → whole ≡ front ++ rest →
+    IsLed group n term (after_rows w (rows_in front))
+
 -- ---- nobody stands for election
 
 -- Where another member than n reads its clock in this row, its least wait for an election is not over. Of n itself this
@@ -50,11 +55,13 @@ NobodyStands n w (timed ∷ rest) = WaitsOn n w timed.row × NobodyStands n (aft
 
 -- ---- the law
 
--- In each calm from the world of these rows on: where a member of the group leads when the calm begins, and the others
--- follow in no higher term, so it is after each front of calm rows that do no harm and in which nobody stands.
+-- In each calm from the world of these rows on, and behind any first rows of it: where a member of the group leads
+-- there, and the others follow in no higher term, so it is after each front of the calm rows behind, where the rows do
+-- no harm and nobody stands behind the first ones.
 abbrev pub LeadersLeadOn : List ℕ → List Row → Type 0
 LeadersLeadOn ids rows = (group : List Party) (clocks : Party → ℕ) (pace : Pace) (start n term : ℕ)
-    (front rest : List Timed) → let w = world_of ids rows in ((p : ℕ) → In (Member p) group → In p ids) →
-    AreRunning group w → In (Member n) group → IsLed group n term w →
-    AreCalm group clocks pace (no_traffic start) w (front ++ rest) → DoNoHarm w (rows_in front) →
-    NobodyStands n w front → IsLed group n term (after_rows w (rows_in front))
+    (first front rest : List Timed) → let w = world_of ids rows in let there = after_rows w (rows_in first) in
+    ((p : ℕ) → In (Member p) group → In p ids) → AreRunning group w → In (Member n) group → IsLed group n term there →
+    AreCalm group clocks pace (no_traffic start) w (first ++ (front ++ rest)) →
+    DoNoHarm w (rows_in (first ++ front)) → NobodyStands n there front →
+    IsLed group n term (after_rows there (rows_in front))

@@ -8,3 +8,4 @@ pub mod CallsAsk
 pub mod EntriesBelow
 pub mod CallsExample
 pub mod EntriesExample
+pub mod WinnersCall

@@ -1,6 +1,5 @@
 //! The laws of this crate, each the contract of a function that does nothing.
 
-ghost use Rattle.std.specs.Prelude.{◌≢◌, ℕ, List, ◌+◌, ◌<◌};
 ghost use Rattle.calm_leader.specs.Answers.{AnswersAreTaken, AnswersComeInCalm, AnswersReadAsSaid, CallsAreAnswered};
 ghost use Rattle.calm_leader.specs.CallsAsk.{CallsAskNext};
 ghost use Rattle.calm_leader.specs.CallsComeBack.{CallsComeBack};
@@ -14,6 +13,7 @@ ghost use Rattle.calm_leader.specs.NoElection.{CallsFit, ClocksGoOn, NoElectionC
 ghost use Rattle.calm_leader.specs.NoElection.{heard_within};
 ghost use Rattle.calm_leader.specs.NoElectionExample.{both, earlier_rows, heartbeat_rows, led_start, led_world};
 ghost use Rattle.calm_leader.specs.NoElectionExample.{slow_pace};
+ghost use Rattle.calm_leader.specs.WinnersCall.{WinnersCall};
 ghost use Rattle.can_frame.specs.Timing.{election_wait};
 ghost use Rattle.cluster_calm.specs.CallsInTime.{OffersCallBy};
 ghost use Rattle.cluster_calm.specs.Calm.{AreCalm, AreRunning, Member, no_traffic};
@@ -23,6 +23,7 @@ ghost use Rattle.cluster_spec.specs.Cluster.{AreMembers, cluster};
 ghost use Rattle.cluster_spec.specs.Lawful.{DoNoHarm};
 ghost use Rattle.raft_model.specs.Lists.{In};
 ghost use Rattle.replay_text.specs.declared.row.Row.{Row};
+ghost use Rattle.std.specs.Prelude.{◌≢◌, ℕ, List, [], ◌+◌, ◌<◌};
 
 use alloc_spec_laws::laws::{
     members_of_a_step, steps_stay_in_range, transfers_of_a_step_are_apart,
@@ -63,11 +64,11 @@ pub fn calls_to_who_is_in_step_are_accepted()
     what_is_said_of_messages();
 }
 
-/// Who leads leads on, and who follows follows on. In a calm as above, a member of the group leads in some term when
-/// the calm begins, and each other member of the group follows in no higher term. As long as the rows do no harm, and
-/// no other member reads its clock once its least wait for an election is over, so it is after each row. So no term
-/// above the leader's comes up among them. Members that are not of the group may have higher terms: no frame of theirs
-/// comes.
+/// Who leads leads on, and who follows follows on. In a calm as above, and from any moment of it on: a member of the
+/// group leads in some term then, and each other member of the group follows in no higher term. As long as the rows
+/// do no harm, and no other member reads its clock once its least wait for an election is over, so it is after each
+/// row. So no term above the leader's comes up among them. Members that are not of the group may have higher terms:
+/// no frame of theirs comes. Nothing is asked of who led before, or of elections before.
 pub fn who_leads_leads_on()
     ensures { (ids : List ℕ) (rows : List Row) → AreMembers ids → DoNoHarm (cluster ids) rows →
         LeadersLeadOn ids rows }
@@ -87,13 +88,14 @@ pub fn who_leads_leads_on()
     what_is_said_of_messages();
 }
 
-/// In a calm no election comes where a leader is known. When the calm begins, a member of the group leads, and the
-/// others follow in no higher term. Then it leads on in this term, however long the calm lasts, and each other member
-/// hears it before its least wait for an election is over, so it follows on. This asks that a call comes in time: the
-/// call timeout, two periods and two delays are less than the least wait. It asks that no clock has gone back, that
-/// each other member will hear the first call (the two list each other, no frame of an earlier call waits, the
-/// receiver's session does not refuse the call's ID, it has memory all the time, and its wait is not over by then), and
-/// that the calls that the leader offers find room in its queue.
+/// In a calm no election comes where a leader is known, from any moment of the calm on. At that moment a member of
+/// the group leads, and the others follow in no higher term. Then it leads on in this term, however long the calm
+/// lasts, and each other member hears it before its least wait for an election is over, so it follows on. This asks
+/// that a call comes in time: the call timeout, two periods and two delays are less than the least wait. It asks that
+/// no clock has gone back when the calm begins; that each other member will hear a call (when the calm begins, the
+/// two list each other, no frame of an earlier call waits, and the receiver's session does not refuse the first
+/// call's ID; it has memory all the time; and its wait is not over by when it hears a call that is made from that
+/// moment on); and that the calls that the leader offers from then on find room in its queue.
 pub fn no_election_comes_in_calm()
     ensures { (ids : List ℕ) (rows : List Row) → AreMembers ids → DoNoHarm (cluster ids) rows →
         NoElectionComes ids rows }
@@ -112,8 +114,9 @@ pub fn no_election_comes_in_calm()
     who_leads_leads_on();
 }
 
-/// The premises of a calm without an election can be met: of two members that are told their list one leads, and the
-/// other one follows it, and in calm rows that do no harm the answer to its first call comes, and it calls again.
+/// The premises of a calm without an election can be met, from its beginning on: of two members that are told their
+/// list one leads, and the other one follows it, and in calm rows that do no harm the answer to its first call comes,
+/// and it calls again.
 pub fn no_election_can_be()
     ensures harmless { DoNoHarm (cluster two) earlier_rows }
     ensures listed { (p : ℕ) → In (Member p) both → In p two }
@@ -123,7 +126,7 @@ pub fn no_election_can_be()
     ensures short { greatest_wait slow_pace < election_wait }
     ensures clocks { ClocksGoOn both clocks led_start led_world }
     ensures will { (m : ℕ) → In (Member m) both → m ≢ sender →
-        WillHear sender m (led_start + clocks (Member m) + heard_within slow_pace) led_world heartbeat_rows }
+        WillHear sender m (led_start + clocks (Member m) + heard_within slow_pace) led_world [] heartbeat_rows }
     ensures calm { AreCalm both clocks slow_pace (no_traffic led_start) led_world heartbeat_rows }
     ensures no_harm { DoNoHarm led_world (rows_in heartbeat_rows) }
     ensures fits { CallsFit sender led_world heartbeat_rows }
@@ -161,8 +164,8 @@ pub fn answers_come_in_calm()
 
 /// A caller takes the answer to its call. Where the answer comes while the caller leads in the term of the call, and
 /// less than the call timeout after it called: if the answer is of that term, the caller knows by it how far the
-/// member's log agrees with its own, or calls it with an earlier place next, and the call is not pending any more. If
-/// the answer is of a higher term, the caller follows.
+/// member's log agrees with its own, or calls it with an earlier place next, and the call, which was pending until
+/// then, is not any more. If the answer is of a higher term, the caller follows.
 pub fn answers_are_taken()
     ensures { AnswersAreTaken }
 {}
@@ -213,21 +216,27 @@ pub fn calls_can_come_back()
     calm_can_be();
 }
 
-/// The premises of [`entries_come_in_time`] can be met: behind the rows of [`calls_can_come_back`], from where on
-/// member 1 leads and the two read their clocks, for longer than a period and four delays.
+/// The premises of [`entries_come_in_time`] can be met, also where the leader wins in the calm: behind the rows of
+/// [`calls_can_come_back`], in which member 1 comes to lead, the two read their clocks, for longer than a period and
+/// four delays.
 pub fn entries_may_come()
     ensures { EntriesMayCome }
 {
     calls_can_come_back();
     calm_can_be();
+    winners_call();
 }
 
-/// A leader's entries come to a member that is in step with it, in time. In a calm as above, of rows that do no harm,
-/// in which a member of the group leads in one term and the others follow, and four delays are shorter than the call
-/// timeout: the leader can exchange calls and answers with another member, which is in step with it, and to which no
-/// call pends, when the calm begins. From any moment on, each place that the leader's log has by then is in the
-/// member's log too, and the leader knows so, within a period and four delays, and four delays more for each place that
-/// it did not know the member to have; or the calm is over by then.
+/// A leader's entries come to a member in time, whatever the member's log is. In a calm as above, of rows that do no
+/// harm, in which four delays are shorter than the call timeout: a member of the group may not lead when the calm
+/// begins, but once it leads, it leads on in one term. From behind some first rows on it leads, and the others follow.
+/// It can exchange calls and answers with another member when the calm begins. Behind the first rows it goes on calling
+/// that member, and a call to it that waits for its answer then was made in the calm. From any moment behind there on,
+/// each place that the leader's log has by then is in the member's log too, and the leader knows so, within a period
+/// and four delays, and four delays more for each call that is left: one for each place by which the next call is too
+/// far on, and one for each place that the leader did not know the member to have; or the calm is over by then. A
+/// member that refuses a call is called next with an earlier place; one that is called no further on than what the
+/// leader knows it to have accepts.
 pub fn entries_come_in_time()
     ensures { (ids : List ℕ) (rows : List Row) → AreMembers ids → DoNoHarm (cluster ids) rows →
         EntriesComeInTime ids rows }
@@ -236,11 +245,21 @@ pub fn entries_come_in_time()
 }
 
 /// A leader commits its entries in time. In a calm as for [`entries_come_in_time`], which holds of one or more members
-/// that with the leader are a quorum: from any moment on, where the last entry of the leader's log is of its own term,
-/// the leader has committed all entries that its log has by then, within the same time, or the calm is over by then.
+/// that with the leader are a quorum: from any moment behind the first rows on, where the last entry of the leader's
+/// log is of its own term, the leader has committed all entries that its log has by then, within the same time, or the
+/// calm is over by then.
 pub fn entries_are_committed_in_time()
     ensures { (ids : List ℕ) (rows : List Row) → AreMembers ids → DoNoHarm (cluster ids) rows →
         EntriesAreCommittedInTime ids rows }
+{
+    what_entries_stand_on();
+}
+
+/// Who comes to lead in a calm goes on calling. In a calm as above, in which the calls of a member find room in its
+/// queue: in the row in which it comes to lead it calls each other node that it lists. So the premises of
+/// [`entries_come_in_time`] on its calls hold behind that row.
+pub fn winners_call()
+    ensures { (ids : List ℕ) (rows : List Row) → AreMembers ids → DoNoHarm (cluster ids) rows → WinnersCall ids rows }
 {
     what_entries_stand_on();
 }

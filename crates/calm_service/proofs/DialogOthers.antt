@@ -51,7 +51,7 @@ stale_later accepted now later after_it none = elim (lt_tells (last_moment accep
 none_counts : (later : ℕ) → recent_requests [] later ≡ []
 none_counts later = either (λ (l : List Accepted). l ≡ []) (nat_lt 500 later) [] [] (λ e. refl) (λ e. refl)
 
-none_in : (id : ℕ) (queue : List Queued) → of_identifier id queue ≡ [] → (f : Queued) → In f queue → f.id ≢ id
+pub none_in : (id : ℕ) (queue : List Queued) → of_identifier id queue ≡ [] → (f : Queued) → In f queue → f.id ≢ id
 none_in id [] none f i e = absurd i
 none_in id (g ∷ queue) none f (inl same) e =
     let z : nat_eq g.id id ≡ true = ap (λ (k : ℕ). nat_eq k id) (ap (λ (q : Queued). q.id) (sym same) ∙ e) ∙ same_number id in

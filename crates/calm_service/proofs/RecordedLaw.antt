@@ -135,46 +135,48 @@ module _ (laws : CalmLaws) (codec : CodecLaws) (one_transfer : DeliversOne) (sta
   w = world_of ids rows
 
   pub each_row_keeps : EachRowKeepsTheLog ids rows
-  each_row_keeps group clocks pace start n term log accepted front rest timed under is =
+  each_row_keeps group clocks pace start n term log accepted first front rest timed under is =
       row_keeps group laws codec one_transfer stay clocks pace ids members under.listed of_run same_members grown grown_harmless
-      n term log under.member (end_of start front) (after_rows w (rows_in front)) timed rest
+      n term log under.member (end_of (end_of start first) front) (after_rows (after_rows w (rows_in first)) (rows_in front)) timed rest
       (from_start.reached laws codec one_transfer stay ids members of_run same_members grown grown_harmless rows harmless well
-      group clocks pace start n term front (timed ∷ []) rest under)
+      group clocks pace start n term first front (timed ∷ []) rest under)
       (from_start.harm laws codec one_transfer stay ids members of_run same_members grown grown_harmless rows harmless well
-      group clocks pace start n term front (timed ∷ []) rest under).1.0 accepted
+      group clocks pace start n term first front (timed ∷ []) rest under).1.0 accepted
       (from_start.led laws codec one_transfer stay ids members of_run same_members grown grown_harmless rows harmless well
-      group clocks pace start n term front (timed ∷ []) rest under [] (timed ∷ []) refl)
+      group clocks pace start n term first front (timed ∷ []) rest under [] (timed ∷ []) refl)
       (from_start.lists laws codec one_transfer stay ids members of_run same_members grown grown_harmless rows harmless well
-      group clocks pace start n term front (timed ∷ []) rest under)
+      group clocks pace start n term first front (timed ∷ []) rest under)
       (from_start.missed laws codec one_transfer stay ids members of_run same_members grown grown_harmless rows harmless well
-      group clocks pace start n term front (timed ∷ []) rest under).0 is
+      group clocks pace start n term first front (timed ∷ []) rest under).0 is
 
   pub stays_uncommitted : LogStaysUncommitted ids rows
-  stays_uncommitted group clocks pace start n term log first front rest under room is waits =
+  stays_uncommitted group clocks pace start n term log first early front rest under room is waits =
+      let there = after_rows (after_rows w (rows_in first)) (rows_in early) in
       log_stays_uncommitted group laws codec one_transfer stay clocks pace ids members under.listed of_run same_members grown grown_harmless
-      n term log under.member room front rest (end_of start first) (after_rows w (rows_in first))
+      n term log under.member room front rest (end_of (end_of start first) early) there
       (from_start.reached laws codec one_transfer stay ids members of_run same_members grown grown_harmless rows harmless well
-      group clocks pace start n term first front rest under)
-      (harmless_first front rest (after_rows w (rows_in first)) (from_start.harm laws codec one_transfer stay ids members of_run same_members grown grown_harmless rows harmless well
-      group clocks pace start n term first front rest under).1).0
+      group clocks pace start n term first early front rest under)
+      (harmless_first front rest there (from_start.harm laws codec one_transfer stay ids members of_run same_members grown grown_harmless rows harmless well
+      group clocks pace start n term first early front rest under).1).0
       (from_start.led laws codec one_transfer stay ids members of_run same_members grown grown_harmless rows harmless well
-      group clocks pace start n term first front rest under)
+      group clocks pace start n term first early front rest under)
       (from_start.lists laws codec one_transfer stay ids members of_run same_members grown grown_harmless rows harmless well
-      group clocks pace start n term first front rest under)
+      group clocks pace start n term first early front rest under)
       (from_start.missed laws codec one_transfer stay ids members of_run same_members grown grown_harmless rows harmless well
-      group clocks pace start n term first front rest under) waits is
+      group clocks pace start n term first early front rest under) waits is
 
   pub stays_unasked : LogStaysUnasked ids rows
-  stays_unasked group clocks pace start n term log accepted first front rest under is none =
+  stays_unasked group clocks pace start n term log accepted first early front rest under is none =
+      let there = after_rows (after_rows w (rows_in first)) (rows_in early) in
       log_stays_unasked group laws codec one_transfer stay clocks pace ids members under.listed of_run same_members grown grown_harmless
-      n term log under.member accepted front rest (end_of start first) (after_rows w (rows_in first))
+      n term log under.member accepted front rest (end_of (end_of start first) early) there
       (from_start.reached laws codec one_transfer stay ids members of_run same_members grown grown_harmless rows harmless well
-      group clocks pace start n term first front rest under)
-      (harmless_first front rest (after_rows w (rows_in first)) (from_start.harm laws codec one_transfer stay ids members of_run same_members grown grown_harmless rows harmless well
-      group clocks pace start n term first front rest under).1).0
+      group clocks pace start n term first early front rest under)
+      (harmless_first front rest there (from_start.harm laws codec one_transfer stay ids members of_run same_members grown grown_harmless rows harmless well
+      group clocks pace start n term first early front rest under).1).0
       (from_start.led laws codec one_transfer stay ids members of_run same_members grown grown_harmless rows harmless well
-      group clocks pace start n term first front rest under)
+      group clocks pace start n term first early front rest under)
       (from_start.lists laws codec one_transfer stay ids members of_run same_members grown grown_harmless rows harmless well
-      group clocks pace start n term first front rest under)
+      group clocks pace start n term first early front rest under)
       (from_start.missed laws codec one_transfer stay ids members of_run same_members grown grown_harmless rows harmless well
-      group clocks pace start n term first front rest under) none is
+      group clocks pace start n term first early front rest under) none is

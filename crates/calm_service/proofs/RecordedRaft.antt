@@ -8,12 +8,13 @@ use Rattle.raft_core.specs.Taken.{proposal}
 use Rattle.raft_core.specs.Times.{Times}
 use Rattle.raft_model.specs.Duty.{is_heard, takes_blank}
 use Rattle.raft_model.specs.Handlers.{server_after}
+use Rattle.raft_model.specs.Moves.{Move}
 use Rattle.raft_model.specs.Moves.Elections.{is_leader}
 use Rattle.raft_model.specs.Moves.Move.{CommitTo, ProposeEntry, TellNothing, TellPair}
 use Rattle.raft_model.specs.Server.{RaftServer, Role}
 use Rattle.alloc_spec_laws.proofs.Choices.{and_left, lt_true}
 use Rattle.cluster_progress.proofs.Alone.{last_entry}
-use Rattle.calm_service.proofs.SettledRaft.{IsOffice, no_commit, stays_on}
+use Rattle.calm_service.proofs.SettledRaft.{Anyone, IsOffice, IsStill, begins_with, ends_without, no_commit, stays_on}
 use Rattle.calm_leader.proofs.TermsRoles.{LeadsAt, leads_through}
 
 -- the server leads in this term, with this log: it has committed the whole of it, or the last entry is of the term
@@ -35,7 +36,7 @@ module _ (top : ℕ) (log : List Entry) where
   commits_on members me server index not_all h = elim h.no_blank [ inl z ↦ absurd (not_all (whole_log server h z)) | inr z ↦ inr z ]
 
   -- no moment for a blank comes while it leads and its last entry is of the term
-  no_moment : (waits : Bool) (members : List ℕ) (me : ℕ) (before after : RaftServer) → before.memory.role ≡ Role.Leader → after.store.term ≡ top
+  pub no_moment : (waits : Bool) (members : List ℕ) (me : ℕ) (before after : RaftServer) → before.memory.role ≡ Role.Leader → after.store.term ≡ top
       → last_term after.store.log ≡ top → (if waits then is_heard members me after else not (is_leader before.memory.role)) ≡ true → ⊥
   no_moment true members me before after leads term last e =
       let low : last_term after.store.log < after.store.term
@@ -53,13 +54,22 @@ module _ (top : ℕ) (log : List Entry) where
     | inr z ↦ no_moment times.waits members me before after h.leads.0 k.leads.1 (ap (λ (l : List Entry). last_term l) k.log_is ∙ z) moment
   ]
 
+  -- a move leaves it so
+  still_on : (members : List ℕ) (me number : ℕ) (server : RaftServer) (move : Move) → IsStill top server move → LeadsOnLog top log server
+      → LeadsOnLog top log (server_after members me number server move)
+  still_on members me number server move is h = let s = stays_on top members me number server move is h.leads in
+      record { leads = s.leads; log_is = s.log_is ∙ h.log_is; no_blank = committed_as _ _ s.committed h.no_blank }
+
   -- who leads so is in office
-  pub log_office : IsOffice top log (LeadsOnLog top log)
+  pub log_office : IsOffice top log (LeadsOnLog top log) Anyone
   log_office = record {
     leads = λ server h. h.leads;
-    log_is = λ server h. h.log_is;
-    still = λ members me number server move is h. let s = stays_on top members me number server move is h.leads in
-        record { leads = s.leads; log_is = s.log_is ∙ h.log_is; no_blank = committed_as _ _ s.committed h.no_blank };
+    log_is = λ server h. begins_with log server.store.log h.log_is;
+    still = λ members me number server move is quiet h. still_on members me number server move is h;
+    calls = λ members me number times server move sees is h.
+        let after : LeadsOnLog top log (server_after members me number server move) = still_on members me number server move is h in
+        ends_without (LeadsOnLog top log) members me number times server move after
+        (adds_none members me times server (server_after members me number server move) h after);
     commits = λ members me number server index e h. record {
       leads = leads_through top members me number server (CommitTo index) tt h.leads;
       log_is = h.log_is;
@@ -69,7 +79,6 @@ module _ (top : ℕ) (log : List Entry) where
         record { leads = leads_through top members me number server TellPair tt h.leads; log_is = h.log_is; no_blank = h.no_blank };
     passes = λ members me number server e h.
         record { leads = leads_through top members me number server TellNothing tt h.leads; log_is = h.log_is; no_blank = h.no_blank };
-    adds_no_blank = adds_none;
   }
 
   -- with an entry more that it proposes

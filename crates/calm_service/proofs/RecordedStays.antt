@@ -29,6 +29,7 @@ use Rattle.cluster_calm.proofs.Pair.{same_server}
 use Rattle.calm_service.proofs.RecordedRaft.{LeadsOnLog, log_office}
 use Rattle.calm_service.proofs.RecordedSteps.{grown_rests}
 use Rattle.calm_service.proofs.SettledAsked.{may_record}
+use Rattle.calm_service.proofs.SettledRaft.{Anyone}
 use Rattle.calm_service.proofs.SettledRows.{Grew, Leaves, asked_row, unasked_in}
 use Rattle.calm_service.proofs.SettledServers.{Settles, after_ends, rested}
 use Rattle.calm_service.proofs.SettledSteps.{Keeps}
@@ -125,11 +126,11 @@ module _ (frame : FrameLaws) (group : List Party) (clocks : Party → ℕ) (pace
   now = moment + clocks (OfMember n)
 
   abbrev LeavesIt : List Accepted → Type 0
-  LeavesIt then_accepted = Leaves frame group clocks pace n top log (LeadsOnLog top log) (log_office top log) accepted before moment traffic w nodes member flies lists
+  LeavesIt then_accepted = Leaves frame group clocks pace n top log (LeadsOnLog top log) Anyone (log_office top log) accepted before moment traffic w nodes member flies lists
       later then_accepted row
 
   abbrev GrewIt : (message : Allocation) → IsAsked n message w row → Type 0
-  GrewIt = Grew frame group clocks pace n top log (LeadsOnLog top log) (log_office top log) accepted before moment traffic w nodes member flies lists later row
+  GrewIt = Grew frame group clocks pace n top log (LeadsOnLog top log) Anyone (log_office top log) accepted before moment traffic w nodes member flies lists later row
 
   leads_on : (then_accepted : List Accepted) → LeavesIt then_accepted → LeadsWith n log then_accepted now (after_row w row)
   leads_on then_accepted leaves = leads_with n top log then_accepted now (after_row w row) leaves.0 leaves.1
@@ -155,11 +156,11 @@ module _ (frame : FrameLaws) (group : List Party) (clocks : Party → ℕ) (pace
     taken_as : after accepted message now (may_follow come.allocator) ≡ then_accepted
     taken_as = λ i. after (sym g.had.accepts i) message (sym g.now_is i) (same_may i)
 
-    rests : Keeps (w.rows + 1) top longer now (LeadsOnLog top longer) (log_office top longer) then_accepted
+    rests : Keeps (w.rows + 1) top longer now (LeadsOnLog top longer) Anyone (log_office top longer) then_accepted
         (step is.comes.server (w.rows + 1) (receipt_of w is.comes.k is.comes.ms)).step_state
-    rests = subst (λ (l : List Accepted). Keeps (w.rows + 1) top longer now (LeadsOnLog top longer) (log_office top longer) l
+    rests = subst (λ (l : List Accepted). Keeps (w.rows + 1) top longer now (LeadsOnLog top longer) Anyone (log_office top longer) l
         (step is.comes.server (w.rows + 1) (receipt_of w is.comes.k is.comes.ms)).step_state) taken_as
-        (subst (λ (r : StepResult). Keeps (w.rows + 1) top longer now (LeadsOnLog top longer) (log_office top longer)
+        (subst (λ (r : StepResult). Keeps (w.rows + 1) top longer now (LeadsOnLog top longer) Anyone (log_office top longer)
         (after accepted message now (may_follow come.allocator)) r.step_state) (sym g.stepped)
         (grown_rests (w.rows + 1) top log now accepted message come g.come g.growth.uid g.growth.node))
 
@@ -170,7 +171,7 @@ module _ (frame : FrameLaws) (group : List Party) (clocks : Party → ℕ) (pace
 
     longer_leads : LeadsWith n longer then_accepted now (after_row w row)
     longer_leads = leads_with n top longer then_accepted now (after_row w row) then_server
-        (rested (w.rows + 1) top longer now (LeadsOnLog top longer) (log_office top longer) then_accepted ((after_row w row).member n) then_server rests g.up ends_by)
+        (rested (w.rows + 1) top longer now (LeadsOnLog top longer) Anyone (log_office top longer) then_accepted ((after_row w row).member n) then_server rests g.up ends_by)
 
     grows : Grows n log now message w row is
     grows = record {
@@ -187,8 +188,8 @@ module _ (frame : FrameLaws) (group : List Party) (clocks : Party → ℕ) (pace
   pub keeps_log : ((k ms : ℕ) → row ≡ Rx n k ms → (d : Delivery) → received (setting_for t.me) t.sessions (arrival_at (frame_at w.frames k) (max t.now ms)) ≡ Gives d
       → TellsWithin top d) → MissesNobody n w row → KeepsLog n log accepted now w row
   keeps_log within missed = record {
-    unasked = λ not_asked. leads_on accepted (unasked_in frame group clocks pace n top log (LeadsOnLog top log) (log_office top log) accepted before moment traffic w
-        nodes member flies lists later t h me row calm within missed not_asked);
-    asked = λ message is. elim (asked_row frame group clocks pace n top log (LeadsOnLog top log) (log_office top log) accepted before moment traffic w nodes member flies
+    unasked = λ not_asked. leads_on accepted (unasked_in frame group clocks pace n top log (LeadsOnLog top log) Anyone (log_office top log) accepted before moment traffic w
+        nodes member flies lists later t h me row tt calm within missed not_asked);
+    asked = λ message is. elim (asked_row frame group clocks pace n top log (LeadsOnLog top log) Anyone (log_office top log) accepted before moment traffic w nodes member flies
         lists later t h me row calm message is) [ inl g ↦ inl (grows message is g) | inr leaves ↦ inr (leads_on _ leaves) ];
   }

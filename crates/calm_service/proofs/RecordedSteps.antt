@@ -1,8 +1,5 @@
 -- A leader in office that proposes what a request made whole is in office with the longer log.
-use Rattle.std.proofs.Common.{◌≡◌, ℕ, Bool, true, false, List, [], ◌∷◌, ◌++◌, refl, ◌∙◌, ap}
-use Rattle.std.specs.Prelude.{◌||◌, nat_eq}
-use Rattle.std.specs.List.{list_any}
-use Rattle.std.proofs.lemmas.List.Folds.{list_any-append}
+use Rattle.std.proofs.Common.{ℕ, List, [], ◌∷◌, ◌++◌}
 use Rattle.alloc_exchange.specs.Exchange.{Accepted, after}
 use Rattle.can_frame.specs.declared.entry.Entry.{Entry}
 use Rattle.cluster_discovery.specs.Members.{is_on_list}
@@ -16,33 +13,23 @@ use Rattle.alloc_spec.specs.Step.{with_end_phase}
 use Rattle.alloc_spec.specs.StepState.{StepState}
 use Rattle.alloc_spec.specs.Tick.{proposes}
 use Rattle.calm_service.proofs.RecordedRaft.{LeadsOnLog, leads_longer, log_office}
-use Rattle.calm_service.proofs.SettledSteps.{Keeps, NoStranger, ends}
+use Rattle.calm_service.proofs.SettledRaft.{Anyone}
+use Rattle.calm_service.proofs.SettledSteps.{Keeps, NoStranger, ends, or_less_right, still_recorded}
 
--- who stands in a log stands in a longer one
-still_recorded : (log more : List Entry) (node : ℕ) → is_recorded log node ≡ true → is_recorded (log ++ more) node ≡ true
-still_recorded log more node e =
-    list_any-append (λ (entry : Entry). nat_eq entry.node node) log more
-    ∙ ap (λ (b : Bool). b || list_any (λ (entry : Entry). nat_eq entry.node node) more) e
-
-or_less_right : (a b c : Bool) → (b ≡ true → c ≡ true) → (a || c) ≡ false → (a || b) ≡ false
-or_less_right true b c grows e = e
-or_less_right false true c grows e = absurd (cc (e, grows refl))
-or_less_right false false c grows e = refl
-
-no_stranger_longer : (log more : List Entry) (list : List ℕ) (watch : List Watched) (now : ℕ) → NoStranger log list watch now
+pub no_stranger_longer : (log more : List Entry) (list : List ℕ) (watch : List Watched) (now : ℕ) → NoStranger log list watch now
     → NoStranger (log ++ more) list watch now
 no_stranger_longer log more list watch now off other e =
     off other (or_less_right (is_on_list list other) (is_recorded log other) (is_recorded (log ++ more) other) (still_recorded log more other) e)
 
 module _ (number top : ℕ) (log : List Entry) (now : ℕ) (accepted : List Accepted) (message : Allocation) (g : StepState)
-    (h : Keeps number top log now (LeadsOnLog top log) (log_office top log) accepted g) (uid : List ℕ) (node : ℕ) where
+    (h : Keeps number top log now (LeadsOnLog top log) Anyone (log_office top log) accepted g) (uid : List ℕ) (node : ℕ) where
   abbrev longer : List Entry
   longer = log ++ proposal top uid node ∷ []
 
   abbrev taken : List Accepted
   taken = after accepted message now (may_follow g.allocator)
 
-  proposed : Keeps number top longer now (LeadsOnLog top longer) (log_office top longer) taken (proposes number 1 uid node (with_request message g))
+  proposed : Keeps number top longer now (LeadsOnLog top longer) Anyone (log_office top longer) taken (proposes number 1 uid node (with_request message g))
   proposed = record {
     done = leads_longer top log (members_of g.allocator) g.allocator.me number g.allocator.raft_server uid node h.done;
     clock = h.clock;
@@ -53,6 +40,6 @@ module _ (number top : ℕ) (log : List Entry) (now : ℕ) (accepted : List Acce
   }
 
   -- so it is behind the step
-  pub grown_rests : Keeps number top longer now (LeadsOnLog top longer) (log_office top longer) taken
+  pub grown_rests : Keeps number top longer now (LeadsOnLog top longer) Anyone (log_office top longer) taken
       (with_end_phase number (took (proposes number 1 uid node (with_request message g)))).step_state
-  grown_rests = ends number top longer now (LeadsOnLog top longer) (log_office top longer) taken (proposes number 1 uid node (with_request message g)) proposed
+  grown_rests = ends number top longer now (LeadsOnLog top longer) Anyone (log_office top longer) taken (proposes number 1 uid node (with_request message g)) proposed

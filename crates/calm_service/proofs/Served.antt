@@ -140,7 +140,7 @@ module _ (laws : ServedLaws) (ids : List ℕ) (n term ahead : ℕ) (log : List E
 
 -- in a calm
 module _ (laws : ServedLaws) (ids : List ℕ) (rows : List Row) (group : List Party) (clocks : Party → ℕ) (pace : Pace) (start n term : ℕ) (whole : List Timed)
-    (under : IsCalmUnder ids rows group clocks pace start n term whole)
+    (under : IsCalmUnder ids rows group clocks pace start n term [] whole)
     (among : (front rest : List Timed) (t : AllocatorState) → whole ≡ front ++ rest → ((after_rows (world_of ids rows) (rows_in front)).member n).status ≡ Up t → (p : ℕ)
     → In p (members_of t) → In p ids)
     (log : List Entry) (uid : List ℕ) (preferred last : ℕ) (place : HasPlaceFor ids log uid) (lists : ListsAll n ids (world_of ids rows)) where

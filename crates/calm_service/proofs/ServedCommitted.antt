@@ -12,12 +12,15 @@ use Rattle.cluster_progress.proofs.Alone.{last_entry, one_longer}
 use Rattle.cluster_recovery.specs.Calm.{Pace, Timed, end_of, rows_in}
 use Rattle.cluster_calm.specs.Calm.{IsRunning, Party}
 use Rattle.calm_service.specs.Dialog.{time_to_be_heard}
-use Rattle.calm_leader.specs.Entries.{EntriesAreCommittedInTime, IsCommittedBy, come_within}
+use Rattle.calm_leader.specs.Entries.{AreInStep, EntriesAreCommittedInTime, IsCommittedBy, come_within}
+use Rattle.calm_leader.specs.EntriesBelow.{EntryLaws}
 use Rattle.calm_leader.specs.LeadsOn.{LeadsIn}
 use Rattle.calm_leader.specs.NoElection.{CallsFit}
 use Rattle.calm_service.specs.Served.{HasCommittedBy, HasFollowers, IsCommittedPairBy, IsRecordedBy, LeadersLoseNothing, LeadsWithLog, time_to_be_committed}
 use Rattle.calm_service.specs.Settled.{IsCalmUnder}
 use Rattle.cluster_calm.proofs.Pair.{same_server}
+use Rattle.calm_leader.proofs.EntriesPremises.{in_step_goes, in_step_left, in_step_on, none_since}
+use Rattle.calm_leader.proofs.EntriesRows.{leads_if_up, leads_throughout, led_from_start}
 use Rattle.calm_leader.proofs.Stretches.{end_last, world_both}
 use Rattle.cluster_spec.specs.Cluster.{Cluster, after_rows, world_of}
 use Rattle.cluster_spec.specs.Members.MemberStatus.{Up}
@@ -42,8 +45,9 @@ same_length a b [] e short = sym (e ∙ append-nil b)
 same_length a b (x ∷ more) e short = let both = length-append b (x ∷ more) in absurd (omega (arith, ap length e, both, short))
 
 module _ (ids : List ℕ) (rows : List Row) (committed : EntriesAreCommittedInTime ids rows) (lose : LeadersLoseNothing ids rows)
+    (laws : EntryLaws ids rows)
     (group : List Party) (clocks : Party → ℕ) (pace : Pace) (start n term : ℕ)
-    (sane : (front rest whole : List Timed) (t : AllocatorState) → IsCalmUnder ids rows group clocks pace start n term whole → whole ≡ front ++ rest
+    (sane : (front rest whole : List Timed) (t : AllocatorState) → IsCalmUnder ids rows group clocks pace start n term [] whole → whole ≡ front ++ rest
     → ((after_rows (world_of ids rows) (rows_in front)).member n).status ≡ Up t → t.raft_server.store.commit ≤ length t.raft_server.store.log)
     (quick : pace.period + 4 * pace.delay ≤ 100) where
   abbrev w : Cluster
@@ -61,7 +65,7 @@ module _ (ids : List ℕ) (rows : List Row) (committed : EntriesAreCommittedInTi
 
   module _ (log : List Entry) (uid : List ℕ) (node first : ℕ) (next : List ℕ) (early late : List Timed)
       (recorded : LeadsWithLog n term (log ++ proposal term uid node ∷ []) (after_rows w (rows_in early)))
-      (under : IsCalmUnder ids rows group clocks pace start n term (early ++ late)) (fits : CallsFit n w (early ++ late))
+      (under : IsCalmUnder ids rows group clocks pace start n term [] (early ++ late)) (fits : CallsFit n w (early ++ late))
       (followers : HasFollowers ids group n (length log) (first ∷ next) w (early ++ late))
       (long : end_of start early + come_within pace 1 < end_of start (early ++ late)) where
     abbrev longer : List Entry
@@ -85,10 +89,17 @@ module _ (ids : List ℕ) (rows : List Row) (committed : EntriesAreCommittedInTi
     own : term_at leader.raft_server.store.log (length leader.raft_server.store.log) ≡ term
     own = ap (λ (l : List Entry). term_at l (length l)) recorded.its_log ∙ ap (λ (e : Entry). e.term) (last_entry log (proposal term uid node))
 
+    -- the followers are in step still
+    in_step : (m : ℕ) → In m (first ∷ next) → AreInStep n m (after_rows w (rows_in early))
+    in_step m i = in_step_on ids rows laws group clocks pace start n term (early ++ late)
+        (led_from_start ids rows group clocks pace start n term (early ++ late) under.listed under.running under.member under.calm under.harmless under.led fits)
+        (leads_if_up n term w (under.led [] (early ++ late) refl).leader) m (followers.in_step m i) early late refl
+
     by : IsCommittedBy n (length leader.raft_server.store.log) (end_of start early + come_within pace 1) start w (early ++ late)
-    by = committed group clocks pace start n term 1 first next early late leader under.listed under.running under.member followers.apart followers.many
-        (let q = quick in omega (arith, q)) under.calm under.harmless under.led fits
-        (λ m i. (followers.exchange m i, followers.in_step m i, followers.none_pends m i)) recorded.runs known own long
+    by = committed group clocks pace start n term 1 first next [] early late leader under.listed under.running under.member followers.apart followers.many
+        (let q = quick in omega (arith, q)) under.calm under.harmless (leads_throughout group n term w (early ++ late) under.led) under.led fits
+        (λ m i. (followers.exchange m i, none_since n m w.rows w (followers.none_pends m i), in_step_goes n m w (followers.in_step m i))) recorded.runs
+        (λ m i. in_step_left n m 1 (after_rows w (rows_in early)) (in_step m i) leader recorded.runs (known m i)) own long
 
     high : length longer ≤ by.leader.raft_server.store.commit
     high = let c = by.committed in omega (arith, c, ap length recorded.its_log)
@@ -101,14 +112,14 @@ module _ (ids : List ℕ) (rows : List Row) (committed : EntriesAreCommittedInTi
     its_log (inl z) =
         let whole : early ++ late ≡ early ++ (z.0 ++ by.rest) = ap (λ (l : List Timed). early ++ l) z.2 in
         let lost = lose group clocks pace start n first term early z.0 by.rest leader by.leader
-        (subst (IsCalmUnder ids rows group clocks pace start n term) whole under) (subst (CallsFit n w) whole fits)
+        (subst (IsCalmUnder ids rows group clocks pace start n term []) whole under) (subst (CallsFit n w) whole fits)
         (followers.apart first (inl refl)).0 (followers.apart first (inl refl)).1 (followers.in_step first (inl refl)) recorded.runs
         (subst (λ (l : List Timed). ((after_rows w (rows_in l)).member n).status ≡ Up by.leader) z.1 by.leads) in
         (lost.0.0, lost.0.1 ∙ ap (λ (l : List Entry). l ++ lost.0.0) recorded.its_log)
     its_log (inr z) =
         let whole : early ++ late ≡ by.front ++ (z.0 ++ late) = ap (λ (l : List Timed). l ++ late) z.1 ∙ append_assoc by.front z.0 late in
         let lost = lose group clocks pace start n first term by.front z.0 late by.leader leader
-        (subst (IsCalmUnder ids rows group clocks pace start n term) whole under) (subst (CallsFit n w) whole fits)
+        (subst (IsCalmUnder ids rows group clocks pace start n term []) whole under) (subst (CallsFit n w) whole fits)
         (followers.apart first (inl refl)).0 (followers.apart first (inl refl)).1 (followers.in_step first (inl refl)) by.leads
         (subst (λ (l : List Timed). ((after_rows w (rows_in l)).member n).status ≡ Up leader) z.1 recorded.runs) in
         let inside = sane by.front by.rest (early ++ late) by.leader under by.split by.leads in
@@ -129,7 +140,7 @@ module _ (ids : List ℕ) (rows : List Row) (committed : EntriesAreCommittedInTi
 
   -- the pair that is recorded is committed
   module _ (log : List Entry) (ahead : ℕ) (uid : List ℕ) (first : ℕ) (next : List ℕ) (whole : List Timed)
-      (under : IsCalmUnder ids rows group clocks pace start n term whole) (fits : CallsFit n w whole)
+      (under : IsCalmUnder ids rows group clocks pace start n term [] whole) (fits : CallsFit n w whole)
       (followers : HasFollowers ids group n (length log) (first ∷ next) w whole) (long : start + time_to_be_committed pace < end_of start whole)
       (by : IsRecordedBy ids n term log ahead uid start (start + time_to_be_heard pace) w whole) where
     early : List Timed
@@ -148,7 +159,7 @@ module _ (ids : List ℕ) (rows : List Row) (committed : EntriesAreCommittedInTi
     as_recorded = subst (HasCommittedBy n term (log ++ proposal term uid by.node ∷ []) start (start + time_to_be_committed pace) w) (sym cut)
         (has_committed log uid by.node first next early by.rest
         (subst (LeadsWithLog n term (log ++ proposal term uid by.node ∷ [])) (sym (world_both w by.front (by.timed ∷ []))) by.recorded)
-        (subst (IsCalmUnder ids rows group clocks pace start n term) cut under) (subst (CallsFit n w) cut fits)
+        (subst (IsCalmUnder ids rows group clocks pace start n term []) cut under) (subst (CallsFit n w) cut fits)
         (subst (HasFollowers ids group n (length log) (first ∷ next) w) cut followers)
         (let s = soon in omega (arith, s, long, ap (λ (l : List Timed). end_of start l) cut))
         (start + time_to_be_committed pace) (let s = soon in omega (arith, s)))

@@ -31,7 +31,7 @@ module _ (ids : List ℕ) (rows : List Row) (come_in : AllocationsComeInCalm ids
     (stays : (d : Device) (number : ℕ) (event : Event) → (step d number event).device.asking.uid ≡ d.asking.uid)
     (read : (value : Allocation) → IsAllocation value → allocation_of (allocation_bytes value) ≡ Some value)
     (group : List Party) (clocks : Party → ℕ) (pace : Pace) (start n a term : ℕ) (whole : List Timed)
-    (under : IsCalmUnder ids rows group clocks pace start n term whole) (uid : List ℕ) (preferred : ℕ) (log : List Entry)
+    (under : IsCalmUnder ids rows group clocks pace start n term [] whole) (uid : List ℕ) (preferred : ℕ) (log : List Entry)
     (come : HasJustCome group clocks start n a uid preferred log (world_of ids rows)) (memory : Throughout (DeviceHasMemory a) (world_of ids rows) whole)
     (fits : PairsFit n (world_of ids rows) whole) (short : SendsShortAllocations n (world_of ids rows) whole) (quick : pace.period + 4 * pace.delay ≤ 100) (last : ℕ)
     (told : IsToldBy ids n term log uid start last (world_of ids rows) whole) (long : last + 2 * pace.delay < end_of start whole)

@@ -34,7 +34,7 @@ heads timed late rest (y ∷ c) d x e = (
 )
 
 module _ (laws : TellingLaws) (ids : List ℕ) (rows : List Row) (lose : LeadersLoseNothing ids rows) (group : List Party) (clocks : Party → ℕ) (pace : Pace)
-    (start n m term : ℕ) (whole : List Timed) (under : IsCalmUnder ids rows group clocks pace start n term whole) (fits : CallsFit n (world_of ids rows) whole)
+    (start n m term : ℕ) (whole : List Timed) (under : IsCalmUnder ids rows group clocks pace start n term [] whole) (fits : CallsFit n (world_of ids rows) whole)
     (in_m : In (OfMember m) group) (apart : m ≢ n) (in_step : AreInStep n m (world_of ids rows))
     (sane : (front rest : List Timed) (t : AllocatorState) → whole ≡ front ++ rest → ((after_rows (world_of ids rows) (rows_in front)).member n).status ≡ Up t
     → t.raft_server.store.commit ≤ length t.raft_server.store.log)
@@ -51,7 +51,7 @@ module _ (laws : TellingLaws) (ids : List ℕ) (rows : List Row) (lose : Leaders
   grows : (early middle late : List Timed) (before after : AllocatorState) → whole ≡ early ++ (middle ++ late) → ((here early).member n).status ≡ Up before
       → ((here (early ++ middle)).member n).status ≡ Up after → (more : List Entry) × (after.raft_server.store.log ≡ before.raft_server.store.log ++ more)
   grows early middle late before after cut up then_up = (lose group clocks pace start n m term early middle late before after
-      (subst (IsCalmUnder ids rows group clocks pace start n term) cut under) (subst (CallsFit n w) cut fits) in_m apart in_step up then_up).0
+      (subst (IsCalmUnder ids rows group clocks pace start n term []) cut under) (subst (CallsFit n w) cut fits) in_m apart in_step up then_up).0
 
   -- the pair is not committed before it is recorded
   not_before_it : (tail : List Timed) → by.front ≡ done.front ++ tail → ⊥

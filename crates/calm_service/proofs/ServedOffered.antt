@@ -51,7 +51,7 @@ runs_kept : IsKept Always (λ t. ⊤)
 runs_kept = record { stepped = λ t number event may h. tt; popped = λ t h. tt }
 
 module _ (laws : TellingLaws) (ids : List ℕ) (rows : List Row) (group : List Party) (clocks : Party → ℕ) (pace : Pace) (start n term : ℕ) (whole : List Timed)
-    (under : IsCalmUnder ids rows group clocks pace start n term whole) (log : List Entry) (uid : List ℕ) (node : ℕ) (device : uid ≢ zeros) where
+    (under : IsCalmUnder ids rows group clocks pace start n term [] whole) (log : List Entry) (uid : List ℕ) (node : ℕ) (device : uid ≢ zeros) where
   abbrev w : Cluster
   w = world_of ids rows
 

@@ -49,7 +49,7 @@ tells_inside choice made w run shows fit n t listed up = subst (λ (s : RaftServ
 module _ (ids : List ℕ) (rows : List Row) (keeps_row : EachRowKeepsTheLog ids rows) (uncommitted : LogStaysUncommitted ids rows) (settled_leads : SettledLeads)
     (settles : LeaderSettles) (lose : LeadersLoseNothing ids rows) (judged : VerdictsAre)
     (duly : (t : AllocatorState) (number : ℕ) (event : Event) → TellsDuly number (when_committed t number event) (when_told t number event))
-    (group : List Party) (clocks : Party → ℕ) (pace : Pace) (start n term : ℕ) (whole : List Timed) (under : IsCalmUnder ids rows group clocks pace start n term whole)
+    (group : List Party) (clocks : Party → ℕ) (pace : Pace) (start n term : ℕ) (whole : List Timed) (under : IsCalmUnder ids rows group clocks pace start n term [] whole)
     (fits : CallsFit n (world_of ids rows) whole)
     (fit : (front rest : List Timed) (t : AllocatorState) → whole ≡ front ++ rest → ((after_rows (world_of ids rows) (rows_in front)).member n).status ≡ Up t
     → t.raft_server.memory.told ≤ t.raft_server.store.commit)
@@ -65,7 +65,7 @@ module _ (ids : List ℕ) (rows : List Row) (keeps_row : EachRowKeepsTheLog ids 
   clock front = end_of start front + clocks (OfMember n)
 
   abbrev calm_at : (all : List Timed) → Type 0
-  calm_at all = IsCalmUnder ids rows group clocks pace start n term all
+  calm_at all = IsCalmUnder ids rows group clocks pace start n term [] all
 
   leads_at : (front rest : List Timed) (t : AllocatorState) → whole ≡ front ++ rest → ((here front).member n).status ≡ Up t → t.raft_server.memory.role ≡ Leader
   leads_at front rest t cut up =
@@ -100,7 +100,7 @@ module _ (ids : List ℕ) (rows : List Row) (keeps_row : EachRowKeepsTheLog ids 
     stays : (a b : List Timed) (x : Timed) → whole ≡ a ++ x ∷ b → LeadsWith n longer [] (clock a) (here a) → IsUncommitted n (here a)
         → LeadsWith n longer [] (clock (a ++ x ∷ [])) (here (a ++ x ∷ []))
     stays a b x cut h waits = one_on longer a x []
-        (uncommitted group clocks pace start n term longer a (x ∷ []) b (subst calm_at cut under) (let s = size in omega (arith, s, space)) h (waits, tt))
+        (uncommitted group clocks pace start n term longer [] a (x ∷ []) b (subst calm_at cut under) (let s = size in omega (arith, s, space)) h (waits, tt))
 
     -- behind the row the log has grown
     not_same : (accepted : List Accepted) (now : ℕ) → LeadsWith n log accepted now (after_row v rec.timed.row) → ⊥
@@ -130,7 +130,7 @@ module _ (ids : List ℕ) (rows : List Row) (keeps_row : EachRowKeepsTheLog ids 
     before = settled_leads n (clock rec.front) log recorder.accepted v (record { settled = rec.settled; requests = refl })
 
     keeps : KeepsLog n log recorder.accepted (rec.timed.at + clocks (OfMember n)) v rec.timed.row
-    keeps = keeps_row group clocks pace start n term log recorder.accepted rec.front rec.rest rec.timed (subst calm_at rec.split under) before
+    keeps = keeps_row group clocks pace start n term log recorder.accepted [] rec.front rec.rest rec.timed (subst calm_at rec.split under) before
 
     then_leads : LeadsWith n longer [] (clock early) (here early)
     then_leads = one_on longer rec.front rec.timed [] (by (asked_or_not n v before.server before.runs rec.timed.row))

@@ -24,7 +24,7 @@ use Rattle.cluster_spec.specs.Cluster.{Cluster, after_row, after_rows, step_of}
 use Rattle.cluster_spec.specs.Members.MemberStatus.{Up}
 
 -- the room of each row
-room_at : (n : ℕ) (front rest : List Timed) (timed : Timed) (w : Cluster) → HasRoomInSteps n w (front ++ timed ∷ rest)
+pub room_at : (n : ℕ) (front rest : List Timed) (timed : Timed) (w : Cluster) → HasRoomInSteps n w (front ++ timed ∷ rest)
     → HasRoomInStep n (after_rows w (rows_in front)) timed.row
 room_at n [] rest timed w all = all.0
 room_at n (first ∷ front) rest timed w all = room_at n front rest timed (after_row w first.row) all.1

@@ -46,7 +46,7 @@ use Rattle.cluster_progress.specs.Serving.{MayRecord}
 use Rattle.cluster_progress.proofs.Begins.{IsAsBefore}
 use Rattle.cluster_progress.proofs.FollowUps.{begun, same_follow, when_come}
 use Rattle.calm_service.proofs.SettledRaft.{IsOffice}
-use Rattle.calm_service.proofs.SettledFrames.{Proposes, others_leave, request_leaves}
+use Rattle.calm_service.proofs.SettledFrames.{Proposes, SeesAt, others_leave, request_leaves}
 use Rattle.calm_service.proofs.SettledSteps.{Keeps, ends}
 use Rattle.calm_leader.proofs.TermsKept.{TellsWithin}
 
@@ -152,9 +152,9 @@ module _ (frame : FrameLaws) (me : ℕ) (sessions : List Session) (arrival : Arr
 
 -- ---- what the step leaves
 
-module _ (number top : ℕ) (log : List Entry) (now : ℕ) (Holds : RaftServer → Type 0) (office : IsOffice top log Holds) (accepted : List Accepted)
+module _ (number top : ℕ) (log : List Entry) (now : ℕ) (Holds : RaftServer → Type 0) (Sees : List ℕ → ℕ → Bool → Type 0) (office : IsOffice top log Holds Sees) (accepted : List Accepted)
     (t : AllocatorState) (arrival : Arrival)
-    (h : Keeps number top log now Holds office accepted (when_come t number arrival)) where
+    (h : Keeps number top log now Holds Sees office accepted (when_come t number arrival)) where
   abbrev got : Received
   got = received (setting_for t.me) t.sessions (record arrival { moment = moment_at t arrival })
 
@@ -167,35 +167,36 @@ module _ (number top : ℕ) (log : List Entry) (now : ℕ) (Holds : RaftServer �
       (within : (d : Delivery) → got ≡ Gives d → TellsWithin top d)
       (listed : (d : Delivery) → got ≡ Gives d → d.ident.kind ≡ Message → is_on_list (members_of t) d.ident.source ≡ true)
       (whole : (d : Delivery) (message : Discovery) → got ≡ Gives d → d.ident.kind ≡ Message → d.ident.number ≢ 341
-      → discovery_of d.payload ≡ Some message → t.size ≤ length message.known.items) where
+      → discovery_of d.payload ≡ Some message → t.size ≤ length message.known.items)
+      (sees : SeesAt number top log now Holds Sees office accepted come) where
     no_message : (d : Delivery) → got ≡ Gives d → d.ident.kind ≡ Anonymous → (o : Option Allocation) → allocation_of d.payload ≡ o
-        → Keeps number top log now Holds office accepted (reads (hears_allocation number) o come).step_state
+        → Keeps number top log now Holds Sees office accepted (reads (hears_allocation number) o come).step_state
     no_message d gives kind None e = h
     no_message d gives kind (Some message) e = absurd (unasked d message gives kind e)
 
     by_its_kind : (d : Delivery) → got ≡ Gives d → (kind : Kind) → d.ident.kind ≡ kind
-        → Keeps number top log now Holds office accepted (by_kind number d kind come).step_state
+        → Keeps number top log now Holds Sees office accepted (by_kind number d kind come).step_state
     by_its_kind d gives Anonymous e = no_message d gives e (allocation_of d.payload) refl
-    by_its_kind d gives Message e = others_leave number top log now Holds office accepted d (within d gives) Message come e (λ f. cc (f))
-        (λ f. listed d gives e) (λ message f other says. whole d message gives e other says) h
-    by_its_kind d gives RequestKind e = others_leave number top log now Holds office accepted d (within d gives) RequestKind come e (λ f. cc (f))
-        (λ f. absurd (cc (f))) (λ message f other says. absurd (cc (f))) h
-    by_its_kind d gives Response e = others_leave number top log now Holds office accepted d (within d gives) Response come e (λ f. cc (f))
-        (λ f. absurd (cc (f))) (λ message f other says. absurd (cc (f))) h
+    by_its_kind d gives Message e = others_leave number top log now Holds Sees office accepted d (within d gives) Message come e (λ f. cc (f))
+        (λ f. listed d gives e) (λ message f other says. whole d message gives e other says) sees h
+    by_its_kind d gives RequestKind e = others_leave number top log now Holds Sees office accepted d (within d gives) RequestKind come e (λ f. cc (f))
+        (λ f. absurd (cc (f))) (λ message f other says. absurd (cc (f))) sees h
+    by_its_kind d gives Response e = others_leave number top log now Holds Sees office accepted d (within d gives) Response come e (λ f. cc (f))
+        (λ f. absurd (cc (f))) (λ message f other says. absurd (cc (f))) sees h
 
-    delivered : (d : Delivery) → got ≡ Gives d → Keeps number top log now Holds office accepted (delivery_phase number d come).step_state
+    delivered : (d : Delivery) → got ≡ Gives d → Keeps number top log now Holds Sees office accepted (delivery_phase number d come).step_state
     unfolding delivery_phase
     delivered d gives = by_its_kind d gives d.ident.kind refl
 
-    by_answer : (x : Received) → got ≡ x → Keeps number top log now Holds office accepted (with_answer number x come).step_state
+    by_answer : (x : Received) → got ≡ x → Keeps number top log now Holds Sees office accepted (with_answer number x come).step_state
     by_answer (Gives d) e = delivered d e
     by_answer Continues e = h
     by_answer (Drops why) e = h
 
     -- it rests on
-    pub unasked_leaves : Keeps number top log now Holds office accepted (step t number (Rx arrival)).step_state
+    pub unasked_leaves : Keeps number top log now Holds Sees office accepted (step t number (Rx arrival)).step_state
     unfolding step
-    unasked_leaves = ends number top log now Holds office accepted (with_answer number got come).step_state (by_answer got refl)
+    unasked_leaves = ends number top log now Holds Sees office accepted (with_answer number got come).step_state (by_answer got refl)
 
   -- ---- where one comes
 
@@ -218,14 +219,14 @@ module _ (number top : ℕ) (log : List Entry) (now : ℕ) (Holds : RaftServer �
         × (step t number (Rx arrival) ≡ with_end_phase number (took (proposes number 1 p.uid p.node (with_request message come))))
 
     -- it is taken, or makes the log grow
-    pub asked_leaves : Keeps number top log now Holds office (after accepted message now (may_follow t)) (step t number (Rx arrival)).step_state
+    pub asked_leaves : Keeps number top log now Holds Sees office (after accepted message now (may_follow t)) (step t number (Rx arrival)).step_state
         ⊎ Grown (may_follow t)
-    asked_leaves = subst (λ (b : Bool). Keeps number top log now Holds office (after accepted message now b) (step t number (Rx arrival)).step_state ⊎ Grown b)
+    asked_leaves = subst (λ (b : Bool). Keeps number top log now Holds Sees office (after accepted message now b) (step t number (Rx arrival)).step_state ⊎ Grown b)
         same_may
-        (elim (request_leaves number top log now Holds office accepted message come h) [
-          | inl z ↦ inl (subst (λ (r : StepResult). Keeps number top log now Holds office (after accepted message now (may_follow come.allocator)) r.step_state)
+        (elim (request_leaves number top log now Holds Sees office accepted message come h) [
+          | inl z ↦ inl (subst (λ (r : StepResult). Keeps number top log now Holds Sees office (after accepted message now (may_follow come.allocator)) r.step_state)
               (sym step_hears)
-              (ends number top log now Holds office (after accepted message now (may_follow come.allocator)) (hears_allocation number message come) z))
+              (ends number top log now Holds Sees office (after accepted message now (may_follow come.allocator)) (hears_allocation number message come) z))
           | inr z ↦ inr (z.0, step_hears ∙ ap (λ (k : StepState). with_end_phase number (took k)) z.1)
         ])
 

@@ -23,13 +23,13 @@ use Rattle.dsdl_codec.specs.VoteRequest as vote_codec
 use Rattle.id_selector.specs.Choice.{chosen}
 use Rattle.node_discovery.specs.History.{Event, Status, Taken, is_online, takes}
 use Rattle.node_discovery.specs.Watch.{Watched, after_info, after_status, history, of_node, some_unknown}
-use Rattle.raft_core.specs.Handled.{answer_of, append_request_of, vote_request_of}
+use Rattle.raft_core.specs.Handled.{append_request_of, vote_request_of}
 use Rattle.raft_core.specs.Times.{given_at, is_awaited}
 use Rattle.raft_model.specs.Decisions.{grants}
 use Rattle.raft_model.specs.Messages.{Request}
 use Rattle.raft_model.specs.Moves.{Move}
 use Rattle.raft_model.specs.Moves.Elections.{with_term}
-use Rattle.raft_model.specs.Moves.Move.{AnswerAgain, TakeAppendAnswer, TakeAppendRequest, TakeVoteAnswer, TakeVoteRequest}
+use Rattle.raft_model.specs.Moves.Move.{AnswerAgain, TakeAppendRequest, TakeVoteRequest}
 use Rattle.raft_model.specs.Server.{RaftServer}
 use Rattle.transfer_rx.specs.Reassembly.{Delivery}
 use Rattle.alloc_spec.specs.AllocatorState.{AllocatorState, is_recorded, is_zero, known, may_propose, members_of, recorded_at, start_of, taken}
@@ -39,15 +39,14 @@ use Rattle.alloc_spec.specs.Services.{answers_append_request, answers_call, answ
 use Rattle.alloc_spec.specs.StepState.{StepState, with_moves, with_transfer}
 use Rattle.alloc_spec.specs.Tick.{proposes}
 use Rattle.alloc_spec.specs.Transfers.{has_room}
-use Rattle.alloc_spec.proofs.Blanks.{move_with_blank}
 use Rattle.alloc_spec_laws.proofs.Choices.{either, eq_false, eq_true}
 use Rattle.cluster_agreement.proofs.Deliveries.{listed_in}
 use Rattle.cluster_agreement.proofs.Lists.{in_front}
 use Rattle.cluster_recovery.proofs.Choosing.{left_false}
 use Rattle.cluster_recovery.proofs.Leads.{and_false}
 use Rattle.cluster_calm.proofs.Calls.{on_list}
-use Rattle.calm_service.proofs.SettledRaft.{IsOffice}
-use Rattle.calm_service.proofs.SettledSteps.{Keeps, NoStranger, moves_on}
+use Rattle.calm_service.proofs.SettledRaft.{IsOffice, IsStill}
+use Rattle.calm_service.proofs.SettledSteps.{Keeps, NoStranger, goes_on, moves_on}
 use Rattle.calm_leader.proofs.TermsKept.{TellsWithin}
 use Rattle.calm_leader.proofs.TermsRoles.{not_above}
 
@@ -77,7 +76,7 @@ or_less a false false grows e = e
 
 module _ (log : List Entry) (list : List ℕ) (watch : List Watched) (now : ℕ) (off : NoStranger log list watch now) where
   -- a status of who is on the list
-  after_its_status : (source : ℕ) → is_on_list list source ≡ true → NoStranger log list (after_status watch source now) now
+  pub after_its_status : (source : ℕ) → is_on_list list source ≡ true → NoStranger log list (after_status watch source now) now
   after_its_status source listed other e =
       either (λ (l : List Watched). is_online (history other l) now ≡ false) (nat_le 1 source && nat_le source 125) (of_node source (Status now) ∷ watch) watch
       (λ c. either (λ (events : List Event). is_online events now ≡ false) (nat_eq source other) (Status now ∷ history other watch) (history other watch)
@@ -85,7 +84,7 @@ module _ (log : List Entry) (list : List ℕ) (watch : List Watched) (now : ℕ)
       (λ s. off other e)) (λ c. off other e)
 
   -- a unique ID
-  after_its_info : (source id : ℕ) (uid : List ℕ) → NoStranger log list (after_info watch source id uid now) now
+  pub after_its_info : (source id : ℕ) (uid : List ℕ) → NoStranger log list (after_info watch source id uid now) now
   after_its_info source id uid other e =
       either (λ (l : List Watched). is_online (history other l) now ≡ false) (takes (history source watch) id now) (of_node source (Taken uid now) ∷ watch) watch
       (λ c. either (λ (events : List Event). is_online events now ≡ false) (nat_eq source other) (Taken uid now ∷ history other watch) (history other watch)
@@ -108,10 +107,10 @@ pub record Proposes (heard : Heard) (t : AllocatorState) : Type 0 where
 abbrev pub Grows : ℕ → Heard → StepState → StepState → Type 0
 Grows number heard g k = (p : Proposes heard g.allocator) × (k ≡ proposes number 1 p.uid p.node g)
 
-module _ (number top : ℕ) (log : List Entry) (now : ℕ) (Holds : RaftServer → Type 0) (office : IsOffice top log Holds) where
+module _ (number top : ℕ) (log : List Entry) (now : ℕ) (Holds : RaftServer → Type 0) (Sees : List ℕ → ℕ → Bool → Type 0) (office : IsOffice top log Holds Sees) where
   module _ (accepted : List Accepted) where
     abbrev Stays : StepState → Type 0
-    Stays g = Keeps number top log now Holds office accepted g
+    Stays g = Keeps number top log now Holds Sees office accepted g
 
     -- ---- a request of a device
 
@@ -121,7 +120,7 @@ module _ (number top : ℕ) (log : List Entry) (now : ℕ) (Holds : RaftServer �
         either Stays (has_room g.allocator.queue payload)
         (with_moves number (given_at g.allocator.now) (AnswerAgain place ∷ []) (with_transfer number Alloc 0 payload None g))
         (with_transfer number Alloc 0 payload None g)
-        (λ r. moves_on number top log now Holds office accepted (given_at g.allocator.now) (with_transfer number Alloc 0 payload None g) (AnswerAgain place) tt h) (λ r. h)
+        (λ r. moves_on number top log now Holds Sees office accepted (given_at g.allocator.now) (with_transfer number Alloc 0 payload None g) (AnswerAgain place) tt tt h) (λ r. h)
 
     again : (place : ℕ) (g : StepState) → Stays g
         → Stays (if nat_lt place g.allocator.raft_server.store.commit then gives_pair number (AnswerAgain place) place g else g)
@@ -157,13 +156,15 @@ module _ (number top : ℕ) (log : List Entry) (now : ℕ) (Holds : RaftServer �
 
     -- ---- what else is delivered
 
-    called : (move : Request → Move) (pending : Option Request) (g : StepState)
-        → ((asked : Request) → Stays (with_moves number (given_at g.allocator.now) (move asked ∷ []) g)) → Stays g
-        → Stays (answers_call number move pending g)
-    called move None g taken h = h
-    called move (Some asked) g taken h = move_with_blank Stays number (given_at g.allocator.now) (move asked) g (taken asked)
-        (λ moment. absurd (office.adds_no_blank (members_of g.allocator) g.allocator.me g.allocator.times
-        g.allocator.raft_server _ h.done (taken asked).done moment.moment moment.takes))
+    -- the list over which it is judged, at a step so far, whether a blank comes, by whom, and whether it waits with it
+    abbrev pub SeesAt : StepState → Type 0
+    SeesAt g = Sees (members_of g.allocator) g.allocator.me g.allocator.times.waits
+
+    called : (move : Request → Move) (pending : Option Request) (g : StepState) → SeesAt g
+        → ((asked : Request) → IsStill top g.allocator.raft_server (move asked)) → Stays g → Stays (answers_call number move pending g)
+    called move None g sees still h = h
+    called move (Some asked) g sees still h = goes_on number top log now Holds Sees office accepted g _
+        (office.calls (members_of g.allocator) g.allocator.me number g.allocator.times g.allocator.raft_server (move asked) sees (still asked) h.done) h
 
     module _ (d : Delivery) (within : TellsWithin top d) where
       read_it : {A : Type 0} (hears : A → StepState → StepState) (value : Option A) (g : StepState) → ((a : A) → value ≡ Some a → Stays (hears a g)) → Stays g
@@ -182,38 +183,34 @@ module _ (number top : ℕ) (log : List Entry) (now : ℕ) (Holds : RaftServer �
           → StaysAt (reads (takes_append_request number d) (append_codec.append_request_of d.payload) g)
       asks_append kind thirty g h = read_it (takes_append_request number d) (append_codec.append_request_of d.payload) g
           (λ m read. either Stays (is_listed d g.allocator) (answers_append_request number d m g) g
-          (λ l. moves_on number top log now Holds office accepted (given_at g.allocator.now) g (TakeAppendRequest (append_request_of m d.mark.step d.ident.source g.allocator.me) _)
-          (within.append_request kind thirty m read, refl) h) (λ l. h)) h
+          (λ l. moves_on number top log now Holds Sees office accepted (given_at g.allocator.now) g (TakeAppendRequest (append_request_of m d.mark.step d.ident.source g.allocator.me) _)
+          (within.append_request kind thirty m read, refl) tt h) (λ l. h)) h
 
       asks_vote : d.ident.kind ≡ RequestKind → d.ident.number ≢ 1 → d.ident.number ≢ 30 → (g : StepState) → Stays g
           → StaysAt (reads (takes_vote_request number d) (vote_codec.vote_request_of d.payload) g)
       asks_vote kind one thirty g h = read_it (takes_vote_request number d) (vote_codec.vote_request_of d.payload) g
           (λ m read. either Stays (is_listed d g.allocator) (answers_vote_request number d m g) g
           (λ l. let asked : Request = vote_request_of m d.mark.step d.ident.source g.allocator.me in
-          moves_on number top log now Holds office accepted (given_at g.allocator.now) g
-          (TakeVoteRequest asked (grants (with_term g.allocator.raft_server.store asked.term) asked)) (within.vote_request kind one thirty m read) h)
+          moves_on number top log now Holds Sees office accepted (given_at g.allocator.now) g
+          (TakeVoteRequest asked (grants (with_term g.allocator.raft_server.store asked.term) asked)) (within.vote_request kind one thirty m read) tt h)
           (λ l. h)) h
 
-      answers_append : d.ident.kind ≡ Response → d.ident.number ≡ 30 → (g : StepState) → Stays g
+      answers_append : d.ident.kind ≡ Response → d.ident.number ≡ 30 → (g : StepState) → SeesAt g → Stays g
           → StaysAt (reads (takes_append_answer number d) (append_answer_of d.payload) g)
-      answers_append kind thirty g h = read_it (takes_append_answer number d) (append_answer_of d.payload) g
+      answers_append kind thirty g sees h = read_it (takes_append_answer number d) (append_answer_of d.payload) g
           (λ m read. either Stays (is_listed d g.allocator) (ends_append_call number d m g) g
           (λ l. either Stays (is_awaited g.allocator.raft_server g.allocator.times d.ident.source true d.id)
           (answers_call number (append_answered d m) (g.allocator.raft_server.memory.pending d.ident.source) g) g
-          (λ a. called (append_answered d m) (g.allocator.raft_server.memory.pending d.ident.source) g
-          (λ asked. moves_on number top log now Holds office accepted (given_at g.allocator.now) g (TakeAppendAnswer (answer_of d.mark.step d.ident.source asked m.term m.success))
-          (within.append_answer kind thirty m read) h) h)
+          (λ a. called (append_answered d m) (g.allocator.raft_server.memory.pending d.ident.source) g sees (λ asked. within.append_answer kind thirty m read) h)
           (λ a. h)) (λ l. h)) h
 
-      answers_vote : d.ident.kind ≡ Response → d.ident.number ≢ 1 → d.ident.number ≢ 30 → (g : StepState) → Stays g
+      answers_vote : d.ident.kind ≡ Response → d.ident.number ≢ 1 → d.ident.number ≢ 30 → (g : StepState) → SeesAt g → Stays g
           → StaysAt (reads (takes_vote_answer number d) (vote_answer_of d.payload) g)
-      answers_vote kind one thirty g h = read_it (takes_vote_answer number d) (vote_answer_of d.payload) g
+      answers_vote kind one thirty g sees h = read_it (takes_vote_answer number d) (vote_answer_of d.payload) g
           (λ m read. either Stays (is_listed d g.allocator) (ends_vote_call number d m g) g
           (λ l. either Stays (is_awaited g.allocator.raft_server g.allocator.times d.ident.source false d.id)
           (answers_call number (vote_answered d m) (g.allocator.raft_server.memory.pending d.ident.source) g) g
-          (λ a. called (vote_answered d m) (g.allocator.raft_server.memory.pending d.ident.source) g
-          (λ asked. moves_on number top log now Holds office accepted (given_at g.allocator.now) g (TakeVoteAnswer (answer_of d.mark.step d.ident.source asked m.term m.granted))
-          (within.vote_answer kind one thirty m read) h) h)
+          (λ a. called (vote_answered d m) (g.allocator.raft_server.memory.pending d.ident.source) g sees (λ asked. within.vote_answer kind one thirty m read) h)
           (λ a. h)) (λ l. h)) h
 
       hears_a_status : (g : StepState) → is_on_list (members_of g.allocator) d.ident.source ≡ true → Stays g → Stays (hears_status d g)
@@ -258,23 +255,23 @@ module _ (number top : ℕ) (log : List Entry) (now : ℕ) (Holds : RaftServer �
       pub others_leave : (kind : Kind) (g : StepState) → d.ident.kind ≡ kind → kind ≢ Anonymous
           → (kind ≡ Message → is_on_list (members_of g.allocator) d.ident.source ≡ true)
           → ((message : Discovery) → kind ≡ Message → d.ident.number ≢ 341 → discovery_of d.payload ≡ Some message → g.allocator.size ≤ length message.known.items)
-          → Stays g → StaysAt (by_kind number d kind g)
-      others_leave Anonymous g is apart listed whole h = absurd (apart refl)
-      others_leave Message g is apart listed whole h = either StaysAt (nat_eq d.ident.number 341) _ _
+          → SeesAt g → Stays g → StaysAt (by_kind number d kind g)
+      others_leave Anonymous g is apart listed whole sees h = absurd (apart refl)
+      others_leave Message g is apart listed whole sees h = either StaysAt (nat_eq d.ident.number 341) _ _
           (λ e. read_it (λ status. hears_status d) (node_status_of d.payload) g (λ s f. hears_a_status g (listed refl) h) h)
           (λ e. read_it (hears_discovery d) (discovery_of d.payload) g
           (λ m f. hears_a_list m g (whole m refl (eq_false d.ident.number 341 e) f) h) h)
-      others_leave RequestKind g is apart listed whole h = either StaysAt (nat_eq d.ident.number 1) _ _ (λ e. info d.payload g h)
+      others_leave RequestKind g is apart listed whole sees h = either StaysAt (nat_eq d.ident.number 1) _ _ (λ e. info d.payload g h)
           (λ e. either StaysAt (nat_eq d.ident.number 30) _ _ (λ f. asks_append is (eq_true d.ident.number 30 f) g h)
           (λ f. asks_vote is (eq_false d.ident.number 1 e) (eq_false d.ident.number 30 f) g h))
-      others_leave Response g is apart listed whole h = either StaysAt (nat_eq d.ident.number 1) _ _
+      others_leave Response g is apart listed whole sees h = either StaysAt (nat_eq d.ident.number 1) _ _
           (λ e. read_it (hears_info d) (node_info_of d.payload) g (λ m f. hears_a_name m g h) h)
-          (λ e. either StaysAt (nat_eq d.ident.number 30) _ _ (λ f. answers_append is (eq_true d.ident.number 30 f) g h)
-          (λ f. answers_vote is (eq_false d.ident.number 1 e) (eq_false d.ident.number 30 f) g h))
+          (λ e. either StaysAt (nat_eq d.ident.number 30) _ _ (λ f. answers_append is (eq_true d.ident.number 30 f) g sees h)
+          (λ f. answers_vote is (eq_false d.ident.number 1 e) (eq_false d.ident.number 30 f) g sees h))
 
   -- a request is taken, or makes the log grow
-  pub request_leaves : (accepted : List Accepted) (message : Allocation) (g : StepState) → Keeps number top log now Holds office accepted g
-      → Keeps number top log now Holds office (after accepted message now (may_follow g.allocator)) (hears_allocation number message g)
+  pub request_leaves : (accepted : List Accepted) (message : Allocation) (g : StepState) → Keeps number top log now Holds Sees office accepted g
+      → Keeps number top log now Holds Sees office (after accepted message now (may_follow g.allocator)) (hears_allocation number message g)
       ⊎ Grows number (answer accepted message now (may_follow g.allocator)) (with_request message g) (hears_allocation number message g)
   request_leaves accepted message g h = elim (answered (after accepted message now (may_follow g.allocator))
       (answer g.allocator.accepted message g.allocator.now (may_follow g.allocator)) (with_request message g) (record {

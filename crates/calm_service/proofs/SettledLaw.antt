@@ -31,9 +31,9 @@ module _ (laws : CalmLaws) (codec : CodecLaws) (one_transfer : DeliversOne) (sta
     abbrev Reached : (listed : (p : ℕ) → In (OfMember p) group → In p ids) → ℕ → Cluster → List Timed → Type 0
     Reached listed = IsReached group laws codec one_transfer stay clocks pace ids members listed of_run same_members grown grown_harmless
 
-    module _ (whole : List Timed) (under : IsCalmUnder ids rows group clocks pace start n term whole) where
+    module _ (first later : List Timed) (under : IsCalmUnder ids rows group clocks pace start n term first later) where
       -- where the calm begins
-      begins : Reached under.listed start w whole
+      begins : Reached under.listed start w (first ++ later)
       begins = record {
         rows = rows;
         reached = refl;
@@ -45,56 +45,69 @@ module _ (laws : CalmLaws) (codec : CodecLaws) (one_transfer : DeliversOne) (sta
         flies = λ party. refl;
       }
 
-      lists_at : (front rest : List Timed) → whole ≡ front ++ rest → (m : ℕ) → In (OfMember m) group → m ≢ n → Lists n m (after_rows w (rows_in front))
+      lists_at : (front rest : List Timed) → first ++ later ≡ front ++ rest → (m : ℕ) → In (OfMember m) group → m ≢ n → Lists n m (after_rows w (rows_in front))
       lists_at front rest cut m i apart = stay group clocks pace (no_traffic start) n m front rest w (under.running n under.member)
           (subst (AreCalm group clocks pace (no_traffic start) w) cut under.calm) (under.lists m i apart)
 
-    module _ (first front rest : List Timed) (under : IsCalmUnder ids rows group clocks pace start n term (first ++ (front ++ rest))) where
+    module _ (first early front rest : List Timed) (under : IsCalmUnder ids rows group clocks pace start n term first (early ++ (front ++ rest))) where
+      -- the world from which on n leads, and the one behind more rows
+      abbrev led_from : Cluster
+      led_from = after_rows w (rows_in first)
+
       abbrev there : Cluster
-      there = after_rows w (rows_in first)
+      there = after_rows led_from (rows_in early)
 
-      -- what holds where the first rows end
-      pub harm : DoNoHarm w (rows_in first) × DoNoHarm there (rows_in (front ++ rest))
-      harm = harmless_first first (front ++ rest) w under.harmless
+      harm_first : DoNoHarm w (rows_in first) × DoNoHarm led_from (rows_in (early ++ (front ++ rest)))
+      harm_first = harmless_first first (early ++ (front ++ rest)) w under.harmless
 
-      pub reached : Reached under.listed (end_of start first) there (front ++ rest)
+      -- what holds where these rows end
+      pub harm : DoNoHarm led_from (rows_in early) × DoNoHarm there (rows_in (front ++ rest))
+      harm = harmless_first early (front ++ rest) led_from harm_first.1
+
+      pub reached : Reached under.listed (end_of (end_of start first) early) there (front ++ rest)
       reached = reach_on group laws codec one_transfer stay clocks pace ids members under.listed of_run same_members grown grown_harmless
-          first (front ++ rest) start w (begins (first ++ (front ++ rest)) under) harm.0
+          early (front ++ rest) (end_of start first) led_from
+          (reach_on group laws codec one_transfer stay clocks pace ids members under.listed of_run same_members grown grown_harmless
+          first (early ++ (front ++ rest)) start w (begins first (early ++ (front ++ rest)) under) harm_first.0)
+          harm.0
 
       pub led : (a b : List Timed) → front ≡ a ++ b → IsLed group n term (after_rows there (rows_in a))
-      led a b e = subst (IsLed group n term) (world_both w first a) (under.led (first ++ a) (b ++ rest)
-          (ap (λ (l : List Timed). first ++ (l ++ rest)) e ∙ (ap (λ (l : List Timed). first ++ l) (append_assoc a b rest) ∙ sym (append_assoc first a (b ++ rest)))))
+      led a b e = subst (IsLed group n term) (world_both led_from early a) (under.led (early ++ a) (b ++ rest)
+          (ap (λ (l : List Timed). early ++ (l ++ rest)) e ∙ (ap (λ (l : List Timed). early ++ l) (append_assoc a b rest) ∙ sym (append_assoc early a (b ++ rest)))))
 
       pub missed : NobodyIsMissed n there front
-      missed = (missed_first n front rest there (missed_first n first (front ++ rest) w under.missed).1).0
+      missed = (missed_first n front rest there (missed_first n early (front ++ rest) led_from under.missed).1).0
 
       pub lists : (m : ℕ) → In (OfMember m) group → m ≢ n → Lists n m there
-      lists = lists_at (first ++ (front ++ rest)) under first (front ++ rest) refl
+      lists m i apart = subst (Lists n m) (world_both w first early)
+          (lists_at first (early ++ (front ++ rest)) under (first ++ early) (front ++ rest) (sym (append_assoc first early (front ++ rest))) m i apart)
 
   pub each_row : EachRowLeavesItSettled ids rows
-  each_row group clocks pace start n term log accepted front rest timed under is =
+  each_row group clocks pace start n term log accepted first front rest timed under is =
       row_leaves group laws codec one_transfer stay clocks pace ids members under.listed of_run same_members grown grown_harmless
-      n term log under.member (end_of start front) (after_rows w (rows_in front)) timed rest
-      (reached group clocks pace start n term front (timed ∷ []) rest under)
-      (harm group clocks pace start n term front (timed ∷ []) rest under).1.0 accepted
-      (led group clocks pace start n term front (timed ∷ []) rest under [] (timed ∷ []) refl)
-      (lists group clocks pace start n term front (timed ∷ []) rest under)
-      (missed group clocks pace start n term front (timed ∷ []) rest under).0 is
+      n term log under.member (end_of (end_of start first) front) (after_rows (after_rows w (rows_in first)) (rows_in front)) timed rest
+      (reached group clocks pace start n term first front (timed ∷ []) rest under)
+      (harm group clocks pace start n term first front (timed ∷ []) rest under).1.0 accepted
+      (led group clocks pace start n term first front (timed ∷ []) rest under [] (timed ∷ []) refl)
+      (lists group clocks pace start n term first front (timed ∷ []) rest under)
+      (missed group clocks pace start n term first front (timed ∷ []) rest under).0 is
 
   pub all_rows : AllRowsLeaveItSettled ids rows
-  all_rows group clocks pace start n term log first front rest under = (
-    λ is none. settled_on group laws codec one_transfer stay clocks pace ids members under.listed of_run same_members grown grown_harmless
-        n term log under.member front rest (end_of start first) (after_rows w (rows_in first))
-        (reached group clocks pace start n term first front rest under)
-        (harmless_first front rest (after_rows w (rows_in first)) (harm group clocks pace start n term first front rest under).1).0
-        (led group clocks pace start n term first front rest under)
-        (lists group clocks pace start n term first front rest under)
-        (missed group clocks pace start n term first front rest under) none is,
-    λ accepted is none. unasked_on group laws codec one_transfer stay clocks pace ids members under.listed of_run same_members grown grown_harmless
-        n term log under.member accepted front rest (end_of start first) (after_rows w (rows_in first))
-        (reached group clocks pace start n term first front rest under)
-        (harmless_first front rest (after_rows w (rows_in first)) (harm group clocks pace start n term first front rest under).1).0
-        (led group clocks pace start n term first front rest under)
-        (lists group clocks pace start n term first front rest under)
-        (missed group clocks pace start n term first front rest under) none is,
-  )
+  all_rows group clocks pace start n term log first early front rest under =
+      let there = after_rows (after_rows w (rows_in first)) (rows_in early) in
+      let moment = end_of (end_of start first) early in (
+        λ is none. settled_on group laws codec one_transfer stay clocks pace ids members under.listed of_run same_members grown grown_harmless
+            n term log under.member front rest moment there
+            (reached group clocks pace start n term first early front rest under)
+            (harmless_first front rest there (harm group clocks pace start n term first early front rest under).1).0
+            (led group clocks pace start n term first early front rest under)
+            (lists group clocks pace start n term first early front rest under)
+            (missed group clocks pace start n term first early front rest under) none is,
+        λ accepted is none. unasked_on group laws codec one_transfer stay clocks pace ids members under.listed of_run same_members grown grown_harmless
+            n term log under.member accepted front rest moment there
+            (reached group clocks pace start n term first early front rest under)
+            (harmless_first front rest there (harm group clocks pace start n term first early front rest under).1).0
+            (led group clocks pace start n term first early front rest under)
+            (lists group clocks pace start n term first early front rest under)
+            (missed group clocks pace start n term first early front rest under) none is,
+      )

@@ -27,7 +27,7 @@ use Rattle.calm_service.proofs.SettledRaft.{IsDone, all_committed}
 use Rattle.calm_leader.proofs.TermsKept.{TellsWithin}
 use Rattle.cluster_spec.specs.Cluster.{Cluster, after_row, arrival_at, frame_at}
 use Rattle.calm_service.proofs.SettledServers.{Settles}
-use Rattle.calm_service.proofs.SettledRaft.{done_office}
+use Rattle.calm_service.proofs.SettledRaft.{Anyone, done_office}
 use Rattle.cluster_progress.specs.Serving.{MayRecord}
 use Rattle.calm_service.proofs.SettledRows.{Grew, Leaves, asked_row, unasked_in}
 
@@ -82,10 +82,10 @@ module _ (frame : FrameLaws) (group : List Party) (clocks : Party → ℕ) (pace
   now = moment + clocks (OfMember n)
 
   abbrev LeavesIt : List Accepted → Row → Type 0
-  LeavesIt = Leaves frame group clocks pace n top log (IsDone top log) (done_office top log) accepted before moment traffic w nodes member flies lists later
+  LeavesIt = Leaves frame group clocks pace n top log (IsDone top log) Anyone (done_office top log) accepted before moment traffic w nodes member flies lists later
 
   abbrev GrewIt : (message : Allocation) → IsAsked n message w row → Type 0
-  GrewIt = Grew frame group clocks pace n top log (IsDone top log) (done_office top log) accepted before moment traffic w nodes member flies lists later row
+  GrewIt = Grew frame group clocks pace n top log (IsDone top log) Anyone (done_office top log) accepted before moment traffic w nodes member flies lists later row
 
   -- it has settled behind it
   settled : (then_accepted : List Accepted) → LeavesIt then_accepted row → IsSettled n log then_accepted now (after_row w row)
@@ -112,7 +112,7 @@ module _ (frame : FrameLaws) (group : List Party) (clocks : Party → ℕ) (pace
         its_may = may_record (w.rows + 1) is.comes.server (arrival_at (frame_at w.frames is.comes.k) is.comes.ms) message _ g.growth
 
     asked_settled : IsRecorded n message w row is ⊎ IsSettled n log (after accepted message (max is.comes.server.now is.comes.ms) true) now (after_row w row)
-    asked_settled = elim (asked_row frame group clocks pace n top log (IsDone top log) (done_office top log) accepted before moment traffic w nodes member flies lists
+    asked_settled = elim (asked_row frame group clocks pace n top log (IsDone top log) Anyone (done_office top log) accepted before moment traffic w nodes member flies lists
         later t h me row calm message is) [
           | inl g ↦ inl (recorded g)
           | inr leaves ↦ inr (subst (λ (b : Bool). IsSettled n log (after accepted message (max is.comes.server.now is.comes.ms) b) now (after_row w row))
@@ -124,7 +124,7 @@ module _ (frame : FrameLaws) (group : List Party) (clocks : Party → ℕ) (pace
   pub stays_settled : ((k ms : ℕ) → row ≡ Rx n k ms → (d : Delivery) → received (setting_for t.me) t.sessions (arrival_at (frame_at w.frames k) (max t.now ms)) ≡ Gives d
       → TellsWithin top d) → MissesNobody n w row → StaysSettled n log accepted now w row
   stays_settled within missed = record {
-    unasked = λ not_asked. settled accepted (unasked_in frame group clocks pace n top log (IsDone top log) (done_office top log) accepted before moment traffic w nodes
-        member flies lists later t h me row calm within missed not_asked);
+    unasked = λ not_asked. settled accepted (unasked_in frame group clocks pace n top log (IsDone top log) Anyone (done_office top log) accepted before moment traffic w nodes
+        member flies lists later t h me row tt calm within missed not_asked);
     asked = asked_settled;
   }

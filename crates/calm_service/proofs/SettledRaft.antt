@@ -1,13 +1,14 @@
 -- A leader that has committed and told its whole log: what moves leave of it that bring no higher term, and that neither
 -- propose, commit nor tell.
-use Rattle.std.proofs.Common.{zero, suc, ◌≡◌, ℕ, ◌≤◌, ◌<◌, Bool, true, false, List, [], ◌∷◌, ◌++◌, refl, sym, ◌∙◌, ap, subst, arith, Option, Some, None}
-use Rattle.std.specs.Prelude.{⊤, length, nat_le, nat_lt, if◌then◌else◌}
+use Rattle.std.proofs.Common.{zero, suc, ◌≡◌, ℕ, ◌≤◌, ◌<◌, Bool, true, false, List, [], ◌∷◌, ◌++◌, refl, sym, ◌∙◌, ap, subst, arith, inl, inr, append-nil, Option, Some, None}
+use Rattle.std.specs.Prelude.{⊤, ◌⊎◌, ◌&&◌, length, nat_le, nat_lt, if◌then◌else◌}
 use Rattle.can_frame.specs.declared.entry.Entry.{Entry}
-use Rattle.raft_core.specs.Handled.{is_moment}
+use Rattle.can_frame.specs.Log.{blank}
+use Rattle.raft_core.specs.Handled.{is_moment, with_blank}
 use Rattle.raft_core.specs.Times.{Times}
 use Rattle.raft_model.specs.Decisions.{can_commit, commit_index, greatest_to}
 use Rattle.raft_model.specs.Duty.{takes_blank}
-use Rattle.raft_model.specs.Handlers.{server_after}
+use Rattle.raft_model.specs.Handlers.{server_after, server_after_all}
 use Rattle.raft_model.specs.Messages.{Request}
 use Rattle.raft_model.specs.Moves.{Move, memory_after, puts}
 use Rattle.raft_model.specs.Moves.Appending.{Verdict, acknowledges, append_memory, append_puts, matched_memory}
@@ -206,27 +207,69 @@ no_blank top log server h e =
 
 -- ---- what an office asks of what holds of a leader
 
--- This holds of a server that leads in this term with this log. It stays through moves that bring no higher term, as the
--- server commits what it can, and as it tells; and the server adds no blank.
-pub record IsOffice (top : ℕ) (log : List Entry) (Holds : RaftServer → Type 0) : Type 0 where
+-- a move that ends no call of the server
+abbrev pub EndsNoCall : Move → Type 0
+EndsNoCall (TakeVoteAnswer got) = ⊥
+EndsNoCall (TakeAppendAnswer got) = ⊥
+EndsNoCall move = ⊤
+
+-- This holds of a server that leads in this term, and whose log begins with this one. It stays through moves that bring
+-- no higher term, as the server commits what it can, and as it tells. Where a call ends, a blank may come behind the
+-- move: `Sees` says over which list it is judged whether its moment has come, by whom, and whether it waits with it.
+pub record IsOffice (top : ℕ) (log : List Entry) (Holds : RaftServer → Type 0) (Sees : List ℕ → ℕ → Bool → Type 0) : Type 0 where
   pub leads : (server : RaftServer) → Holds server → LeadsAt top server
-  pub log_is : (server : RaftServer) → Holds server → server.store.log ≡ log
-  pub still : (members : List ℕ) (me number : ℕ) (server : RaftServer) (move : Move) → IsStill top server move → Holds server
+  pub log_is : (server : RaftServer) → Holds server → (more : List Entry) × (server.store.log ≡ log ++ more)
+  pub still : (members : List ℕ) (me number : ℕ) (server : RaftServer) (move : Move) → IsStill top server move → EndsNoCall move → Holds server
       → Holds (server_after members me number server move)
+  pub calls : (members : List ℕ) (me number : ℕ) (times : Times) (server : RaftServer) (move : Move) → Sees members me times.waits → IsStill top server move
+      → Holds server → Holds (server_after_all members me number server (with_blank members me number times server (move ∷ [])))
   pub commits : (members : List ℕ) (me number : ℕ) (server : RaftServer) (index : ℕ) → commit_index members me server ≡ Some index → Holds server
       → Holds (server_after members me number server (CommitTo index))
   pub tells : (members : List ℕ) (me number : ℕ) (server : RaftServer) → has_to_tell server ≡ true → Holds server
       → Holds (server_after members me number server TellPair)
   pub passes : (members : List ℕ) (me number : ℕ) (server : RaftServer) → has_to_tell server ≡ true → Holds server
       → Holds (server_after members me number server TellNothing)
-  pub adds_no_blank : (members : List ℕ) (me : ℕ) (times : Times) (before after : RaftServer) → Holds before → Holds after
-      → is_moment members me times before after ≡ true → takes_blank after.store ≡ true → ⊥
+
+-- whoever it is, and whatever its list
+abbrev pub Anyone : List ℕ → ℕ → Bool → Type 0
+Anyone members me waits = ⊤
+
+-- what holds behind the move that ends a call, with the blank that comes then, or where none comes
+pub ends_call : (Holds : RaftServer → Type 0) (members : List ℕ) (me number : ℕ) (times : Times) (server : RaftServer) (move : Move)
+    → let after = server_after members me number server move in
+    (is_moment members me times server after ≡ true → (is_leader after.memory.role && takes_blank after.store) ≡ true
+    → Holds (server_after members me number after (ProposeEntry (blank after.store.term))))
+    → ((is_moment members me times server after ≡ false) ⊎ ((is_leader after.memory.role && takes_blank after.store) ≡ false) → Holds after)
+    → Holds (server_after_all members me number server (with_blank members me number times server (move ∷ [])))
+ends_call Holds members me number times server move adds none =
+    by (is_moment members me times server after) refl (is_leader after.memory.role && takes_blank after.store) refl
+  where
+    after : RaftServer
+    after = server_after members me number server move
+
+    by : (m : Bool) → is_moment members me times server after ≡ m → (b : Bool) → (is_leader after.memory.role && takes_blank after.store) ≡ b
+        → Holds (server_after_all members me number after (if m then (if b then ProposeEntry (blank after.store.term) ∷ [] else []) else []))
+    by true e true f = adds e f
+    by true e false f = none (inr f)
+    by false e b f = none (inl e)
+
+-- where no blank comes
+pub ends_without : (Holds : RaftServer → Type 0) (members : List ℕ) (me number : ℕ) (times : Times) (server : RaftServer) (move : Move)
+    → let after = server_after members me number server move in
+    Holds after → (is_moment members me times server after ≡ true → takes_blank after.store ≡ true → ⊥)
+    → Holds (server_after_all members me number server (with_blank members me number times server (move ∷ [])))
+ends_without Holds members me number times server move holds no_moment =
+    ends_call Holds members me number times server move (λ moment takes. absurd (no_moment moment (and_right _ _ takes))) (λ why. holds)
+
+-- a log begins with itself
+pub begins_with : (log now : List Entry) → now ≡ log → (more : List Entry) × (now ≡ log ++ more)
+begins_with log now e = ([], e ∙ sym (append-nil log))
 
 one_number : (a b : ℕ) → Some a ≡ Some b → a ≡ b
 one_number a b e = cc (e)
 
 -- a number that is found passes the test
-greatest_passes : (limit : ℕ) (test : ℕ → Bool) (found : ℕ) → greatest_to limit test ≡ Some found → test found ≡ true
+pub greatest_passes : (limit : ℕ) (test : ℕ → Bool) (found : ℕ) → greatest_to limit test ≡ Some found → test found ≡ true
 greatest_passes zero test found e = by (test zero) refl e
   where
     by : (b : Bool) → test zero ≡ b → (if b then Some zero else None) ≡ Some found → test found ≡ true
@@ -250,13 +293,15 @@ no_commit members me server index all e =
     omega (arith, low, high, all)
 
 -- who is done is in office
-pub done_office : (top : ℕ) (log : List Entry) → IsOffice top log (IsDone top log)
+pub done_office : (top : ℕ) (log : List Entry) → IsOffice top log (IsDone top log) Anyone
 done_office top log = record {
   leads = λ server h. h.leads;
-  log_is = λ server h. h.log_is;
-  still = λ members me number server move is h. done_on top log members me number server move is h;
+  log_is = λ server h. begins_with log server.store.log h.log_is;
+  still = λ members me number server move is quiet h. done_on top log members me number server move is h;
+  calls = λ members me number times server move sees is h.
+      let after : IsDone top log (server_after members me number server move) = done_on top log members me number server move is h in
+      ends_without (IsDone top log) members me number times server move after (λ moment takes. no_blank top log (server_after members me number server move) after takes);
   commits = λ members me number server index e h. absurd (no_commit members me server index (all_committed top log server h) e);
   tells = λ members me number server e h. absurd (none_to_tell top log server h e);
   passes = λ members me number server e h. absurd (none_to_tell top log server h e);
-  adds_no_blank = λ members me times before after h k moment takes. no_blank top log after k takes;
 }

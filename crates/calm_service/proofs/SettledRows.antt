@@ -1,5 +1,5 @@
 -- What a calm row leaves of a member in office.
-use Rattle.std.proofs.Common.{◌≡◌, ◌≢◌, ℕ, ◌+◌, ◌≤◌, true, List, refl, sym, ◌∙◌, ap, subst, arith, inl, inr, Some}
+use Rattle.std.proofs.Common.{◌≡◌, ◌≢◌, ℕ, ◌+◌, ◌≤◌, Bool, true, List, [], ◌∷◌, refl, sym, ◌∙◌, ap, subst, arith, inl, inr, Some}
 use Rattle.std.specs.Prelude.{◌⊎◌, max}
 use Rattle.std.proofs.lemmas.Bool.Decides.{eqb_tells}
 use Rattle.alloc_exchange.specs.Exchange.{Accepted, after, answer}
@@ -19,7 +19,11 @@ use Rattle.transfer_rx.specs.Reassembly.{Arrival, Delivery, Gives, answer as rec
 use Rattle.alloc_spec.specs.Accepted.{rows, setting_for}
 use Rattle.alloc_spec.specs.AllocatorState.{AllocatorState, members_of}
 use Rattle.alloc_spec.specs.Exchange.{may_follow, with_request}
-use Rattle.alloc_spec.specs.Step.{after_pop, at_moment, at_step, step}
+use Rattle.raft_core.specs.Handled.{moves_of_expire}
+use Rattle.raft_core.specs.Times.{HandedIn, Times, end_call, given_at, overdue, times_after_all}
+use Rattle.raft_model.specs.Handlers.{server_after}
+use Rattle.raft_model.specs.Moves.Move.{GiveUp}
+use Rattle.alloc_spec.specs.Step.{after_pop, all_nodes, at_moment, at_step, step}
 use Rattle.alloc_spec.specs.Step as server
 use Rattle.alloc_spec.specs.Transfers.{ident_of}
 use Rattle.cluster_agreement.specs.LawsBelow.{FrameLaws}
@@ -50,10 +54,17 @@ use Rattle.calm_service.proofs.SettledAsked.{Grown}
 use Rattle.calm_service.proofs.SettledRaft.{IsOffice}
 use Rattle.calm_service.proofs.SettledServers.{Settles, after_ends, later_on, not_own, rested}
 
+-- whoever waits with its blank goes on to wait as it gives up calls
+begins_waiting : (members : List ℕ) (me number : ℕ) (given : HandedIn) (nodes : List ℕ) (server : RaftServer) (times : Times)
+    → (times_after_all members me number given server (moves_of_expire nodes) times).waits ≡ times.waits
+begins_waiting members me number given [] server times = refl
+begins_waiting members me number given (node ∷ nodes) server times =
+    begins_waiting members me number given nodes (server_after members me number server (GiveUp node)) (end_call node times)
+
 -- ---- a calm row
 
-module _ (frame : FrameLaws) (group : List Party) (clocks : Party → ℕ) (pace : Pace) (n top : ℕ) (log : List Entry) (Holds : RaftServer → Type 0)
-    (office : IsOffice top log Holds) (accepted : List Accepted) (before moment : ℕ)
+module _ (frame : FrameLaws) (group : List Party) (clocks : Party → ℕ) (pace : Pace) (n top : ℕ) (log : List Entry) (Holds : RaftServer → Type 0) (Sees : List ℕ → ℕ → Bool → Type 0)
+    (office : IsOffice top log Holds Sees) (accepted : List Accepted) (before moment : ℕ)
     (traffic : Traffic) (w : Cluster) (nodes : (p : ℕ) → In (OfMember p) group → (1 ≤ p) × (p ≤ 125)) (member : In (OfMember n) group)
     (flies : (party : Party) → AreOfGroup group w.frames (traffic.to party)) (lists : (p : ℕ) → In (OfMember p) group → p ≢ n → Lists n p w)
     (later : before ≤ moment + clocks (OfMember n)) where
@@ -72,7 +83,7 @@ module _ (frame : FrameLaws) (group : List Party) (clocks : Party → ℕ) (pace
     pub had : Settles Holds log accepted before (w.member n) is.comes.server
     pub now_is : max is.comes.server.now is.comes.ms ≡ now
     pub request : IsRequest (arrival_at (frame_at w.frames is.comes.k) is.comes.ms) message
-    pub come : Keeps number top log now Holds office accepted (when_come is.comes.server number (arrival_at (frame_at w.frames is.comes.k) is.comes.ms))
+    pub come : Keeps number top log now Holds Sees office accepted (when_come is.comes.server number (arrival_at (frame_at w.frames is.comes.k) is.comes.ms))
     pub growth : Proposes (answer accepted message now (may_follow is.comes.server))
         (with_request message (when_come is.comes.server number (arrival_at (frame_at w.frames is.comes.k) is.comes.ms))).allocator
     pub stepped : step is.comes.server number (receipt_of w is.comes.k is.comes.ms)
@@ -90,8 +101,8 @@ module _ (frame : FrameLaws) (group : List Party) (clocks : Party → ℕ) (pace
     ticks : (p ms word : ℕ) → n ≡ p → ms ≡ now → Leaves accepted (Tick p ms word)
     ticks p ms word own reads = (
       then_,
-      rested number top log now Holds office accepted _ then_
-          (rests_at_tick number top log now Holds office accepted t ms word (begins number top log now Holds office accepted t ms (begun_at ms reads) h.done
+      rested number top log now Holds Sees office accepted _ then_
+          (rests_at_tick number top log now Holds Sees office accepted t ms word (begins number top log now Holds Sees office accepted t ms (begun_at ms reads) h.done
           (omega (arith, h.status, later)) h.accepts h.offline h.discovery))
           (subst (IsUp then_) (sym (at_here w.member p n _ own)) (subst (λ (q : ℕ). IsUp then_ (member_after_step number (tick_of ms word) (w.member q).status (w.member q))) own
           (steps_up number (tick_of ms word) t (w.member n) h.up)))
@@ -133,8 +144,8 @@ module _ (frame : FrameLaws) (group : List Party) (clocks : Party → ℕ) (pace
       reads : max t.now ms ≡ now
       reads = begun_at ms calm.1
 
-      comes : Keeps number top log now Holds office accepted (when_come t number arrival)
-      comes = begins number top log now Holds office accepted t ms reads h.done (omega (arith, h.status, later)) h.accepts h.offline h.discovery
+      comes : Keeps number top log now Holds Sees office accepted (when_come t number arrival)
+      comes = begins number top log now Holds Sees office accepted t ms reads h.done (omega (arith, h.status, later)) h.accepts h.offline h.discovery
 
       up_then : IsUp then_row ((after_row w (Rx n k ms)).member n)
       up_then = subst (IsUp then_row) (sym (at_here w.member n n _ refl)) (steps_up number (receipt_of w k ms) t (w.member n) h.up)
@@ -176,15 +187,17 @@ module _ (frame : FrameLaws) (group : List Party) (clocks : Party → ℕ) (pace
 
       -- where no request comes
       unasked_row : ((d : Delivery) → received (setting_for t.me) t.sessions (arrival_at (frame_at w.frames k) (max t.now ms)) ≡ Gives d → TellsWithin top d)
-          → MissesNobody n w (Rx n k ms) → IsNotAsked n w (Rx n k ms) → Leaves accepted (Rx n k ms)
-      unasked_row within missed not_asked = (
+          → Sees (members_of t) t.me t.times.waits → MissesNobody n w (Rx n k ms) → IsNotAsked n w (Rx n k ms) → Leaves accepted (Rx n k ms)
+      unasked_row within sees missed not_asked = (
         then_row,
-        rested number top log now Holds office accepted _ then_row
-            (unasked_leaves number top log now Holds office accepted t arrival comes
+        rested number top log now Holds Sees office accepted _ then_row
+            (unasked_leaves number top log now Holds Sees office accepted t arrival comes
             (λ d message gives kind says. not_asked message (record { request = d; comes = delivered d gives; anonymous = kind; says = says }))
             within listed
             (λ d message gives kind other says. missed d message (delivered d gives) kind (a_discovery d.ident.number (wanted_here d gives).signature.0
-            (ap (λ (kd : Kind). first_signature rows kd d.ident.number) (sym kind) ∙ (wanted_here d gives).signature.1) other) says))
+            (ap (λ (kd : Kind). first_signature rows kd d.ident.number) (sym kind) ∙ (wanted_here d gives).signature.1) other) says)
+            (subst (Sees (members_of t) t.me) (sym (begins_waiting (members_of t) t.me number (given_at (max t.now ms))
+            (overdue t.times (max t.now ms) all_nodes) t.raft_server t.times)) sees))
             up_then (omega (arith, h.requests, later)),
       )
 
@@ -205,9 +218,9 @@ module _ (frame : FrameLaws) (group : List Party) (clocks : Party → ℕ) (pace
               says = r.says;
             }
 
-        left : Keeps number top log now Holds office (after accepted message now (may_follow t)) (step t number (receipt_of w k ms)).step_state
-            ⊎ Grown number top log now Holds office accepted t arrival comes d message (own_gives d gives) kind says (may_follow t)
-        left = asked_leaves number top log now Holds office accepted t arrival comes d message (own_gives d gives) kind says
+        left : Keeps number top log now Holds Sees office (after accepted message now (may_follow t)) (step t number (receipt_of w k ms)).step_state
+            ⊎ Grown number top log now Holds Sees office accepted t arrival comes d message (own_gives d gives) kind says (may_follow t)
+        left = asked_leaves number top log now Holds Sees office accepted t arrival comes d message (own_gives d gives) kind says
 
   -- ---- each row
 
@@ -218,8 +231,8 @@ module _ (frame : FrameLaws) (group : List Party) (clocks : Party → ℕ) (pace
     asked_row message is = elim (left t h me k ms calm is.request message is.comes.gives is.anonymous is.says) [
       | inl z ↦ inr (subst (Leaves then_accepted) (sym is.comes.comes) (
         then_row t h me k ms calm,
-        rested number top log now Holds office then_accepted _ (then_row t h me k ms calm)
-            (subst (λ (m : ℕ). Keeps number top log now Holds office (after accepted message m (may_follow t)) (step t number (receipt_of w k ms)).step_state)
+        rested number top log now Holds Sees office then_accepted _ (then_row t h me k ms calm)
+            (subst (λ (m : ℕ). Keeps number top log now Holds Sees office (after accepted message m (may_follow t)) (step t number (receipt_of w k ms)).step_state)
             (sym now_is) z)
             (up_then t h me k ms calm)
             (after_ends accepted message (max t.now ms) now (may_follow t) (omega (arith, h.requests, later)) (omega (arith, now_is))),
@@ -268,31 +281,31 @@ module _ (frame : FrameLaws) (group : List Party) (clocks : Party → ℕ) (pace
     its_clock p ms own reads = reads ∙ ap (λ (q : ℕ). moment + clocks (OfMember q)) (sym own)
 
     -- where no request comes in a row
-    pub unasked_in : (row : Row) → IsCalmRow group clocks pace traffic w moment row
+    pub unasked_in : (row : Row) → Sees (members_of t) t.me t.times.waits → IsCalmRow group clocks pace traffic w moment row
         → ((k ms : ℕ) → row ≡ Rx n k ms → (d : Delivery) → received (setting_for t.me) t.sessions (arrival_at (frame_at w.frames k) (max t.now ms)) ≡ Gives d
         → TellsWithin top d)
         → MissesNobody n w row → IsNotAsked n w row → Leaves accepted row
-    unasked_in (Tick p ms word) calm within missed no_request = elim (eqb_tells n p) [
+    unasked_in (Tick p ms word) sees calm within missed no_request = elim (eqb_tells n p) [
       | inl z ↦ ticks t h me p ms word z.1 (its_clock p ms z.1 calm.1)
       | inr z ↦ still t h me (Tick p ms word) (at_other w.member p n _ z.1)
     ]
-    unasked_in (Rx p k ms) calm within missed no_request = elim (eqb_tells n p) [
+    unasked_in (Rx p k ms) sees calm within missed no_request = elim (eqb_tells n p) [
       | inl z ↦ subst (λ (q : ℕ). IsCalmRow group clocks pace traffic w moment (Rx q k ms) → MissesNobody n w (Rx q k ms) → IsNotAsked n w (Rx q k ms)
           → Leaves accepted (Rx q k ms)) z.1
-          (λ own_calm own_missed own_no. unasked_row t h me k ms own_calm (within k ms (ap (λ (q : ℕ). Rx q k ms) (sym z.1))) own_missed own_no)
+          (λ own_calm own_missed own_no. unasked_row t h me k ms own_calm (within k ms (ap (λ (q : ℕ). Rx q k ms) (sym z.1))) sees own_missed own_no)
           calm missed no_request
       | inr z ↦ still t h me (Rx p k ms) (at_other w.member p n _ z.1)
     ]
-    unasked_in (Send p) calm within missed no_request = elim (eqb_tells n p) [
+    unasked_in (Send p) sees calm within missed no_request = elim (eqb_tells n p) [
       | inl z ↦ sends t h me p z.1
       | inr z ↦ still t h me (Send p) (at_other w.member p n _ z.1)
     ]
-    unasked_in (ATick a ms word) calm within missed no_request = still t h me (ATick a ms word) refl
-    unasked_in (ARx a k ms word) calm within missed no_request = still t h me (ARx a k ms word) refl
-    unasked_in (ASend a) calm within missed no_request = still t h me (ASend a) refl
-    unasked_in (Open p told ms word) calm within missed no_request = absurd calm
-    unasked_in (Ext f) calm within missed no_request = absurd calm
-    unasked_in (Crash p calls pattern) calm within missed no_request = absurd calm
-    unasked_in (Fault p call) calm within missed no_request = absurd calm
-    unasked_in (AOpen a uid pref ms word) calm within missed no_request = absurd calm
-    unasked_in (AEnd a) calm within missed no_request = absurd calm
+    unasked_in (ATick a ms word) sees calm within missed no_request = still t h me (ATick a ms word) refl
+    unasked_in (ARx a k ms word) sees calm within missed no_request = still t h me (ARx a k ms word) refl
+    unasked_in (ASend a) sees calm within missed no_request = still t h me (ASend a) refl
+    unasked_in (Open p told ms word) sees calm within missed no_request = absurd calm
+    unasked_in (Ext f) sees calm within missed no_request = absurd calm
+    unasked_in (Crash p calls pattern) sees calm within missed no_request = absurd calm
+    unasked_in (Fault p call) sees calm within missed no_request = absurd calm
+    unasked_in (AOpen a uid pref ms word) sees calm within missed no_request = absurd calm
+    unasked_in (AEnd a) sees calm within missed no_request = absurd calm

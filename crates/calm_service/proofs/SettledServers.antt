@@ -56,9 +56,9 @@ pub record Settles (Holds : RaftServer → Type 0) (log : List Entry) (accepted 
   pub discovery : owes (start_of t) t.heard ≡ false
 
 -- what rests in a step is in office behind it
-pub rested : (number top : ℕ) (log : List Entry) (now : ℕ) (Holds : RaftServer → Type 0) (office : IsOffice top log Holds) (accepted : List Accepted) (x : Member)
-    (t : AllocatorState) → RestsAt number top log now Holds office accepted t → IsUp t x → last_moment accepted ≤ now → Settles Holds log accepted now x t
-rested number top log now Holds office accepted x t r up requests = record {
+pub rested : (number top : ℕ) (log : List Entry) (now : ℕ) (Holds : RaftServer → Type 0) (Sees : List ℕ → ℕ → Bool → Type 0) (office : IsOffice top log Holds Sees) (accepted : List Accepted) (x : Member)
+    (t : AllocatorState) → RestsAt number top log now Holds Sees office accepted t → IsUp t x → last_moment accepted ≤ now → Settles Holds log accepted now x t
+rested number top log now Holds Sees office accepted x t r up requests = record {
   up = up;
   done = r.done;
   clock = let c = r.clock in omega (arith, c);

@@ -1,6 +1,8 @@
 -- What the phases of a step keep of a leader that has settled: of what it heard and of its log; and its ticks.
-use Rattle.std.proofs.Common.{◌≡◌, ℕ, ◌≤◌, Bool, true, false, List, [], ◌∷◌, refl, sym, ◌∙◌, ap, subst, arith, max, inl, inr, Option, Some, None}
-use Rattle.std.specs.Prelude.{◌&&◌, ◌||◌, ◌-◌, nat_le, if◌then◌else◌}
+use Rattle.std.proofs.Common.{◌≡◌, ℕ, ◌≤◌, Bool, true, false, List, [], ◌∷◌, ◌++◌, refl, sym, ◌∙◌, ap, subst, arith, max, inl, inr, Option, Some, None}
+use Rattle.std.specs.Prelude.{◌&&◌, ◌||◌, ◌-◌, nat_eq, nat_le, if◌then◌else◌}
+use Rattle.std.specs.List.{list_any}
+use Rattle.std.proofs.lemmas.List.Folds.{list_any-append}
 use Rattle.std.proofs.lemmas.Bool.Decides.{leb_tells}
 use Rattle.alloc_exchange.specs.Exchange.{Accepted}
 use Rattle.can_frame.specs.declared.entry.Entry.{Entry}
@@ -29,7 +31,7 @@ use Rattle.cluster_progress.proofs.Ends.{IsKept, rest_keeps}
 use Rattle.cluster_progress.proofs.LeadsOn.{no_election}
 use Rattle.cluster_recovery.proofs.CalmRest.{not_unknown}
 use Rattle.cluster_recovery.proofs.Leads.{none_found, same_either}
-use Rattle.calm_service.proofs.SettledRaft.{IsOffice, IsStill}
+use Rattle.calm_service.proofs.SettledRaft.{EndsNoCall, IsOffice, IsStill}
 
 -- ---- who is not known is not online
 
@@ -50,7 +52,18 @@ pub no_stranger_later : (log : List Entry) (list : List ℕ) (watch : List Watch
 no_stranger_later log list watch now later after_it off other e =
     not_within_later 3000 now later (last_status (history other watch)) after_it (off other e)
 
-module _ (number top : ℕ) (log : List Entry) (now : ℕ) (Holds : RaftServer → Type 0) (office : IsOffice top log Holds) where
+-- who stands in a log stands in a longer one
+pub still_recorded : (log more : List Entry) (node : ℕ) → is_recorded log node ≡ true → is_recorded (log ++ more) node ≡ true
+still_recorded log more node e =
+    list_any-append (λ (entry : Entry). nat_eq entry.node node) log more
+    ∙ ap (λ (b : Bool). b || list_any (λ (entry : Entry). nat_eq entry.node node) more) e
+
+pub or_less_right : (a b c : Bool) → (b ≡ true → c ≡ true) → (a || c) ≡ false → (a || b) ≡ false
+or_less_right true b c grows e = e
+or_less_right false true c grows e = absurd (cc (e, grows refl))
+or_less_right false false c grows e = refl
+
+module _ (number top : ℕ) (log : List Entry) (now : ℕ) (Holds : RaftServer → Type 0) (Sees : List ℕ → ℕ → Bool → Type 0) (office : IsOffice top log Holds Sees) where
   -- what it goes by, in a step at this moment
   pub record Rests (accepted : List Accepted) (server : RaftServer) (reads status : ℕ) (taken : List Accepted) (list : List ℕ) (watch : List Watched)
       (owing : Bool) : Type 0 where
@@ -68,7 +81,7 @@ module _ (number top : ℕ) (log : List Entry) (now : ℕ) (Holds : RaftServer �
   Keeps accepted g = RestsAt accepted g.allocator
 
   -- with another server of the Raft model
-  goes_on : (accepted : List Accepted) (g : StepState) (x : RaftServer) → Holds x → Keeps accepted g
+  pub goes_on : (accepted : List Accepted) (g : StepState) (x : RaftServer) → Holds x → Keeps accepted g
       → Rests accepted x g.allocator.now g.allocator.status_at g.allocator.accepted (members_of g.allocator) g.allocator.watch
       (owes (start_of g.allocator) g.allocator.heard)
   goes_on accepted g x done h = record {
@@ -81,10 +94,10 @@ module _ (number top : ℕ) (log : List Entry) (now : ℕ) (Holds : RaftServer �
   }
 
   -- a move that it does not mind
-  pub moves_on : (accepted : List Accepted) (given : HandedIn) (g : StepState) (move : Move) → IsStill top g.allocator.raft_server move → Keeps accepted g
-      → Keeps accepted (with_moves number given (move ∷ []) g)
-  moves_on accepted given g move is h =
-      goes_on accepted g _ (office.still (members_of g.allocator) g.allocator.me number g.allocator.raft_server move is h.done) h
+  pub moves_on : (accepted : List Accepted) (given : HandedIn) (g : StepState) (move : Move) → IsStill top g.allocator.raft_server move → EndsNoCall move
+      → Keeps accepted g → Keeps accepted (with_moves number given (move ∷ []) g)
+  moves_on accepted given g move is quiet h =
+      goes_on accepted g _ (office.still (members_of g.allocator) g.allocator.me number g.allocator.raft_server move is quiet h.done) h
 
   -- ---- as a step begins and ends
 
@@ -92,7 +105,7 @@ module _ (number top : ℕ) (log : List Entry) (now : ℕ) (Holds : RaftServer �
       → Holds (server_after_all list me number server (moves_of_expire nodes))
   expired list me [] server h = h
   expired list me (node ∷ nodes) server h =
-      expired list me nodes (server_after list me number server (GiveUp node)) (office.still list me number server (GiveUp node) tt h)
+      expired list me nodes (server_after list me number server (GiveUp node)) (office.still list me number server (GiveUp node) tt tt h)
 
   -- what is so when a step begins
   pub begins : (accepted : List Accepted) (t : AllocatorState) (moment : ℕ) → max t.now moment ≡ now → Holds t.raft_server → t.status_at ≤ now
@@ -112,8 +125,8 @@ module _ (number top : ℕ) (log : List Entry) (now : ℕ) (Holds : RaftServer �
     kept = record {
       passes = λ g e h. goes_on accepted g _ (office.passes (members_of g.allocator) g.allocator.me number g.allocator.raft_server e h.done) h;
       tells = λ given g e h. goes_on accepted g _ (office.tells (members_of g.allocator) g.allocator.me number g.allocator.raft_server e h.done) h;
-      votes = λ given peer g h. moves_on accepted given g (CallForVote peer) tt h;
-      appends = λ given peer previous with_entry g h. moves_on accepted given g (CallToAppend peer previous with_entry) tt h;
+      votes = λ given peer g h. moves_on accepted given g (CallForVote peer) tt tt h;
+      appends = λ given peer previous with_entry g h. moves_on accepted given g (CallToAppend peer previous with_entry) tt tt h;
       sends = λ what to payload says g h. h;
     }
 
@@ -135,7 +148,12 @@ module _ (number top : ℕ) (log : List Entry) (now : ℕ) (Holds : RaftServer �
         → is_online (history node g.allocator.watch) g.allocator.now ≡ false
     unknown_off g h node e =
         (λ i. is_online (history node g.allocator.watch) (h.clock i))
-        ∙ h.offline node (ap (λ (l : List Entry). is_on_list (members_of g.allocator) node || is_recorded l node) (sym (office.log_is g.allocator.raft_server h.done)) ∙ e)
+        ∙ h.offline node (or_less_right (is_on_list (members_of g.allocator) node) (is_recorded log node) (is_recorded (log ++ more.0) node)
+        (still_recorded log more.0 node)
+        (ap (λ (l : List Entry). is_on_list (members_of g.allocator) node || is_recorded l node) (sym more.1) ∙ e))
+      where
+        more : (more : List Entry) × (g.allocator.raft_server.store.log ≡ log ++ more)
+        more = office.log_is g.allocator.raft_server h.done
 
     not_candidate : (g : StepState) → Keeps accepted g → (node : ℕ) → is_candidate g.allocator node ≡ false
     not_candidate g h node = elim (tell (is_known g.allocator node)) [

@@ -111,7 +111,8 @@ pub record HaveRoom (n a : ℕ) (w : Cluster) (whole : List Timed) : Type 0 wher
 abbrev pub DevicesAreHeardOut : List ℕ → List Row → Type 0
 DevicesAreHeardOut ids rows = (group : List Party) (clocks : Party → ℕ) (pace : Pace) (start n a term : ℕ)
     (uid : List ℕ) (preferred : ℕ) (log : List Entry) (whole : List Timed) → let w = world_of ids rows in
-    IsCalmUnder ids rows group clocks pace start n term whole → HasJustCome group clocks start n a uid preferred log w →
+    IsCalmUnder ids rows group clocks pace start n term [] whole →
+    HasJustCome group clocks start n a uid preferred log w →
     HaveRoom n a w whole → pace.period + 4 * pace.delay ≤ 100 →
     start + time_to_be_heard pace < end_of start whole →
     HearsWholeBy n a log (clocks (Member n)) (2 * pace.delay + clocks (OfDevice a)) uid preferred start
@@ -139,7 +140,8 @@ time_to_be_told pace = time_to_be_heard pace + 2 * pace.delay
 abbrev pub KnownDevicesAreTold : List ℕ → List Row → Type 0
 KnownDevicesAreTold ids rows = (group : List Party) (clocks : Party → ℕ) (pace : Pace) (start n a term : ℕ)
     (uid : List ℕ) (preferred node : ℕ) (log : List Entry) (whole : List Timed) → let w = world_of ids rows in
-    IsCalmUnder ids rows group clocks pace start n term whole → HasJustCome group clocks start n a uid preferred log w →
+    IsCalmUnder ids rows group clocks pace start n term [] whole →
+    HasJustCome group clocks start n a uid preferred log w →
     HasPair log uid node → HaveRoom n a w whole → pace.period + 4 * pace.delay ≤ 100 →
     start + time_to_be_told pace < end_of start whole →
     HoldsBy n a log (clocks (Member n)) uid node start (start + time_to_be_told pace) w whole

@@ -81,13 +81,13 @@ pub record KeepsLog (n : ℕ) (log : List Entry) (accepted : List Accepted) (now
       ⊎ LeadsWith n log (after accepted message (max is.comes.server.now is.comes.ms) (may_follow is.comes.server)) now
       (after_row w row)
 
--- each row leaves it so, in a calm in which n leads and the others follow
+-- each row leaves it so, from which on n leads in a calm and the others follow
 abbrev pub EachRowKeepsTheLog : List ℕ → List Row → Type 0
 EachRowKeepsTheLog ids rows = (group : List Party) (clocks : Party → ℕ) (pace : Pace) (start n term : ℕ)
-    (log : List Entry) (accepted : List Accepted) (front rest : List Timed) (timed : Timed) →
-    IsCalmUnder ids rows group clocks pace start n term (front ++ timed ∷ rest) →
-    let there = after_rows (world_of ids rows) (rows_in front) in
-    LeadsWith n log accepted (end_of start front + clocks (Member n)) there →
+    (log : List Entry) (accepted : List Accepted) (first front rest : List Timed) (timed : Timed) →
+    IsCalmUnder ids rows group clocks pace start n term first (front ++ timed ∷ rest) →
+    let there = after_rows (after_rows (world_of ids rows) (rows_in first)) (rows_in front) in
+    LeadsWith n log accepted (end_of (end_of start first) front + clocks (Member n)) there →
     KeepsLog n log accepted (timed.at + clocks (Member n)) there timed.row
 
 -- ---- while something is to be committed
@@ -99,21 +99,23 @@ IsUncommitted n w = (server : AllocatorState) → (w.member n).status ≡ Up ser
 
 -- In such a calm: as long as n has not committed its whole log, it leads with that log, whatever devices ask meanwhile;
 -- where none of their requests is accepted at the beginning, none is accepted, since it gives no follow-up. The log is
--- not full.
+-- not full. It is said from any moment on from which n leads: `early` are the rows before.
 abbrev pub LogStaysUncommitted : List ℕ → List Row → Type 0
 LogStaysUncommitted ids rows = (group : List Party) (clocks : Party → ℕ) (pace : Pace) (start n term : ℕ)
-    (log : List Entry) (first front rest : List Timed) →
-    IsCalmUnder ids rows group clocks pace start n term (first ++ (front ++ rest)) →
-    let there = after_rows (world_of ids rows) (rows_in first) in length log < log_limit →
-    LeadsWith n log [] (end_of start first + clocks (Member n)) there → Throughout (IsUncommitted n) there front →
-    LeadsWith n log [] (end_of (end_of start first) front + clocks (Member n)) (after_rows there (rows_in front))
+    (log : List Entry) (first early front rest : List Timed) →
+    IsCalmUnder ids rows group clocks pace start n term first (early ++ (front ++ rest)) →
+    let there = after_rows (after_rows (world_of ids rows) (rows_in first)) (rows_in early) in
+    let moment = end_of (end_of start first) early in length log < log_limit →
+    LeadsWith n log [] (moment + clocks (Member n)) there → Throughout (IsUncommitted n) there front →
+    LeadsWith n log [] (end_of moment front + clocks (Member n)) (after_rows there (rows_in front))
 
 -- In such a calm, where nobody asks: member n leads with its log, and has accepted no more requests, whatever it has
 -- committed.
 abbrev pub LogStaysUnasked : List ℕ → List Row → Type 0
 LogStaysUnasked ids rows = (group : List Party) (clocks : Party → ℕ) (pace : Pace) (start n term : ℕ)
-    (log : List Entry) (accepted : List Accepted) (first front rest : List Timed) →
-    IsCalmUnder ids rows group clocks pace start n term (first ++ (front ++ rest)) →
-    let there = after_rows (world_of ids rows) (rows_in first) in
-    LeadsWith n log accepted (end_of start first + clocks (Member n)) there → NobodyAsks n there front →
-    LeadsWith n log accepted (end_of (end_of start first) front + clocks (Member n)) (after_rows there (rows_in front))
+    (log : List Entry) (accepted : List Accepted) (first early front rest : List Timed) →
+    IsCalmUnder ids rows group clocks pace start n term first (early ++ (front ++ rest)) →
+    let there = after_rows (after_rows (world_of ids rows) (rows_in first)) (rows_in early) in
+    let moment = end_of (end_of start first) early in
+    LeadsWith n log accepted (moment + clocks (Member n)) there → NobodyAsks n there front →
+    LeadsWith n log accepted (end_of moment front + clocks (Member n)) (after_rows there (rows_in front))

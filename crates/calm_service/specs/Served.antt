@@ -78,7 +78,8 @@ pub record IsRecordedBy (ids : List ℕ) (n term : ℕ) (log : List Entry) (ahea
 abbrev pub NewDevicesAreRecorded : List ℕ → List Row → Type 0
 NewDevicesAreRecorded ids rows = (group : List Party) (clocks : Party → ℕ) (pace : Pace) (start n a term : ℕ)
     (uid : List ℕ) (preferred : ℕ) (log : List Entry) (whole : List Timed) → let w = world_of ids rows in
-    IsCalmUnder ids rows group clocks pace start n term whole → HasJustCome group clocks start n a uid preferred log w →
+    IsCalmUnder ids rows group clocks pace start n term [] whole →
+    HasJustCome group clocks start n a uid preferred log w →
     HasPlaceFor ids log uid → ListsAll n ids w → HaveRoom n a w whole → pace.period + 4 * pace.delay ≤ 100 →
     start + time_to_be_heard pace < end_of start whole →
     IsRecordedBy ids n term log (clocks (Member n)) uid start (start + time_to_be_heard pace) w whole
@@ -96,7 +97,7 @@ KnowsToHave n m count w = (leader : AllocatorState) → (w.member n).status ≡ 
 abbrev pub LeadersLoseNothing : List ℕ → List Row → Type 0
 LeadersLoseNothing ids rows = (group : List Party) (clocks : Party → ℕ) (pace : Pace) (start n m term : ℕ)
     (early middle late : List Timed) (before after : AllocatorState) → let w = world_of ids rows in
-    IsCalmUnder ids rows group clocks pace start n term (early ++ (middle ++ late)) →
+    IsCalmUnder ids rows group clocks pace start n term [] (early ++ (middle ++ late)) →
     CallsFit n w (early ++ (middle ++ late)) → In (Member m) group → m ≢ n → AreInStep n m w →
     ((after_rows w (rows_in early)).member n).status ≡ Up before →
     ((after_rows w (rows_in (early ++ middle))).member n).status ≡ Up after →
@@ -144,7 +145,8 @@ abbrev pub NewPairsAreCommitted : List ℕ → List Row → Type 0
 NewPairsAreCommitted ids rows = (group : List Party) (clocks : Party → ℕ) (pace : Pace) (start n a term : ℕ)
     (uid : List ℕ) (preferred first : ℕ) (next : List ℕ) (log : List Entry) (whole : List Timed) →
     let w = world_of ids rows in
-    IsCalmUnder ids rows group clocks pace start n term whole → HasJustCome group clocks start n a uid preferred log w →
+    IsCalmUnder ids rows group clocks pace start n term [] whole →
+    HasJustCome group clocks start n a uid preferred log w →
     HasPlaceFor ids log uid → ListsAll n ids w → HaveRoom n a w whole → CallsFit n w whole →
     HasFollowers ids group n (length log) (first ∷ next) w whole → pace.period + 4 * pace.delay ≤ 100 →
     start + time_to_be_committed pace < end_of start whole →
@@ -188,7 +190,8 @@ abbrev pub NewPairsAreOffered : List ℕ → List Row → Type 0
 NewPairsAreOffered ids rows = (group : List Party) (clocks : Party → ℕ) (pace : Pace) (start n a term : ℕ)
     (uid : List ℕ) (preferred first : ℕ) (next : List ℕ) (log : List Entry) (whole : List Timed) →
     let w = world_of ids rows in
-    IsCalmUnder ids rows group clocks pace start n term whole → HasJustCome group clocks start n a uid preferred log w →
+    IsCalmUnder ids rows group clocks pace start n term [] whole →
+    HasJustCome group clocks start n a uid preferred log w →
     HasPlaceFor ids log uid → ListsAll n ids w → HaveRoom n a w whole → CallsFit n w whole →
     HasFollowers ids group n (length log) (first ∷ next) w whole → pace.period + 4 * pace.delay ≤ 100 →
     start + time_to_be_committed pace < end_of start whole →
@@ -225,7 +228,8 @@ abbrev pub NewDevicesAreServed : List ℕ → List Row → Type 0
 NewDevicesAreServed ids rows = (group : List Party) (clocks : Party → ℕ) (pace : Pace) (start n a term : ℕ)
     (uid : List ℕ) (preferred first : ℕ) (next : List ℕ) (log : List Entry) (whole : List Timed) →
     let w = world_of ids rows in
-    IsCalmUnder ids rows group clocks pace start n term whole → HasJustCome group clocks start n a uid preferred log w →
+    IsCalmUnder ids rows group clocks pace start n term [] whole →
+    HasJustCome group clocks start n a uid preferred log w →
     HasPlaceFor ids log uid → ListsAll n ids w → HaveRoom n a w whole → CallsFit n w whole → PairsFit n w whole →
     SendsShortAllocations n w whole → HasFollowers ids group n (length log) (first ∷ next) w whole →
     pace.period + 4 * pace.delay ≤ 100 → start + time_to_be_served pace < end_of start whole →

@@ -49,7 +49,8 @@ abbrev pub NewPairsAreTold : List ℕ → List Row → Type 0
 NewPairsAreTold ids rows = (group : List Party) (clocks : Party → ℕ) (pace : Pace) (start n a term : ℕ)
     (uid : List ℕ) (preferred first : ℕ) (next : List ℕ) (log : List Entry) (whole : List Timed) →
     let w = world_of ids rows in
-    IsCalmUnder ids rows group clocks pace start n term whole → HasJustCome group clocks start n a uid preferred log w →
+    IsCalmUnder ids rows group clocks pace start n term [] whole →
+    HasJustCome group clocks start n a uid preferred log w →
     HasPlaceFor ids log uid → ListsAll n ids w → HaveRoom n a w whole → CallsFit n w whole → HasRoomInSteps n w whole →
     length log + 1 < log_limit → HasFollowers ids group n (length log) (first ∷ next) w whole →
     pace.period + 4 * pace.delay ≤ 100 →

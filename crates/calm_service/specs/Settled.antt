@@ -20,7 +20,7 @@ use Rattle.cluster_progress.specs.Serving.{MayRecord, Records}
 use Rattle.cluster_recovery.specs.Calm.{HasSettled, Pace, Timed, end_of, rows_in}
 use Rattle.cluster_calm.specs.Calm.{AreCalm, AreRunning, Member, Party, no_traffic}
 use Rattle.cluster_calm.specs.Calls.{Lists}
-use Rattle.calm_leader.specs.LeadsOn.{IsLed}
+use Rattle.calm_leader.specs.LeadsOn.{IsLedThroughout}
 use Rattle.cluster_spec.specs.Cluster.{Cluster, after_row, after_rows, arrival_at, frame_at, receipt_of, world_of}
 use Rattle.cluster_spec.specs.Lawful.{DoNoHarm}
 use Rattle.cluster_spec.specs.Members.MemberStatus.{Up}
@@ -104,39 +104,42 @@ NothingIsRecorded n w (timed ∷ rest) =
     ((message : Allocation) (asked : IsAsked n message w timed.row) → IsRecorded n message w timed.row asked → ⊥)
     × NothingIsRecorded n (after_row w timed.row) rest
 
--- In each calm from the world of these rows on, in which member n of the group leads throughout, and the others follow.
--- The rows do no harm, n lists each other member when the calm begins, and who sends it a Discovery misses nobody.
+-- In each calm from the world of these rows on: behind its first rows member n of the group leads throughout, and the
+-- others follow. The rows do no harm, n lists each other member when the calm begins, and behind the first rows who
+-- sends it a Discovery misses nobody. Who leads in the first rows is not asked.
 pub record IsCalmUnder (ids : List ℕ) (rows : List Row) (group : List Party) (clocks : Party → ℕ) (pace : Pace)
-    (start n term : ℕ) (whole : List Timed) : Type 0 where
+    (start n term : ℕ) (first later : List Timed) : Type 0 where
   pub listed : (p : ℕ) → In (Member p) group → In p ids
   pub running : AreRunning group (world_of ids rows)
   pub member : In (Member n) group
-  pub calm : AreCalm group clocks pace (no_traffic start) (world_of ids rows) whole
-  pub harmless : DoNoHarm (world_of ids rows) (rows_in whole)
-  pub led : (front rest : List Timed) → whole ≡ front ++ rest → IsLed group n term
-      (after_rows (world_of ids rows) (rows_in front))
+  pub calm : AreCalm group clocks pace (no_traffic start) (world_of ids rows) (first ++ later)
+  pub harmless : DoNoHarm (world_of ids rows) (rows_in (first ++ later))
+  pub led : IsLedThroughout group n term (after_rows (world_of ids rows) (rows_in first)) later
   pub lists : (m : ℕ) → In (Member m) group → m ≢ n → Lists n m (world_of ids rows)
-  pub missed : NobodyIsMissed n (world_of ids rows) whole
+  pub missed : NobodyIsMissed n (after_rows (world_of ids rows) (rows_in first)) later
 
--- Each row leaves n settled, where it has settled before the row: unless a request makes its log grow.
+-- Each row leaves n settled, where it has settled before the row: unless a request makes its log grow. It is said of
+-- each row from which on n leads.
 abbrev pub EachRowLeavesItSettled : List ℕ → List Row → Type 0
 EachRowLeavesItSettled ids rows = (group : List Party) (clocks : Party → ℕ) (pace : Pace) (start n term : ℕ)
-    (log : List Entry) (accepted : List Accepted) (front rest : List Timed) (timed : Timed) →
-    IsCalmUnder ids rows group clocks pace start n term (front ++ timed ∷ rest) →
-    let there = after_rows (world_of ids rows) (rows_in front) in
-    IsSettled n log accepted (end_of start front + clocks (Member n)) there →
+    (log : List Entry) (accepted : List Accepted) (first front rest : List Timed) (timed : Timed) →
+    IsCalmUnder ids rows group clocks pace start n term first (front ++ timed ∷ rest) →
+    let there = after_rows (after_rows (world_of ids rows) (rows_in first)) (rows_in front) in
+    IsSettled n log accepted (end_of (end_of start first) front + clocks (Member n)) there →
     StaysSettled n log accepted (timed.at + clocks (Member n)) there timed.row
 
 -- So it is settled behind each front of rows in which nothing is recorded; and it has accepted no more requests, where
--- none came. More rows may be there between the moment at which the calm begins and that at which n has settled.
+-- none came. More rows may be there between the moment from which on n leads and that at which it has settled: these
+-- are `early`.
 abbrev pub AllRowsLeaveItSettled : List ℕ → List Row → Type 0
 AllRowsLeaveItSettled ids rows = (group : List Party) (clocks : Party → ℕ) (pace : Pace) (start n term : ℕ)
-    (log : List Entry) (first front rest : List Timed) →
-    IsCalmUnder ids rows group clocks pace start n term (first ++ (front ++ rest)) →
-    let there = after_rows (world_of ids rows) (rows_in first) in
-    let then = end_of (end_of start first) front + clocks (Member n) in
+    (log : List Entry) (first early front rest : List Timed) →
+    IsCalmUnder ids rows group clocks pace start n term first (early ++ (front ++ rest)) →
+    let there = after_rows (after_rows (world_of ids rows) (rows_in first)) (rows_in early) in
+    let moment = end_of (end_of start first) early in
+    let then = end_of moment front + clocks (Member n) in
     let later = after_rows there (rows_in front) in
-    (HasSettled n log (end_of start first + clocks (Member n)) there → NothingIsRecorded n there front →
+    (HasSettled n log (moment + clocks (Member n)) there → NothingIsRecorded n there front →
     HasSettled n log then later)
-    × ((accepted : List Accepted) → IsSettled n log accepted (end_of start first + clocks (Member n)) there →
+    × ((accepted : List Accepted) → IsSettled n log accepted (moment + clocks (Member n)) there →
     NobodyAsks n there front → IsSettled n log accepted then later)

@@ -1,20 +1,32 @@
 //! The laws of this crate, each the contract of a function that does nothing.
 
-ghost use Rattle.std.specs.Prelude.{ℕ, List};
 ghost use Rattle.calm_service.specs.Dialog.{DevicesAreHeardOut, KnownDevicesAreTold};
-ghost use Rattle.calm_service.specs.Recorded.{EachRowKeepsTheLog, LeaderSettles, LogStaysUnasked};
-ghost use Rattle.calm_service.specs.Recorded.{LogStaysUncommitted, SettledLeads};
+ghost use Rattle.calm_service.specs.Recorded.{EachRowKeepsTheLog, LeaderSettles, LogStaysUnasked, LogStaysUncommitted};
+ghost use Rattle.calm_service.specs.Recorded.{SettledLeads};
 ghost use Rattle.calm_service.specs.Served.{LeadersLoseNothing, NewDevicesAreRecorded, NewDevicesAreServed};
-ghost use Rattle.calm_service.specs.Served.{NewPairsAreCommitted, NewPairsAreOffered};
-ghost use Rattle.calm_service.specs.ServedTold.{NewPairsAreTold};
+ghost use Rattle.calm_service.specs.Served.{NewPairsAreCommitted, NewPairsAreOffered, IsServedBy, time_to_be_committed};
+ghost use Rattle.calm_service.specs.Served.{time_to_be_served};
+ghost use Rattle.calm_service.specs.ServedExample.{DevicesMayBeServed, before_world, first_log, served_pace};
+ghost use Rattle.calm_service.specs.ServedExample.{served_rows, served_start};
+ghost use Rattle.calm_service.specs.ServedTold.{NewPairsAreTold, HasSettledWithPairBy};
 ghost use Rattle.calm_service.specs.Settled.{AllRowsLeaveItSettled, EachRowLeavesItSettled};
+ghost use Rattle.calm_service.specs.Settles.{LeadersSettle, LeadersSettleUnasked};
+ghost use Rattle.calm_service.specs.Tidy.{DiscoveriesMissNobody, MembersStayTidy, OpenedMembersAreReady};
+ghost use Rattle.calm_service.specs.Tidy.{TidyMembersComeToLead, TidyMembersLead, TidyMembersMissNobody};
+ghost use Rattle.cluster_calm.specs.Calm.{Member};
+ghost use Rattle.cluster_calm.specs.CalmExample.{clocks, sender, some_uid, two};
 ghost use Rattle.cluster_spec.specs.Cluster.{AreMembers, cluster};
 ghost use Rattle.cluster_spec.specs.Lawful.{DoNoHarm};
 ghost use Rattle.replay_text.specs.declared.row.Row.{Row};
+ghost use Rattle.std.specs.Prelude.{ℕ, List, ◌+◌};
 
-use alloc_spec_laws::laws::{duty_of_a_step, steps_stay_in_range, transfers_of_a_step_are_apart};
+use alloc_spec_laws::laws::{
+    duty_of_a_step, members_of_a_step, steps_stay_in_range, transfers_of_a_step_are_apart,
+};
 use allocatee::laws::{a_node_id_is_given_for_good, its_frames_are_anonymous, sessions_of_a_step};
-use calm_leader::laws::{entries_are_committed_in_time, what_entries_stand_on};
+use calm_leader::laws::{
+    entries_are_committed_in_time, entries_come_in_time, what_entries_stand_on,
+};
 use can_frame::laws::{frames_carry_what_is_cut, lengths_of_cuttings};
 use cluster_agreement::allocatees::the_allocatees;
 use cluster_agreement::below::{
@@ -22,23 +34,23 @@ use cluster_agreement::below::{
 };
 use cluster_agreement::headline::{a_choice_fits, rows_are_shown, rows_grow_by_one, the_headline};
 use cluster_agreement::transfers::what_a_row_delivers_is_one_transfer;
-use cluster_calm::laws::{allocations_come_in_calm, who_is_listed_stays};
+use cluster_calm::laws::{allocations_come_in_calm, calm_can_be, who_is_listed_stays};
 use cluster_progress::laws::{
     a_leader_follows_up, a_leader_records_the_pair, requests_are_delivered,
     requests_of_devices_are_requests,
 };
 use dsdl_codec::laws::allocations_both_ways;
 use id_selector::laws::chosen_is_the_choice;
-use raft_model::laws::{law_decisions, law_every_run, law_fit};
+use raft_model::laws::{law_decisions, law_every_run, law_fit, law_members};
 use transfer_rx::laws::delivers_what_comes_whole;
 
-/// Who has settled stays settled in a calm in which it leads, and the others follow: a leader that has committed and
-/// told its whole log, knows each node that is online, and owes no Discovery. So it is behind each row, at the moment
-/// of that row, with the same log; and it has accepted the same requests, where no request of a device comes in the
-/// row. A request that comes is taken as an exchange takes it in which follow-ups may be given; or it makes a unique ID
-/// whole that the log lacks, and the log grows by it: of what comes then nothing is said. The leader lists each other
-/// member, so each node that says in a calm that it is online is known. Who sends it a Discovery has to name as many
-/// nodes as the cluster has members: a shorter list has to be answered.
+/// Who has settled stays settled in a calm in which it leads from some moment on, and the others follow: a leader that
+/// has committed and told its whole log, knows each node that is online, and owes no Discovery. So it is behind each
+/// row from there on, at the moment of that row, with the same log; and it has accepted the same requests, where no
+/// request of a device comes in the row. A request that comes is taken as an exchange takes it in which follow-ups may
+/// be given; or it makes a unique ID whole that the log lacks, and the log grows by it: of what comes then nothing is
+/// said. The leader lists each other member, so each node that says in a calm that it is online is known. Who sends it
+/// a Discovery has to name as many nodes as the cluster has members: a shorter list has to be answered.
 pub fn who_has_settled_stays_settled()
     ensures row { (ids : List ℕ) (rows : List Row) → AreMembers ids → DoNoHarm (cluster ids) rows →
         EachRowLeavesItSettled ids rows }
@@ -199,6 +211,7 @@ pub fn new_pairs_are_committed_in_calm()
     new_devices_are_recorded_in_calm();
     rows_are_shown();
     rows_grow_by_one();
+    what_entries_stand_on();
 }
 
 /// The pair of a new device is told in time. In a calm as for [`new_pairs_are_committed_in_calm`], the leader tells it
@@ -216,6 +229,7 @@ pub fn new_pairs_are_offered_in_calm()
     new_devices_are_recorded_in_calm();
     rows_are_shown();
     rows_grow_by_one();
+    what_entries_stand_on();
 }
 
 /// The pair of a new device is told in time. In a calm as for [`new_pairs_are_committed_in_calm`], in which the leader
@@ -256,4 +270,117 @@ pub fn new_devices_are_served_in_calm()
     rows_grow_by_one();
     the_allocatees();
     the_headline();
+}
+
+/// Members stay tidy in a calm without devices, whoever leads. A member is tidy where nothing keeps it from serving
+/// once it leads: it runs over a disk of which no call is set to fail, its clock has not fallen, it has accepted no
+/// request, it lists each node that is online, it knows all members, and it owes no Discovery. So each member is
+/// behind each front of the calm, at the moment of its own clock, where each is when the calm begins, and lists each
+/// other one, and no frame of a Discovery waits. It would not be enough that its log has a node that is online and not
+/// listed: the log of a member that follows may lose what it had.
+pub fn members_stay_tidy()
+    ensures { (ids : List ℕ) (rows : List Row) → AreMembers ids → DoNoHarm (cluster ids) rows →
+        MembersStayTidy ids rows }
+{
+    a_choice_fits();
+    delivers_what_comes_whole();
+    frames_carry_what_is_cut();
+    its_frames_are_anonymous();
+    lengths_of_cuttings();
+    rows_are_shown();
+    rows_grow_by_one();
+    steps_stay_in_range();
+    what_a_step_keeps();
+    what_is_said_of_a_step();
+    what_is_said_of_frames();
+}
+
+/// A member that was told the members at its opening is tidy until its first step, lists each of them, and has no
+/// Discovery waiting (`opened`). A tidy member that leads has what is asked of a leader so that it settles, beside its
+/// log: where it adds no blank (`leads`), and where it has just come to lead (`comes`).
+pub fn opened_members_are_tidy()
+    ensures opened { (ids : List ℕ) → AreMembers ids → OpenedMembersAreReady ids }
+    ensures leads { TidyMembersLead }
+    ensures comes { TidyMembersComeToLead }
+{
+    law_members();
+    members_of_a_step();
+}
+
+/// In a calm in which no Discovery is due, each that comes misses nobody, since none comes: where each member of the
+/// group knows all and owes none when the calm begins, and no frame of one waits. So it is with devices too (`any`),
+/// and where each member is tidy (`tidy`).
+pub fn discoveries_miss_nobody()
+    ensures any { (ids : List ℕ) (rows : List Row) → AreMembers ids → DoNoHarm (cluster ids) rows →
+        DiscoveriesMissNobody ids rows }
+    ensures tidy { (ids : List ℕ) (rows : List Row) → AreMembers ids → DoNoHarm (cluster ids) rows →
+        TidyMembersMissNobody ids rows }
+{
+    a_choice_fits();
+    delivers_what_comes_whole();
+    frames_carry_what_is_cut();
+    its_frames_are_anonymous();
+    lengths_of_cuttings();
+    rows_are_shown();
+    rows_grow_by_one();
+    steps_stay_in_range();
+    what_a_step_keeps();
+    what_is_said_of_a_step();
+    what_is_said_of_frames();
+}
+
+/// A leader that has just come to lead settles in time. In a calm in which it leads on from a moment on, it has told
+/// all that it has committed then, has accepted no request of a device, knows each node that is online, and owes no
+/// Discovery. Where something of its log is not committed, it was told its list of members, so it waits with its blank
+/// until it knows a quorum to have its log, which is not so yet; the last entry is of an earlier term, and there is
+/// room for a blank. Or the last entry is of its own term, as the blank is that it has added. It has room in each of
+/// its steps for its calls and for the frames of the next pair. Others, which with it are a quorum, can exchange calls
+/// and answers with it; so many calls at most are left to each of them until it is known to have the whole log. Then
+/// the leader has settled within this time, with its log or with a blank of its term behind it; or, once all is
+/// committed, and before all is told, requests of a device make the log grow (`settle`); or the calm is over by then.
+/// Where nobody asks, it settles (`unasked`). The time is, in milliseconds, that in which so many calls are answered,
+/// that of a call more, and a period for each place that was not committed, and one more.
+pub fn leaders_settle_in_calm()
+    ensures settle { (ids : List ℕ) (rows : List Row) → AreMembers ids → DoNoHarm (cluster ids) rows →
+        LeadersSettle ids rows }
+    ensures unasked { (ids : List ℕ) (rows : List Row) → AreMembers ids → DoNoHarm (cluster ids) rows →
+        LeadersSettleUnasked ids rows }
+{
+    a_choice_fits();
+    a_leaders_log_stays();
+    delivers_what_comes_whole();
+    duty_of_a_step();
+    entries_are_committed_in_time();
+    entries_come_in_time();
+    frames_carry_what_is_cut();
+    its_frames_are_anonymous();
+    law_decisions();
+    law_every_run();
+    law_fit();
+    lengths_of_cuttings();
+    rows_are_shown();
+    rows_grow_by_one();
+    steps_stay_in_range();
+    what_a_row_delivers_is_one_transfer();
+    what_a_step_keeps();
+    what_is_said_of_a_step();
+    what_is_said_of_frames();
+    what_is_said_of_messages();
+    who_is_listed_stays();
+}
+
+/// The premises of [`new_devices_are_served_in_calm`] and of [`new_pairs_are_told_in_calm`] can be met together
+/// (`premises`): of two members that are told their list one leads with an empty log, and the other one follows it; a
+/// new device comes and asks. The rows are calm, do no harm, and go on for longer than both laws ask. So the device
+/// holds a node ID that was left (`served`), and the leader has settled with the pair (`told`).
+pub fn devices_may_be_served()
+    ensures premises { DevicesMayBeServed }
+    ensures served { IsServedBy two 1 first_log some_uid served_start (served_start + time_to_be_served served_pace)
+        before_world served_rows }
+    ensures told { HasSettledWithPairBy two sender 1 first_log (clocks (Member sender)) some_uid served_start
+        (served_start + time_to_be_committed served_pace) before_world served_rows }
+{
+    calm_can_be();
+    new_devices_are_served_in_calm();
+    new_pairs_are_told_in_calm();
 }

@@ -1,8 +1,9 @@
-use Rattle.std.proofs.Common.{◌≡◌, ◌≢◌, ℕ, ◌+◌, ◌≤◌, List, true, false, Bool, [], ◌∷◌, refl, ap, sym, ◌∙◌, subst, take, drop, inl, inr, arith, Some}
+use Rattle.std.proofs.Common.{◌≡◌, ◌≢◌, ℕ, ◌+◌, ◌<◌, ◌≤◌, List, true, false, Bool, [], ◌∷◌, refl, ap, sym, ◌∙◌, subst, take, drop, inl, inr, arith, Some}
 use Rattle.std.specs.Prelude.{◌⊎◌, ◌&&◌, ◌||◌, ◌==◌, not}
 use Rattle.can_frame.specs.declared.step.What.TheVariants.{AppQ}
 use Rattle.can_frame.specs.Cutting.{frames_of, payload_of}
 use Rattle.can_frame.specs.Identifier.{identifier_of}
+use Rattle.can_frame.specs.Timing.{election_wait}
 use Rattle.can_frame.specs.TransferCrc.{bits_of, crc_of, divide, number_of}
 use Rattle.node_discovery.specs.Watch.{next_query}
 use Rattle.raft_model.specs.Lists.{In}
@@ -232,7 +233,7 @@ all_admit now key id (session ∷ sessions) all = (
 
 pub returns-clause-will : goal.returns-clause-will
 unfolding step all_nodes queued_frames next_out left_behind frames_of frame_step outcome fits_no_payload fits_no_part payload_of delivery_phase session_step session_for wanted identifier_of rows blocks_used bits_of crc_of divide number_of device_step device_rows next_query
-returns-clause-will c = of_numbers (λ m. m ≢ 1 → WillHear 1 m (led_start + clocks (Member m) + heard_within slow_pace) led_world heartbeat_rows)
+returns-clause-will c = of_numbers (λ m. m ≢ 1 → WillHear 1 m (led_start + clocks (Member m) + heard_within slow_pace) led_world [] heartbeat_rows)
     (λ other. absurd (other refl))
     (λ other. record {
       calls = of_server (λ t. In 2 (members_of t)) (led_world.member 1).status (inr (inl refl));
@@ -244,10 +245,11 @@ returns-clause-will c = of_numbers (λ m. m ≢ 1 → WillHear 1 m (led_start + 
         receiver = server_in (led_world.member 2).status;
         receives = up_two;
       };
-      first = all_admit (server_in (led_world.member 2).status).now (key_of (ident_of 1 AppQ 2)) (id_of (server_in (led_world.member 1).status).ids AppQ 2)
+      first_call = all_admit (server_in (led_world.member 2).status).now (key_of (ident_of 1 AppQ 2)) (id_of (server_in (led_world.member 1).status).ids AppQ 2)
           (server_in (led_world.member 2).status).sessions refl;
       memory = memory;
-      waits = omega arith;
+      waits = of_server (λ t. led_start + clocks (Member 2) + heard_within slow_pace < t.times.since + election_wait) (led_world.member 2).status
+          (omega arith);
     })
 
 pub returns-clause-calm : goal.returns-clause-calm

@@ -2,8 +2,8 @@ use Rattle.std.proofs.Common.{ℕ, List, [], ◌++◌, sym, subst}
 use Rattle.raft_model.specs.Lists.{In}
 use Rattle.raft_model.specs.Runs.{initial_world, run}
 use Rattle.replay_text.specs.declared.row.Row.{Row}
-use Rattle.calm_leader.specs.EntriesBelow.{AppendsPend, CallsFromOne, HasWhatIsKnown}
-use Rattle.calm_leader.proofs.EntriesHave.{appends_pend, from_one, has_known}
+use Rattle.calm_leader.specs.EntriesBelow.{AppendsPend, CallsInside, HasWhatIsKnown, PendingCallsArePast}
+use Rattle.calm_leader.proofs.EntriesHave.{appends_pend, has_known, inside, past}
 use Rattle.cluster_calm.proofs.Start.{places_in, server_is}
 use Rattle.calm_leader.proofs.Stretches.{harmless_both}
 use Rattle.calm_leader.proofs.laws.what_entries_stand_on.Goals as goal
@@ -30,6 +30,11 @@ returns c = λ ids rows members harmless.
     (appends_pend (choice list h) (transfers_of_rows (cluster ids) list []) (world_of ids list) (run (initial_world ids) (its_events list h)) (shown list h).shows
     c.what_is_said_of_messages.ensures (c.law_every_run.ensures.invariants ids (its_events list h) (shown list h).lawful)
     (λ member. c.law_fit.ensures.run ids (its_events list h) member (shown list h).lawful)) in
+    let within = λ (list : List Row) (h : DoNoHarm (cluster ids) list).
+    subst (λ (l : List ℕ). CallsInside l (world_of ids list)) (same_ids list)
+    (inside (choice list h) (transfers_of_rows (cluster ids) list []) (world_of ids list) (run (initial_world ids) (its_events list h)) (shown list h).shows
+    c.what_is_said_of_messages.ensures (c.law_every_run.ensures.invariants ids (its_events list h) (shown list h).lawful)
+    (λ member. c.law_fit.ensures.run ids (its_events list h) member (shown list h).lawful)) in
     record {
       me = c.what_is_said_of_a_step.ensures.me;
       made = c.what_is_said_of_a_step.ensures.called;
@@ -41,8 +46,9 @@ returns c = λ ids rows members harmless.
       duty = λ later h. c.rows_are_dutiful.ensures ids (rows ++ later) members (both later h);
       has = λ later h. has (rows ++ later) (both later h);
       appends = λ later h. appends (rows ++ later) (both later h);
-      from_one = subst (λ (l : List ℕ). CallsFromOne l w) (same_ids rows)
-          (from_one (choice rows harmless) (transfers_of_rows (cluster ids) rows []) w (run (initial_world ids) (its_events rows harmless)) (shown rows harmless).shows
+      inside = λ later h. within (rows ++ later) (both later h);
+      past = subst (λ (l : List ℕ). PendingCallsArePast l w) (same_ids rows)
+          (past (choice rows harmless) (transfers_of_rows (cluster ids) rows []) w (run (initial_world ids) (its_events rows harmless)) (shown rows harmless).shows
           c.what_is_said_of_messages.ensures (c.law_every_run.ensures.invariants ids (its_events rows harmless) (shown rows harmless).lawful)
           (λ member. c.law_fit.ensures.run ids (its_events rows harmless) member (shown rows harmless).lawful));
       node = λ p server i up. (server_is ids (choice rows harmless) (transfers_of_rows (cluster ids) rows []) w (run (initial_world ids) (its_events rows harmless))

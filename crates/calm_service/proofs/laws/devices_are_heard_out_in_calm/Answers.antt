@@ -70,6 +70,6 @@ returns c =
     (run (initial_world ids) (events chosen.0 (cluster ids) rows)) (c.rows_are_shown.ensures chosen.0 ids rows members harmless chosen.1).shows
     (c.rows_grow_by_one.ensures.members (cluster ids) rows) (places_in ids rows) g under.listed under.running come)
     (λ front rest e m i differ. (under.led front rest e).others m i differ) undisturbed.memory undisturbed.room
-    (λ front rest timed e accepted is. c.who_has_settled_stays_settled.ensures.row ids rows members harmless group clocks pace start n term log accepted front rest timed
-    (subst (λ (l : List Timed). IsCalmUnder ids rows group clocks pace start n term l) e under) is))
+    (λ front rest timed e accepted is. c.who_has_settled_stays_settled.ensures.row ids rows members harmless group clocks pace start n term log accepted [] front rest timed
+    (subst (λ (l : List Timed). IsCalmUnder ids rows group clocks pace start n term [] l) e under) is))
     (omega arith) long

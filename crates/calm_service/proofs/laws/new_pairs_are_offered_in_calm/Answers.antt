@@ -28,7 +28,7 @@ returns c = λ ids rows members harmless group clocks pace start n a term uid pr
     commits_inside chosen.0 (transfers_of_rows (cluster ids) list []) (world_of ids list) (run (initial_world ids) (events chosen.0 (cluster ids) list))
     shown.shows (c.law_every_run.ensures.invariants ids (events chosen.0 (cluster ids) list) shown.lawful) n t
     (subst (λ (l : List ℕ). In n l) (sym (c.rows_grow_by_one.ensures.members (cluster ids) list)) (under.listed n under.member)) up in
-    let whole_inside = λ (front rest rows_then : List Timed) (t : AllocatorState) (calm : IsCalmUnder ids rows group clocks pace start n term rows_then)
+    let whole_inside = λ (front rest rows_then : List Timed) (t : AllocatorState) (calm : IsCalmUnder ids rows group clocks pace start n term [] rows_then)
     (cut : rows_then ≡ front ++ rest) (up : ((after_rows (world_of ids rows) (rows_in front)).member n).status ≡ Up t). inside (rows ++ rows_in front)
     (harmless_both (cluster ids) rows (rows_in front) harmless
     (first_harmless (world_of ids rows) (rows_in front) (rows_in rest) (subst (DoNoHarm (world_of ids rows)) (ap rows_in cut ∙ rows_both front rest) calm.harmless)))
@@ -38,4 +38,4 @@ returns c = λ ids rows members harmless group clocks pace start n a term uid pr
     is_told_by (record { tell = c.duty_of_a_step.ensures.tell; phases = c.duty_of_a_step.ensures.phases }) ids rows (c.leaders_lose_nothing_in_calm.ensures ids rows members harmless) group clocks pace start n first term whole under fits
     (followers.apart first (inl refl)).0 (followers.apart first (inl refl)).1 (followers.in_step first (inl refl)) (λ front rest t cut up. whole_inside front rest whole t under cut up)
     log (clocks (Member n)) uid place.device (start + time_to_be_heard pace) (start + time_to_be_committed pace) recorded
-    (as_recorded ids rows (c.entries_are_committed_in_time.ensures ids rows members harmless) (c.leaders_lose_nothing_in_calm.ensures ids rows members harmless) group clocks pace start n term whole_inside quick log (clocks (Member n)) uid first next whole under fits followers long recorded)
+    (as_recorded ids rows (c.entries_are_committed_in_time.ensures ids rows members harmless) (c.leaders_lose_nothing_in_calm.ensures ids rows members harmless) (c.what_entries_stand_on.ensures ids rows members harmless) group clocks pace start n term whole_inside quick log (clocks (Member n)) uid first next whole under fits followers long recorded)
