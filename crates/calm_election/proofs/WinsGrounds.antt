@@ -1,0 +1,175 @@
+-- The laws that stand are what the proofs of who wins ask for.
+use Rattle.std.proofs.Common.{◌≡◌, ◌≢◌, ℕ, Bool, true, List, [], ◌∷◌, ◌++◌, length, refl, sym, ◌∙◌, ap, subst, arith}
+use Rattle.std.specs.Prelude.{◌/◌, ◌+◌, ◌≤◌}
+use Rattle.std.proofs.lemmas.Bool.{le-leb}
+use Rattle.raft_model.specs.Decisions.{grants}
+use Rattle.raft_model.specs.Lists.{In, how_many}
+use Rattle.raft_model.specs.Members.{IsAll}
+use Rattle.raft_model.specs.Messages.{Request}
+use Rattle.raft_model.specs.Moves.Elections.{IsGranted, has_quorum}
+use Rattle.raft_model.specs.Runs as raft
+use Rattle.raft_model.specs.Runs.{initial_world}
+use Rattle.raft_model.specs.Server.{Store, quorum}
+use Rattle.raft_model.specs.Server.Role.{Follower}
+use Rattle.replay_text.specs.declared.row.Row.{Row}
+use Rattle.alloc_spec.specs.AllocatorState.{AllocatorState, members_of, start_of}
+use Rattle.alloc_spec.specs.Transfers.{SentTransfer}
+use Rattle.cluster_agreement.specs.Continues.{Continues}
+use Rattle.cluster_agreement.specs.Shows.{Shows, ShowsMember, ShowsUp}
+use Rattle.cluster_agreement.specs.StepLaws.{MoreLaws}
+use Rattle.cluster_agreement.proofs.Lists.{equal, none_twice}
+use Rattle.cluster_discovery.specs.Members.{IsMemberList, IsStart}
+use Rattle.cluster_progress.specs.InTime.{FramesLeaveFollowers, StaysFollower, WaitsAnew as HearsAnew}
+use Rattle.cluster_recovery.specs.Calm.{Pace, Timed}
+use Rattle.calm_election.specs.Wins.{IsCalmStanding}
+use Rattle.calm_election.specs.Terms.{LogsStay, NoAppendsCome, TermsDoNotFall, TermsStay, VotesStayFree}
+use Rattle.calm_election.specs.Votes.{CandidatesStay, StandingAsks, VoteAnswersReadAsSaid, VotesAreTaken, WaitsOnForVotes}
+use Rattle.calm_election.specs.VotesAlone.{VotesComeAlone}
+use Rattle.calm_election.specs.Waits.{WaitsBeginThen}
+use Rattle.calm_election.proofs.WinsScene.{RowLaws, Scene}
+use Rattle.calm_leader.proofs.Stretches.{harmless_both}
+use Rattle.cluster_calm.specs.Calls.{ListsStay}
+use Rattle.cluster_calm.specs.Calm.{Party}
+use Rattle.cluster_spec.specs.Choices.{AgreesWithDisk}
+use Rattle.cluster_spec.specs.Cluster.{AreMembers, Cluster, after_row, after_rows, cluster, world_of}
+use Rattle.cluster_spec.specs.Lawful.{DoNoHarm}
+use Rattle.cluster_spec.specs.Members.{MemberStatus}
+use Rattle.cluster_spec.specs.Members.MemberStatus.{Up}
+use Rattle.cluster_spec.specs.Refinement.{events, transfers_of_rows}
+
+pub rows_join : (w : Cluster) (first more : List Row) → after_rows w (first ++ more) ≡ after_rows (after_rows w first) more
+rows_join w [] more = refl
+rows_join w (row ∷ first) more = rows_join (after_row w row) first more
+
+-- who counts over all members has a quorum where they do
+same_quorum : (list members : List ℕ) (votes : ℕ → Bool) → length list ≡ length members → how_many votes list ≡ how_many votes members
+    → quorum members ≤ how_many votes members → has_quorum list votes ≡ true
+same_quorum list members votes size many enough =
+    let q = ap (λ (n : ℕ). n / 2 + 1) size in le-leb (quorum list) (how_many votes list) (omega (arith, many, enough, q))
+
+-- so it is behind rows that do no harm
+abbrev pub Always : (List ℕ → List Row → Type 0) → Type 0
+Always Law = (ids : List ℕ) (rows : List Row) → AreMembers ids → DoNoHarm (cluster ids) rows → Law ids rows
+
+-- the laws below
+pub record Below : Type 0 where
+  pub more : MoreLaws
+  pub count : (list members : List ℕ) (test : ℕ → Bool) → IsAll list members → how_many test list ≡ how_many test members
+  pub ticks : StaysFollower
+  pub frames : FramesLeaveFollowers
+  pub hears_anew : HearsAnew
+  pub stay : ListsStay
+  pub granted : (store : Store) (request : Request) → IsGranted store request (grants store request)
+  pub chosen : (ids : List ℕ) (rows : List Row) → AreMembers ids → DoNoHarm (cluster ids) rows → (choice : ℕ → Bool) × AgreesWithDisk choice (cluster ids) rows
+  pub shown : (choice : ℕ → Bool) (ids : List ℕ) (rows : List Row) → AreMembers ids → DoNoHarm (cluster ids) rows → AgreesWithDisk choice (cluster ids) rows
+      → Continues choice (transfers_of_rows (cluster ids) rows []) (world_of ids rows) (initial_world ids) (events choice (cluster ids) rows)
+  pub same : (w : Cluster) (rows : List Row) → (after_rows w rows).ids ≡ w.ids
+  pub taken : VotesAreTaken
+  pub asked : Always StandingAsks
+  pub waits_on : Always WaitsOnForVotes
+  pub candidates : (ids : List ℕ) (rows : List Row) → CandidatesStay ids rows
+  pub answers_read : Always VoteAnswersReadAsSaid
+  pub begin : Always WaitsBeginThen
+  pub terms : Always TermsStay
+  pub rise : (ids : List ℕ) (rows : List Row) → TermsDoNotFall ids rows
+  pub free : Always VotesStayFree
+  pub logs : Always LogsStay
+  pub appends : Always NoAppendsCome
+
+module _ (below : Below) (ids : List ℕ) (members : AreMembers ids) where
+  module _ (list : List Row) (harmless : DoNoHarm (cluster ids) list) where
+    abbrev w : Cluster
+    w = world_of ids list
+
+    abbrev choice : ℕ → Bool
+    choice = (below.chosen ids list members harmless).0
+
+    abbrev run : raft.World
+    run = raft.run (initial_world ids) (events choice (cluster ids) list)
+
+    abbrev made : List SentTransfer
+    made = transfers_of_rows (cluster ids) list []
+
+    shows : Shows choice made w run
+    shows = (below.shown choice ids list members harmless (below.chosen ids list members harmless).1).shows
+
+    shown_up : (p : ℕ) (t : AllocatorState) → In p ids → (w.member p).status ≡ Up t → ShowsUp made w.ids w.frames run p t (w.member p).disk
+    shown_up p t i up = subst (λ (status : MemberStatus). ShowsMember choice made w.ids w.frames run p status (w.member p).disk) up
+        (shows.lives p (subst (λ (l : List ℕ). In p l) (sym (below.same (cluster ids) list)) i))
+
+    its_me : (p : ℕ) (t : AllocatorState) → In p ids → (w.member p).status ≡ Up t → t.me ≡ p
+    its_me p t i up = (shown_up p t i up).runs.me
+
+    its_size : (p : ℕ) (t : AllocatorState) → In p ids → (w.member p).status ≡ Up t → t.size ≡ length ids
+    its_size p t i up = (shown_up p t i up).runs.size ∙ ap (λ (l : List ℕ). length l) (below.same (cluster ids) list)
+
+    its_start : (p : ℕ) (t : AllocatorState) → In p ids → (w.member p).status ≡ Up t → IsStart (start_of t)
+    its_start p t i up =
+        let node = members.nodes p i in
+        let me = its_me p t i up in
+        let size = its_size p t i up in
+        record {
+          numbered = omega (arith, me, node.0);
+          device = omega (arith, me, node.1);
+          least = omega (arith, members.some, size);
+          most = omega (arith, members.few, size);
+        }
+
+    knows_all_members : (p : ℕ) (t : AllocatorState) → In p ids → (w.member p).status ≡ Up t → t.raft_server.memory.role ≢ Follower → IsAll (members_of t) ids
+    knows_all_members p t i up role =
+        let its = shown_up p t i up in
+        let is_list : IsMemberList t.me t.size (members_of t) = below.more.list (start_of t) t.heard (its_start p t i up) in
+        record {
+          once = none_twice (members_of t) is_list.different;
+          among = λ node j. subst (λ (l : List ℕ). In node l) (below.same (cluster ids) list) (its.works.among node j);
+          as_many = equal (length (members_of t)) t.size (its.runs.order.counting role) ∙ its_size p t i up;
+        }
+
+    pub all_row_laws : RowLaws ids w
+    all_row_laws =
+        record {
+          asked = below.asked ids list members harmless;
+          waits_on = below.waits_on ids list members harmless;
+          candidates = below.candidates ids list;
+          answers_read = below.answers_read ids list members harmless;
+          begin = below.begin ids list members harmless;
+          me = its_me;
+          starts = λ p t i up. (its_start p t i up, its_size p t i up);
+          counts = λ p t count i up role enough.
+              let all = knows_all_members p t i up role in same_quorum (members_of t) ids count all.as_many (below.count (members_of t) ids count all) enough;
+        }
+
+  -- what is given where c stands
+  abbrev pub scene : (rows : List Row) → DoNoHarm (cluster ids) rows → VotesComeAlone ids rows → (group : List Party) (clocks : Party → ℕ) (pace : Pace) (start c term : ℕ) (front rest : List Timed) (timed : Timed)
+      → IsCalmStanding ids rows group clocks pace start c term front timed rest → Scene
+  scene rows harmless alone group clocks pace start c term front rest timed calm = record {
+    ids = ids;
+    rows = rows;
+    laws = record {
+      alone = alone;
+      terms = below.terms ids rows members harmless;
+      rise = below.rise ids rows;
+      free = below.free ids rows members harmless;
+      logs = below.logs ids rows members harmless;
+      appends = below.appends ids rows members harmless;
+    };
+    taken = below.taken;
+    row_laws = λ more fine. subst (RowLaws ids) (rows_join (cluster ids) rows more) (all_row_laws (rows ++ more) (harmless_both (cluster ids) rows more harmless fine));
+    ticks = below.ticks;
+    frames = below.frames;
+    hears_anew = below.hears_anew;
+    listing = below.more.list;
+    stay = below.stay;
+    once = members.once;
+    granted = below.granted;
+    group = group;
+    clocks = clocks;
+    pace = pace;
+    start = start;
+    c = c;
+    term = term;
+    front = front;
+    rest = rest;
+    timed = timed;
+    calm = calm;
+  }

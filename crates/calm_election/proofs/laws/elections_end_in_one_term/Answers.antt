@@ -1,0 +1,33 @@
+use Rattle.std.proofs.Common.{ℕ, ◌+◌, arith, true, ◌++◌, inl, inr}
+use Rattle.raft_model.specs.Lists.{In}
+use Rattle.raft_model.specs.Server.{Store}
+use Rattle.cluster_calm.specs.Calm.{Member}
+use Rattle.calm_leader.proofs.Stretches.{harmless_both}
+use Rattle.calm_election.specs.Elections.{election_within, longest_wait}
+use Rattle.calm_election.proofs.ElectionsEnd.{led_later, lists_in, told_all}
+use Rattle.calm_election.proofs.OneTerm.{stands_at_top}
+use Rattle.calm_election.proofs.OneTermWins.{first_of, wins_or_led}
+use Rattle.calm_election.proofs.laws.elections_end_in_one_term.Goals as goal
+use Rattle.cluster_spec.specs.Cluster.{cluster, rules_of, world_of}
+
+pub returns : goal.returns
+returns c = λ ids rows members harmless group clocks pace start term whole r in_term long.
+    let knows = λ (p : ℕ) (store : Store) (opened word : ℕ) (i : In (Member p) group).
+    c.members_of_a_step.ensures.all p (rules_of ids true) store opened word (members.nodes p (r.listed p i)).0 (told_all ids p members (r.listed p i)) in
+    let lists = lists_in ids rows group clocks pace start whole r c.law_members.ensures.count knows c.members_of_a_step.ensures.opening in
+    elim (c.who_is_furthest_stands.ensures ids rows members harmless group clocks pace start whole r (omega (arith, long))) [
+      | inl furthest ↦
+          let found = first_of ids rows group clocks pace start whole r c.steps_stay_in_range.ensures.size c.followers_follow_on.ensures.frames
+          (start + longest_wait + pace.period) furthest in
+          wins_or_led ids rows group clocks pace start whole r (c.logs_stay_in_calm.ensures ids rows members harmless) lists (start + election_within pace)
+          (start + longest_wait + pace.period) found.so
+          (stands_at_top ids rows group clocks pace start whole r c.steps_stay_in_range.ensures.size (c.terms_stay_in_calm.ensures ids rows members harmless)
+          (c.terms_do_not_fall.ensures ids rows)
+          (λ more fine. c.who_stands_asks.ensures ids (rows ++ more) members (harmless_both (cluster ids) rows more harmless fine))
+          (c.vote_requests_come_back.ensures ids rows members harmless) c.who_is_listed_stays.ensures lists
+          (start + longest_wait + pace.period) (omega (arith, long)) term
+          (λ m i server up. let e = in_term m i server up in omega (arith, e)) (λ m i server up. let e = in_term m i server up in omega (arith, e))
+          found.so.front found.so.rest found.so.timed found.so.split found.so.soon found.so.c found.so.term found.so.member found.so.stands)
+          found.furthest found.silent (omega arith) long (c.who_stands_alone_wins.ensures ids rows members harmless)
+      | inr led ↦ inr (led_later group start (start + longest_wait + pace.period) (start + election_within pace) (world_of ids rows) whole (omega arith) led)
+    ]

@@ -1,0 +1,6 @@
+pub mod Elections
+pub mod Terms
+pub mod Votes
+pub mod Waits
+pub mod Wins
+pub mod VotesAlone

@@ -1,0 +1,12 @@
+pub mod Elected
+pub mod Following
+pub mod Fronts
+pub mod Others
+pub mod RestartComputed
+pub mod RestartMeets
+pub mod RestartMeetsRows
+pub mod RestartTests
+pub mod Returning
+pub mod Settling
+pub mod Started
+pub mod Winning

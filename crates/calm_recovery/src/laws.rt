@@ -1,0 +1,82 @@
+//! The laws of this crate, each the contract of a function that does nothing.
+
+ghost use Rattle.calm_election.specs.Elections.{election_within};
+ghost use Rattle.calm_recovery.specs.Restart.{ClustersInStepSettle, ComesBackBy, StartedClustersSettle};
+ghost use Rattle.calm_recovery.specs.Restart.{WinnersBeginAnew, settled_within};
+ghost use Rattle.calm_recovery.specs.RestartExample.{ClusterMayStart, members_only, no_entries, opened_at};
+ghost use Rattle.calm_recovery.specs.RestartExample.{opened_world, restart_pace, restart_rows};
+ghost use Rattle.cluster_calm.specs.CalmExample.{clocks};
+ghost use Rattle.cluster_spec.specs.Cluster.{AreMembers, cluster};
+ghost use Rattle.cluster_spec.specs.Lawful.{DoNoHarm};
+ghost use Rattle.replay_text.specs.declared.row.Row.{Row};
+ghost use Rattle.std.specs.Prelude.{ℕ, ◌+◌, List};
+
+use alloc_spec_laws::laws::members_of_a_step;
+use calm_election::laws::{elections_end, logs_stay_in_calm, terms_do_not_fall};
+use calm_leader::laws::{no_election_comes_in_calm, winners_call};
+use calm_service::laws::{discoveries_miss_nobody, leaders_settle_in_calm, members_stay_tidy};
+use cluster_agreement::below::what_a_step_keeps;
+use cluster_agreement::headline::{a_choice_fits, rows_are_shown, rows_grow_by_one};
+use cluster_calm::laws::calm_can_be;
+use cluster_progress::laws::followers_follow_on;
+use raft_model::laws::{law_every_run, law_members};
+
+/// Who wins begins anew. In a row that does no harm, in which a member of a cluster of two or more comes to lead in the
+/// term that it had: its log is as it was, and what it has committed; it has told all of that, and no more; it knows of
+/// no place that another one has, and calls each one next behind its log. This asks that it knows all members, and was
+/// told them, so that it waits with its blank until a quorum has its log.
+pub fn winners_begin_anew()
+    ensures { WinnersBeginAnew }
+{}
+
+/// A cluster whose members are started comes back in time. In a calm of members that have just been opened, without
+/// devices, somebody wins an election by some moment, and the others follow where it stands. Then it leads from the row
+/// on in which it comes to lead, no election comes from the end of this one on, and within `settled_within` of that end
+/// the winner has settled: it has committed and told its whole log, which is the one that it had stored, or has a blank
+/// behind it. Or the calm is over by then. Premises besides: the queues have room for calls and for the next pair, each
+/// log that is not committed has room for a blank, and the pace is such that calls come before the least wait for an
+/// election is over.
+pub fn started_clusters_settle()
+    ensures { (ids : List ℕ) (rows : List Row) → AreMembers ids → DoNoHarm (cluster ids) rows →
+        StartedClustersSettle ids rows }
+{
+    a_choice_fits();
+    discoveries_miss_nobody();
+    followers_follow_on();
+    law_every_run();
+    law_members();
+    leaders_settle_in_calm();
+    logs_stay_in_calm();
+    members_of_a_step();
+    members_stay_tidy();
+    no_election_comes_in_calm();
+    rows_are_shown();
+    rows_grow_by_one();
+    terms_do_not_fall();
+    what_a_step_keeps();
+    winners_begin_anew();
+    winners_call();
+}
+
+/// A cluster whose members are in step comes back in time, where all are started: each has stored the same term, and no
+/// log is above another. In a calm as for [`started_clusters_settle`] the winner has settled within `election_within`
+/// and `settled_within`, or the calm is over by then.
+pub fn clusters_in_step_settle()
+    ensures { (ids : List ℕ) (rows : List Row) → AreMembers ids → DoNoHarm (cluster ids) rows →
+        ClustersInStepSettle ids rows }
+{
+    elections_end();
+    started_clusters_settle();
+}
+
+/// The premises of [`clusters_in_step_settle`] can be met together (`premises`): two members are opened at one moment,
+/// with empty stores, and are told their list. The rows are calm, do no harm, and go on for longer than the law asks;
+/// in them one member stands, wins, and leads on. So the cluster comes back in time (`back`).
+pub fn clusters_may_start()
+    ensures premises { ClusterMayStart }
+    ensures back { ComesBackBy members_only clocks restart_pace opened_at (opened_at + election_within restart_pace)
+        (opened_at + election_within restart_pace + settled_within restart_pace no_entries) opened_world restart_rows }
+{
+    calm_can_be();
+    clusters_in_step_settle();
+}
