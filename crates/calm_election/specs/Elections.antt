@@ -139,7 +139,7 @@ abbrev pub WaitIsOver : (Party → ℕ) → (m moment : ℕ) → Cluster → Typ
 WaitIsOver clocks m moment w = (server : AllocatorState) → (w.member m).status ≡ Up server →
     server.times.since + wait server.times.word ≤ moment + clocks (Member m)
 
--- it is not over
+-- the wait of member m, if it runs, goes on at this moment by its clock
 abbrev pub WaitGoesOn : (Party → ℕ) → (m moment : ℕ) → Cluster → Type 0
 WaitGoesOn clocks m moment w = (server : AllocatorState) → (w.member m).status ≡ Up server →
     moment + clocks (Member m) < server.times.since + wait server.times.word
