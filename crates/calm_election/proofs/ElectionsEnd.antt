@@ -1,5 +1,5 @@
 -- Who stands first in a calm in which all were just opened wins, where it is ahead of the others.
-use Rattle.std.proofs.Common.{◌≡◌, ◌≢◌, ℕ, ◌+◌, ◌*◌, ◌<◌, ◌≤◌, arith, Bool, true, List, [], ◌∷◌, ◌++◌, length, refl, sym, ◌∙◌, ap, subst, inl, inr}
+use Rattle.std.proofs.Common.{◌≡◌, ◌≢◌, ℕ, ◌+◌, ◌*◌, ◌<◌, ◌≤◌, arith, append_assoc, Bool, true, List, [], ◌∷◌, ◌++◌, length, refl, sym, ◌∙◌, ap, subst, inl, inr}
 use Rattle.std.specs.Prelude.{◌⊎◌, ◌%◌, ◌||◌}
 use Rattle.std.proofs.lemmas.Bool.Decides.{eqb_tells, leb_tells}
 use Rattle.can_frame.specs.Log.{last_term}
@@ -32,9 +32,11 @@ use Rattle.cluster_calm.proofs.Group.{AreWell, CalmLaws}
 use Rattle.cluster_calm.proofs.Pair.{same_server}
 use Rattle.calm_leader.proofs.Stretches.{end_both, rows_both, throughout_so, world_both}
 use Rattle.calm_election.specs.Elections.{AMemberStands, EndsBy, IsAhead, IsCalmRestart, IsFurthest, SomebodyLeads, WaitGoesOn, WaitIsOver, longest_wait, OthersFollow}
-use Rattle.calm_election.specs.Terms.{AreWithin, LogsStay, NoAppendWaits, NobodyLeads, TermsDoNotFall, TermsStay}
-use Rattle.calm_election.specs.Votes.{CanAsk, Stands}
-use Rattle.calm_election.specs.Wins.{AskedNobody, IsBehind, IsCalmStanding, StandsAlone, VoteRequestsFit, WinsBy, is_of}
+use Rattle.calm_election.specs.Terms.{AreWithin, LogsStay, NoAppendWaits, NoAppendsCome, NobodyLeads, TermsDoNotFall, TermsStay}
+use Rattle.calm_election.specs.Votes.{CanAsk, HearsAppend, Stands}
+use Rattle.calm_election.specs.Wins.{AppendsUnheard, IsBehind, IsCalmStanding, StandsAlone, VoteRequestsFit, WinsBy, is_of}
+use Rattle.calm_election.proofs.WhoAsks.{AskedNobody}
+use Rattle.calm_election.proofs.WinsFronts.{throughout_join}
 use Rattle.calm_election.proofs.FirstToStand.{AllFollow, IsFound, find, nobody_leads, nobody_stands}
 use Rattle.cluster_spec.specs.Cluster.{AreMembers, Cluster, after_row, after_rows, rules_of, world_of}
 use Rattle.cluster_spec.specs.Lawful.{DoNoHarm}
@@ -257,7 +259,7 @@ module _ (ids : List ℕ) (rows : List Row) (group : List Party) (clocks : Party
 
   -- ---- who stands above all terms, with a log that is furthest, wins
 
-  module _ (logs_stay : LogsStay ids rows) (lists : (n m : ℕ) → In (OfMember n) group → In (OfMember m) group → Lists n m (world_of ids rows)) (last before : ℕ)
+  module _ (logs_stay : LogsStay ids rows) (appends : NoAppendsCome ids rows) (lists : (n m : ℕ) → In (OfMember n) group → In (OfMember m) group → Lists n m (world_of ids rows)) (last before : ℕ)
       (found : AMemberStands group before (world_of ids rows) whole)
       (top : AreWithin group found.stands.before.raft_server.store.term (after_rows (world_of ids rows) (rows_in found.front)))
       (furthest : IsFurthest group found.c (world_of ids rows)) (silent : AskedNobody found.c (world_of ids rows) found.front)
@@ -302,6 +304,16 @@ module _ (ids : List ℕ) (rows : List Row) (group : List Party) (clocks : Party
         let f = found.soon in
         omega (arith, e, f, soon, long)
 
+    -- nobody led before, so no append request is under way
+    pub unheard : AppendsUnheard group (found.timed.at + 4 * pace.delay) (after_row there found.timed.row) found.rest
+    unheard front rest timed m split soon_enough none none_then i hears = appends group clocks pace start m (found.front ++ found.timed ∷ front) rest timed
+        r.listed all_run none_waits
+        (subst (AreCalm group clocks pace (no_traffic start) w) (ap (λ (l : List Timed). found.front ++ found.timed ∷ l) split
+        ∙ sym (append_assoc found.front (found.timed ∷ front) (timed ∷ rest))) calm_so) i
+        (throughout_join (NobodyLeads group) found.front (found.timed ∷ front) w led_before (led_here, none))
+        (subst (NobodyLeads group) (sym (world_both w found.front (found.timed ∷ front))) none_then)
+        (subst (λ (u : Cluster). HearsAppend m u timed.row) (sym (world_both w found.front (found.timed ∷ front))) hears)
+
     abbrev pub standing : IsCalmStanding ids rows group clocks pace start found.c found.term found.front found.timed found.rest
     standing = record {
       listed = r.listed;
@@ -314,11 +326,9 @@ module _ (ids : List ℕ) (rows : List Row) (group : List Party) (clocks : Party
       harmless = harmless_so;
       can = can;
       fit = subst (VoteRequestsFit found.c w) found.split (r.fit found.c found.member);
-      none_waits = none_waits;
-      led_before = led_before;
-      led_here = led_here;
       stands = found.stands;
-      silent = silent;
+      silent = λ front rest timed m split lately i asks. silent front rest timed m split asks;
+      unheard = unheard;
       alone = alone;
       long = long_enough;
     }

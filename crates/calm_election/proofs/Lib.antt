@@ -4,6 +4,7 @@ pub mod WinsScene
 pub mod WinsStays
 pub mod WinsAsked
 pub mod WinsTerms
+pub mod WinsHeard
 pub mod WinsKnows
 pub mod WinsGrounds
 pub mod WinsFollow

@@ -19,14 +19,14 @@ use Rattle.cluster_calm.proofs.Pair.{same_server}
 use Rattle.calm_leader.specs.CallsComeBack.{LeadsNotIfUp}
 use Rattle.calm_leader.proofs.Stretches.{end_last, rows_both, throughout_front, world_both}
 use Rattle.calm_election.specs.Elections.{AMemberStands, FurthestStands, IsCalmRestart, IsFurthest, SomebodyLeads, WinsInOneTerm}
-use Rattle.calm_election.specs.Terms.{AreWithin, LogsStay, NobodyLeads}
+use Rattle.calm_election.specs.Terms.{AreWithin, LogsStay, NoAppendsCome, NobodyLeads}
 use Rattle.calm_election.specs.Votes.{Stands}
-use Rattle.calm_election.specs.Wins.{AskedNobody, LeadsAlone, WhoStandsAloneWins}
+use Rattle.calm_election.specs.Wins.{LeadsAlone, WhoStandsAloneWins}
 use Rattle.calm_election.proofs.ElectionsEnd.{behind, opened, standing}
 use Rattle.calm_election.proofs.FirstToStand.{AllFollow}
 use Rattle.calm_election.proofs.Furthest.{holds_behind, one_more}
 use Rattle.calm_election.proofs.Unled.{Goes, Leads, ends_before, follower_or_stood, nobody_or_led, nobody_or_one, size_kept}
-use Rattle.calm_election.proofs.WhoAsks.{who_follows_asks_nobody}
+use Rattle.calm_election.proofs.WhoAsks.{AskedNobody, who_follows_asks_nobody}
 use Rattle.cluster_spec.specs.Cluster.{Cluster, after_row, after_rows, world_of}
 use Rattle.cluster_spec.specs.Lawful.{DoNoHarm}
 use Rattle.cluster_spec.specs.Members.MemberStatus.{Up}
@@ -223,7 +223,7 @@ module _ (ids : List ℕ) (rows : List Row) (group : List Party) (clocks : Party
 
   -- ---- it wins, or somebody leads
 
-  module _ (logs_stay : LogsStay ids rows) (lists : (n m : ℕ) → In (OfMember n) group → In (OfMember m) group → Lists n m (world_of ids rows)) (last before : ℕ)
+  module _ (logs_stay : LogsStay ids rows) (appends : NoAppendsCome ids rows) (lists : (n m : ℕ) → In (OfMember n) group → In (OfMember m) group → Lists n m (world_of ids rows)) (last before : ℕ)
       (found : AMemberStands group before (world_of ids rows) whole)
       (top : AreWithin group found.stands.before.raft_server.store.term (after_rows (world_of ids rows) (rows_in found.front)))
       (furthest : IsFurthest group found.c (world_of ids rows)) (silent : AskedNobody found.c (world_of ids rows) found.front)
@@ -274,7 +274,7 @@ module _ (ids : List ℕ) (rows : List Row) (group : List Party) (clocks : Party
             term = found.term;
             stands = found.stands;
             wins = alone_wins group clocks pace start found.c found.term found.front found.rest found.timed
-                (standing ids rows group clocks pace start whole r logs_stay lists last before found top furthest silent soon long)
-                (behind ids rows group clocks pace start whole r logs_stay lists last before found top furthest silent soon long) alone;
+                (standing ids rows group clocks pace start whole r logs_stay appends lists last before found top furthest silent soon long)
+                (behind ids rows group clocks pace start whole r logs_stay appends lists last before found top furthest silent soon long) alone;
           })
         ]

@@ -1,8 +1,9 @@
--- A vote request comes back, and its answer comes alone: the first vote answer that comes in the calm is the answer to
--- the first vote request of it.
+-- A vote request comes back, and its answer comes alone: what was asked more than four delays before has been answered,
+-- and its answers have come.
 use Rattle.std.proofs.Common.{◌≡◌, ℕ, ◌+◌, ◌*◌, ◌<◌, ◌≤◌, arith, List, [], ◌∷◌, ◌++◌, refl, sym, ◌∙◌, ap, subst, inl, inr, Some}
 use Rattle.std.specs.Prelude.{◌⊎◌}
-use Rattle.can_frame.specs.declared.step.What.TheVariants.{VoteQ}
+use Rattle.std.proofs.lemmas.Bool.Decides.{leb_tells}
+use Rattle.can_frame.specs.declared.step.What.TheVariants.{Vote, VoteQ}
 use Rattle.dsdl_codec.specs.declared.vote_request.VoteRequest.{VoteRequest}
 use Rattle.dsdl_codec.specs.VoteRequest.{vote_request_of}
 use Rattle.raft_model.specs.Lists.{In}
@@ -10,12 +11,13 @@ use Rattle.alloc_spec.specs.AllocatorState.{AllocatorState, members_of}
 use Rattle.alloc_spec.specs.Transfers.{Offer, SentTransfer}
 use Rattle.calm_election.specs.Votes.{AnswersVote, VoteComes, VoteComesBack, VoteReadsAsSaid}
 use Rattle.calm_election.specs.VotesAlone.{VoteComesAlone}
-use Rattle.calm_election.specs.Wins.{AskedNobody}
+use Rattle.calm_election.specs.Wins.{AsksNobodySince}
 use Rattle.calm_election.proofs.VotesAloneAnswers as answers
 use Rattle.calm_election.proofs.VotesAloneAnswers.{Answering, ComesFirst, NoVoteComes, comes_first, more_first, no_first, none_of_them, same_first}
 use Rattle.calm_election.proofs.VotesAloneRequests as requests
 use Rattle.calm_election.proofs.VotesAloneRequests.{Requesting}
 use Rattle.calm_election.proofs.VotesAsked.{AllGivenVotes, Voting, vote_sent}
+use Rattle.cluster_agreement.proofs.Lists.{in_append}
 use Rattle.cluster_calm.specs.Calm.{AreCalm, Party, Traffic, traffic_after}
 use Rattle.cluster_calm.specs.Comes.{Delivers, HasMemory, Sends, Throughout, sent_by}
 use Rattle.cluster_calm.proofs.Group.{AreWell, CalmLaws, well_after}
@@ -99,28 +101,165 @@ module _ (voting : Voting) (base : ℕ) (Begins : ℕ → Type 0) where
       silent : (id : ℕ) → VoteComes n m id w timed.row → ⊥
       silent = quiet.2
 
-    -- where nobody is asked, nothing is under way behind it
-    idle_row : g.q.xs ≡ [] → ((offer : Offer) → Sends n w timed.row offer → offer.what ≡ VoteQ → offer.to ≡ m → ⊥) → Idle (after_row w timed.row) rest
-    unfolding going_on
-    idle_row empty nobody = elim in_row [
-      | inl p ↦ record {
-        going = going_on p;
-        no_requests = elim p.few_more [
-          | inl none ↦ p.xs_are ∙ (λ i. empty i ++ none i)
-          | inr one ↦ absurd (nobody one.0 one.2 one.3 one.4)
-        ];
-      }
-      | inr d ↦ absurd (no_first d.x d.others g.q.xs empty d.first)
+  -- ---- until the vote request
+
+  -- The rows go on calmly. Each vote request that is under way was made more than four delays before this moment, and each
+  -- answer more than two.
+  pub record Fading (due : ℕ) (w : Cluster) (rows : List Timed) : Type 0 where
+    pub traffic : Traffic
+    pub q : Requesting voting traffic w
+    pub a : Answering voting base Begins traffic w rows
+    pub calm : AreCalm group clocks pace traffic w rows
+    pub are : AreWell group w
+    pub given : AllGivenVotes n m w rows
+    pub memory : Throughout (HasMemory n) w rows
+    pub asked_early : (x : Made) → In x q.xs → x.at + 4 * pace.delay < due
+    pub answered_early : (y : Made) → In y a.xs → y.at + 2 * pace.delay < due
+
+  nothing : (xs : List Made) → ((x : Made) → In x xs → ⊥) → xs ≡ []
+  nothing [] none = refl
+  nothing (x ∷ xs) none = absurd (none x (inl refl))
+
+  none_in : (xs : List Made) → xs ≡ [] → (x : Made) → In x xs → ⊥
+  none_in xs empty x i = subst (λ (l : List Made). In x l) empty i
+
+  -- where nothing is under way, it is so
+  pub fading : (due : ℕ) (w : Cluster) (rows : List Timed) → Idle w rows → Fading due w rows
+  fading due w rows idle = record {
+    traffic = idle.going.traffic;
+    q = idle.going.q;
+    a = idle.going.a;
+    calm = idle.going.calm;
+    are = idle.going.are;
+    given = idle.going.given;
+    memory = idle.going.memory;
+    asked_early = λ x i. absurd (none_in idle.going.q.xs idle.no_requests x i);
+    answered_early = λ y i. absurd (none_in idle.going.a.xs idle.going.no_answers y i);
+  }
+
+  module _ (due : ℕ) (w : Cluster) (timed : Timed) (rest : List Timed) (f : Fading due w (timed ∷ rest)) where
+    abbrev then_traffic : Traffic
+    then_traffic = traffic_after f.traffic w timed
+
+    abbrev PassesBy : Type 0
+    PassesBy = requests.Passes voting f.traffic w timed rest f.q f.calm f.are f.given.0.memory
+
+    abbrev BringsOne : Type 0
+    BringsOne = requests.Brings voting f.traffic w timed rest f.q f.calm f.are f.given.0.memory
+
+    fading_row : PassesBy ⊎ BringsOne
+    fading_row = requests.in_row voting f.traffic w timed rest f.q f.calm f.are f.given.0.memory
+
+    well_then : AreWell group (after_row w timed.row)
+    well_then = well_after laws group voting.nodes w f.are clocks pace f.traffic timed.at timed.row f.calm.1
+
+    asked_in_time : (x : Made) → In x f.q.xs → timed.at ≤ x.at + 2 * pace.delay
+    asked_in_time = requests.in_time voting f.traffic w timed rest f.q f.calm f.are f.given.0.memory
+
+    answered_in_time : (y : Made) → In y f.a.xs → timed.at ≤ y.at + 2 * pace.delay
+    answered_in_time = answers.in_time voting base Begins f.traffic w timed rest f.a f.calm f.are f.memory.0
+
+    -- by the moment all of it has come
+    pub idle_by : due ≤ timed.at → Idle w (timed ∷ rest)
+    idle_by late = record {
+      going = record {
+        traffic = f.traffic;
+        q = f.q;
+        a = f.a;
+        no_answers = nothing f.a.xs (λ y i. let k = answered_in_time y i in let l = f.answered_early y i in absurd (omega (arith, k, l, late)));
+        calm = f.calm;
+        are = f.are;
+        given = f.given;
+        memory = f.memory;
+      };
+      no_requests = nothing f.q.xs (λ x i. let k = asked_in_time x i in let l = f.asked_early x i in absurd (omega (arith, k, l, late)));
+    }
+
+    abbrev AnswersEarly : Type 0
+    AnswersEarly = (then_a : Answering voting base Begins then_traffic (after_row w timed.row) rest) × ((y : Made) → In y then_a.xs → y.at + 2 * pace.delay < due)
+
+    -- answers are made in the row early enough, or none is
+    answers_early : (timed.at + 2 * pace.delay < due) ⊎ ((offer : Offer) → Sends m w timed.row offer → offer.what ≡ Vote → offer.to ≡ n → ⊥) → AnswersEarly
+    answers_early may = elim (answers.in_row voting base Begins f.traffic w timed rest f.a f.calm f.are f.memory.0) [
+      | inl p ↦ (
+        p.then_a,
+        λ y i. elim (in_append y f.a.xs p.more (subst (λ (l : List Made). In y l) p.xs_are i)) [
+          | inl before ↦ f.answered_early y before
+          | inr new ↦ elim p.few_more [
+            | inl none ↦ absurd (none_in p.more none y new)
+            | inr one ↦ elim may [
+              | inr nobody ↦ absurd (nobody one.0 one.2 one.3 one.4)
+              | inl soon ↦ elim (subst (λ (l : List Made). In y l) one.1 new) [
+                | inl same ↦ let at_it = ap (λ (z : Made). z.at) same in omega (arith, at_it, soon)
+                | inr none ↦ absurd none
+              ]
+            ]
+          ]
+        ],
+      )
+      | inr d ↦ (
+        d.then_a,
+        λ y i. f.answered_early y (subst (λ (l : List Made). In y l) (sym d.first) (inr (subst (λ (l : List Made). In y l) d.xs_are i))),
+      )
     ]
 
-  -- ---- until the first vote request
+    module _ (nobody : due ≤ timed.at + 4 * pace.delay → (offer : Offer) → Sends n w timed.row offer → offer.what ≡ VoteQ → offer.to ≡ m → ⊥) where
+      -- vote requests are made in the row early enough
+      asks_early : (p : PassesBy) → (x : Made) → In x (f.q.xs ++ p.more) → x.at + 4 * pace.delay < due
+      asks_early p x i = elim (in_append x f.q.xs p.more i) [
+        | inl before ↦ f.asked_early x before
+        | inr new ↦ elim p.few_more [
+          | inl none ↦ absurd (none_in p.more none x new)
+          | inr one ↦ elim (leb_tells due (timed.at + 4 * pace.delay)) [
+            | inl z ↦ absurd (nobody z.1 one.0 one.2 one.3 one.4)
+            | inr z ↦ elim (subst (λ (l : List Made). In x l) one.1 new) [
+              | inl same ↦ let at_it = ap (λ (y : Made). y.at) same in let k = z.1 in omega (arith, at_it, k)
+              | inr none ↦ absurd none
+            ]
+          ]
+        ]
+      ]
 
-  -- as long as nobody is asked, nothing is under way
-  pub idle_on : (front rows : List Timed) (w : Cluster) → Idle w (front ++ rows) → AskedNobody n w front → Idle (after_rows w (rows_in front)) rows
-  idle_on [] rows w idle silent_ = idle
-  idle_on (timed ∷ front) rows w idle asked = idle_on front rows (after_row w timed.row)
-      (idle_row w timed (front ++ rows) idle.going idle.no_requests
-      (λ offer sends what to. asked [] front timed offer.to refl (record {
+      -- so it is behind the row
+      fades : Fading due (after_row w timed.row) rest
+      fades = elim fading_row [
+        | inl p ↦
+            let made = answers_early (inr p.nobody) in
+            record {
+              traffic = then_traffic;
+              q = p.then_q;
+              a = made.0;
+              calm = f.calm.2;
+              are = well_then;
+              given = f.given.1;
+              memory = f.memory.1;
+              asked_early = λ x i. asks_early p x (subst (λ (l : List Made). In x l) p.xs_are i);
+              answered_early = made.1;
+            }
+        | inr d ↦
+            let i : In d.x f.q.xs = subst (λ (l : List Made). In d.x l) (sym d.first) (inl refl) in
+            let soon = asked_in_time d.x i in
+            let early = f.asked_early d.x i in
+            let made = answers_early (inl (omega (arith, soon, early))) in
+            record {
+              traffic = then_traffic;
+              q = d.then_q;
+              a = made.0;
+              calm = f.calm.2;
+              are = well_then;
+              given = f.given.1;
+              memory = f.memory.1;
+              asked_early = λ x j. f.asked_early x (subst (λ (l : List Made). In x l) (sym d.first) (inr (subst (λ (l : List Made). In x l) d.xs_are j)));
+              answered_early = made.1;
+            }
+      ]
+
+  -- as long as nobody is asked less than four delays before the moment
+  pub fades_on : (due : ℕ) (front rows : List Timed) (w : Cluster) → Fading due w (front ++ rows) → AsksNobodySince group n due (4 * pace.delay) w front
+      → Fading due (after_rows w (rows_in front)) rows
+  fades_on due [] rows w f asked = f
+  fades_on due (timed ∷ front) rows w f asked = fades_on due front rows (after_row w timed.row)
+      (fades due w timed (front ++ rows) f (λ since offer sends what to. asked [] front timed m refl since voting.in_m (record {
         server = sends.server;
         runs = sends.runs;
         event = sends.event;
@@ -128,9 +267,9 @@ module _ (voting : Voting) (base : ℕ) (Begins : ℕ → Type 0) where
         offer = offer;
         offered = sends.offered;
         what = what;
-        to = refl;
+        to = to;
       })))
-      (λ first more one to split. asked (timed ∷ first) more one to (ap (λ (l : List Timed). timed ∷ l) split))
+      (λ first more one p split. asked (timed ∷ first) more one p (ap (λ (l : List Timed). timed ∷ l) split))
 
   -- ---- the first vote request comes, and its answer
 

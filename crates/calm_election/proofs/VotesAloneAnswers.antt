@@ -231,12 +231,14 @@ module _ (voting : Voting) (base : ℕ) (Begins : ℕ → Type 0) where
       pub few_more : AreFew more
       pub adds : (offer : Offer) → Sends m w row offer → offer.what ≡ Vote → offer.to ≡ n → In (record { at = timed.at; transfer = sent_by m w offer }) more
 
-    -- or the first one is delivered
+    -- or the first one is delivered, and none is made
     pub record Brings : Type 0 where
       pub x : Made
       pub others : List Made
       pub first : a.xs ≡ x ∷ others
       pub delivers : Delivers n x.transfer w row
+      pub then_a : Answering then_traffic then_w rest
+      pub xs_are : then_a.xs ≡ others
 
     pub in_row : Passes ⊎ Brings
     in_row = elim next_a [
@@ -248,7 +250,14 @@ module _ (voting : Voting) (base : ℕ) (Begins : ℕ → Type 0) where
         few_more = are_few p.0 p.7;
         adds = p.4;
       })
-      | inr d ↦ inr (record { x = d.0; others = d.1; first = d.2; delivers = d.3 })
+      | inr d ↦ inr (record {
+        x = d.0;
+        others = d.1;
+        first = d.2;
+        delivers = d.3;
+        then_a = record { xs = d.1; front = []; expected = a.expected; pair = d.4; none = d.6 };
+        xs_are = refl;
+      })
     ]
 
     -- where none is under way, and none is made, none is behind the row

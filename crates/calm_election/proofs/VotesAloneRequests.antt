@@ -216,12 +216,14 @@ module _ (voting : Voting) where
       pub few_more : AreFew more
       pub adds : (offer : Offer) → Sends n w row offer → offer.what ≡ VoteQ → offer.to ≡ m → In (record { at = timed.at; transfer = sent_by n w offer }) more
 
-    -- or the first one is delivered
+    -- or the first one is delivered, and none is made
     pub record Brings : Type 0 where
       pub x : Made
       pub others : List Made
       pub first : q.xs ≡ x ∷ others
       pub delivers : Delivers m x.transfer w row
+      pub then_q : Requesting then_traffic then_w
+      pub xs_are : then_q.xs ≡ others
 
     pub in_row : Passes ⊎ Brings
     in_row = elim next_q [
@@ -233,7 +235,14 @@ module _ (voting : Voting) where
         few_more = are_few p.0 p.7;
         adds = p.4;
       })
-      | inr d ↦ inr (record { x = d.0; others = d.1; first = d.2; delivers = d.3 })
+      | inr d ↦ inr (record {
+        x = d.0;
+        others = d.1;
+        first = d.2;
+        delivers = d.3;
+        then_q = record { xs = d.1; front = []; expected = q.expected; pair = d.4; lists = then_lists };
+        xs_are = refl;
+      })
     ]
 
     -- what is under way was made two delays ago at most

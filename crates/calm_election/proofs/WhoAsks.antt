@@ -1,5 +1,5 @@
 -- Who is no candidate when a step is over asks nobody for its vote in it.
-use Rattle.std.proofs.Common.{◌≡◌, ◌≢◌, ℕ, ◌+◌, true, List, [], ◌∷◌, refl, sym, ◌∙◌, ap, subst, inl, inr, arith, drop, Option, None, Some}
+use Rattle.std.proofs.Common.{◌≡◌, ◌≢◌, ℕ, ◌+◌, true, List, [], ◌∷◌, ◌++◌, refl, sym, ◌∙◌, ap, subst, inl, inr, arith, drop, Option, None, Some}
 use Rattle.std.specs.Prelude.{◌-◌, ◌||◌, length, nat_le}
 use Rattle.can_frame.specs.declared.step.What.TheVariants.{AppQ, VoteQ}
 use Rattle.raft_core.specs.Calls.{due, due_unless}
@@ -28,7 +28,7 @@ use Rattle.raft_model.specs.Lists.{at, at_here}
 use Rattle.replay_text.specs.declared.row.Row.{Row}
 use Rattle.replay_text.specs.declared.row.Row.TheVariants.{AEnd, AOpen, ARx, ASend, ATick, Crash, Ext, Fault, Open, Rx, Send, Tick}
 use Rattle.cluster_recovery.specs.Calm.{Timed, rows_in}
-use Rattle.calm_election.specs.Wins.{AskedNobody}
+use Rattle.calm_election.specs.Wins.{OffersVoteRequest}
 use Rattle.calm_election.proofs.FirstToStand.{AllFollow}
 use Rattle.calm_election.proofs.RowsLeave.{stepped}
 use Rattle.calm_leader.proofs.Stretches.{throughout_rest, world_both}
@@ -129,6 +129,11 @@ no_candidate role e f = cc (sym e ∙ f)
 at_first : (Holds : Cluster → Type 0) (front : List Timed) (w : Cluster) → Throughout Holds w front → Holds (after_rows w (rows_in front)) → Holds w
 at_first Holds [] w all here = here
 at_first Holds (timed ∷ front) w all here = all.0
+
+-- in none of these rows member n offers a vote request
+abbrev pub AskedNobody : ℕ → Cluster → List Timed → Type 0
+AskedNobody n w whole = (front rest : List Timed) (timed : Timed) (m : ℕ) → whole ≡ front ++ timed ∷ rest
+    → OffersVoteRequest n m (after_rows w (rows_in front)) timed.row → ⊥
 
 -- where all follow before each row and behind them, nobody asks for a vote
 pub who_follows_asks_nobody : (group : List Party) (c : ℕ) → In (OfMember c) group → (whole : List Timed) (w : Cluster) → Throughout (AllFollow group) w whole

@@ -36,7 +36,7 @@ vote_fits queue a few = le-leb (length queue + 1) 32 (omega (arith, few))
 no_receipt : (n ms word m k moment : ℕ) (row : Row) → row ≡ Tick n ms word → row ≡ Rx m k moment → ⊥
 no_receipt n ms word m k moment row e f = cc (sym e ∙ f)
 
-one_request : (x : SentTransfer) (a b : Request) → x.offer.says ≡ Some (Message.Requests a) → x.offer.says ≡ Some (Message.Requests b) → a ≡ b
+pub one_request : (x : SentTransfer) (a b : Request) → x.offer.says ≡ Some (Message.Requests a) → x.offer.says ≡ Some (Message.Requests b) → a ≡ b
 one_request x a b e f = cc (sym e ∙ f)
 
 one_answer : (x : SentTransfer) (a b : Answer) → x.offer.says ≡ Some (Message.Answers a) → x.offer.says ≡ Some (Message.Answers b) → a ≡ b

@@ -235,7 +235,7 @@ module _ (s : Scene) (k : Contest s) where
     -- so it does where nobody has led
     pub grants_quietly : Throughout (NobodyLeads s.group) (v s) back.early → NobodyLeads s.group (here s back.early)
         → grants (with_term hearer.raft_server.store request.term) request ≡ true
-    grants_quietly none none_then = grants_it (logs_at s m i back.early (back.hears ∷ back.late) back.split none none_then first hearer (up_there m other first first_up) back.delivers.runs)
+    grants_quietly none none_then = grants_it (logs_at s m i first back.early (back.hears ∷ back.late) back.split end_early none none_then first_up hearer back.delivers.runs)
 
     -- ---- and follows
 

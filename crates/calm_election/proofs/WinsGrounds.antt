@@ -22,7 +22,7 @@ use Rattle.cluster_discovery.specs.Members.{IsMemberList, IsStart}
 use Rattle.cluster_progress.specs.InTime.{FramesLeaveFollowers, StaysFollower, WaitsAnew as HearsAnew}
 use Rattle.cluster_recovery.specs.Calm.{Pace, Timed}
 use Rattle.calm_election.specs.Wins.{IsCalmStanding}
-use Rattle.calm_election.specs.Terms.{LogsStay, NoAppendsCome, TermsDoNotFall, TermsStay, VotesStayFree}
+use Rattle.calm_election.specs.Terms.{TermsDoNotFall, TermsStay, VotesStayFree}
 use Rattle.calm_election.specs.Votes.{CandidatesStay, StandingAsks, VoteAnswersReadAsSaid, VotesAreTaken, WaitsOnForVotes}
 use Rattle.calm_election.specs.VotesAlone.{VotesComeAlone}
 use Rattle.calm_election.specs.Waits.{WaitsBeginThen}
@@ -73,8 +73,6 @@ pub record Below : Type 0 where
   pub terms : Always TermsStay
   pub rise : (ids : List ℕ) (rows : List Row) → TermsDoNotFall ids rows
   pub free : Always VotesStayFree
-  pub logs : Always LogsStay
-  pub appends : Always NoAppendsCome
 
 module _ (below : Below) (ids : List ℕ) (members : AreMembers ids) where
   module _ (list : List Row) (harmless : DoNoHarm (cluster ids) list) where
@@ -150,8 +148,6 @@ module _ (below : Below) (ids : List ℕ) (members : AreMembers ids) where
       terms = below.terms ids rows members harmless;
       rise = below.rise ids rows;
       free = below.free ids rows members harmless;
-      logs = below.logs ids rows members harmless;
-      appends = below.appends ids rows members harmless;
     };
     taken = below.taken;
     row_laws = λ more fine. subst (RowLaws ids) (rows_join (cluster ids) rows more) (all_row_laws (rows ++ more) (harmless_both (cluster ids) rows more harmless fine));

@@ -1,26 +1,24 @@
 -- By four delays after it stood c knows the highest term of the group, or somebody has led.
-use Rattle.std.proofs.Common.{◌≡◌, ◌≢◌, ℕ, ◌+◌, ◌≤◌, arith, List, [], ◌∷◌, ◌++◌, inl, inr, sym, ◌∙◌, ap, subst}
+use Rattle.std.proofs.Common.{◌≡◌, ◌≢◌, ℕ, ◌+◌, ◌≤◌, arith, List, [], ◌∷◌, ◌++◌, inl, inr, sym, ◌∙◌, ap}
 use Rattle.std.proofs.lemmas.Bool.Decides.{eqb_tells}
-use Rattle.std.proofs.lemmas.List.{append_assoc, append-nil}
+use Rattle.std.proofs.lemmas.List.{append_assoc}
 use Rattle.raft_model.specs.Lists.{In}
 use Rattle.replay_text.specs.declared.row.Row.{Row}
 use Rattle.alloc_spec.specs.AllocatorState.{AllocatorState}
 use Rattle.alloc_spec.specs.Step.{step}
 use Rattle.alloc_spec_laws.proofs.Choices.{lt_tells}
 use Rattle.cluster_recovery.specs.Calm.{Timed}
-use Rattle.calm_election.specs.Terms.{AreWithin, NobodyLeads}
+use Rattle.calm_election.specs.Terms.{AreWithin}
 use Rattle.calm_election.specs.Votes.{vote_asked_by}
 use Rattle.calm_election.specs.Wins.{KnowsTermsBy}
 use Rattle.calm_election.proofs.WinsAsked.{comes_back, comes_then, given, read, takes, until, until_split, x}
 use Rattle.calm_election.proofs.WinsFronts.{here_more}
 use Rattle.calm_election.proofs.WinsScene.{Anything, Scene, here, last, runs_at, v}
-use Rattle.calm_election.proofs.WinsStays.{rises_at, within_at}
+use Rattle.calm_election.proofs.WinsStays.{quiet_at, rises_at, within_at}
 use Rattle.calm_election.proofs.WinsTerms.{Top, all_rows, in_longest, led_or_not, own_term, top_of}
 use Rattle.calm_leader.specs.CallsComeBack.{LeadsNotIfUp}
 use Rattle.calm_leader.proofs.RowsOfOne.{stepped_up}
-use Rattle.calm_leader.proofs.Stretches.{throughout_at}
 use Rattle.cluster_calm.specs.Calm.{Member as OfMember}
-use Rattle.cluster_calm.specs.Comes.{Throughout}
 use Rattle.cluster_calm.proofs.CallsKept.{RunsWith}
 use Rattle.cluster_calm.proofs.Pair.{same_server}
 use Rattle.cluster_spec.specs.Cluster.{Cluster, receipt_of, step_of}
@@ -90,11 +88,6 @@ module _ (s : Scene) where
     | inr z ↦ answered highest_one.member z.1 none
   ]
 
-  -- where nobody leads throughout, nobody does behind a front
-  pub quiet_at : (a front more : List Timed) → a ≡ front ++ more → Throughout (NobodyLeads s.group) (v s) a → NobodyLeads s.group (here s a) → NobodyLeads s.group (here s front)
-  quiet_at a front [] e all then_too = subst (λ (l : List Timed). NobodyLeads s.group (here s l)) (e ∙ append-nil front) then_too
-  quiet_at a front (y ∷ more) e all then_too = throughout_at (NobodyLeads s.group) front more y (v s) (subst (Throughout (NobodyLeads s.group) (v s)) e all)
-
   pub knows_terms : KnowsTermsBy s.group s.c s.timed.at (last s) (v s) s.rest
   knows_terms = record {
     front = rows_then;
@@ -106,6 +99,6 @@ module _ (s : Scene) where
     runs = c_then.up.status;
     knows = elim (led_or_not s rows_then rows_behind split) [
       | inl none ↦ inr (λ m i t up. let k = within_then m i t up in let l = reaches none in omega (arith, k, l))
-      | inr led ↦ inl (λ quiet quiet_then. quiet_at rows_then led.0 led.1 led.2 quiet quiet_then s.c s.calm.member led.3.0 led.3.1 led.3.2)
+      | inr led ↦ inl (λ quiet quiet_then. quiet_at s rows_then led.0 led.1 led.2 quiet quiet_then s.c s.calm.member led.3.0 led.3.1 led.3.2)
     ];
   }

@@ -21,6 +21,7 @@ use Rattle.calm_election.proofs.WinsStays.{no_append, rises_at, standing, within
 use Rattle.calm_election.proofs.WinsTerms.{all_rows}
 use Rattle.calm_election.proofs.WinsVotes.{Comer, comers, length_more, rows_until}
 use Rattle.calm_leader.specs.CallsComeBack.{LeadsIfUp, LeadsNotIfUp, LeadsOn}
+use Rattle.calm_leader.proofs.NextCall.{no_leader}
 use Rattle.calm_leader.proofs.Stretches.{end_last, throughout_at, throughout_by, throughout_more}
 use Rattle.cluster_calm.specs.Calm.{Member as OfMember}
 use Rattle.cluster_calm.specs.Comes.{Throughout}
@@ -28,10 +29,7 @@ use Rattle.cluster_calm.proofs.Pair.{same_server}
 use Rattle.cluster_spec.specs.Cluster.{Cluster, after_row}
 use Rattle.cluster_spec.specs.Members.MemberStatus.{Up}
 
-no_leader : (role : Role) → role ≡ Follower → role ≢ Leader
-no_leader role e f = cc (sym e ∙ f)
-
-no_candidate : (role : Role) → role ≡ Candidate → role ≢ Leader
+pub no_candidate : (role : Role) → role ≡ Candidate → role ≢ Leader
 no_candidate role e f = cc (sym e ∙ f)
 
 pub counts_too : (role : Role) → role ≡ Candidate → role ≢ Follower
@@ -182,7 +180,7 @@ module _ (s : Scene) (k : Contest s) where
           on = not_yet s.c s.term (a ++ one ∷ []) (v s) more_none;
         })
         | inr (inr (inl higher)) ↦ let its = (is.counts t up).its_term in absurd (omega (arith, higher, its, low))
-        | inr (inr (inr hears)) ↦ absurd (no_append s s.c s.calm.member a behind one cut (quiet_all a (one ∷ d) e is.none)
+        | inr (inr (inr hears)) ↦ absurd (no_append s s.c s.calm.member a behind one cut soon (quiet_all a (one ∷ d) e is.none)
             (quiet_here a (one ∷ d) e (not_leading a (here s a) is)) hears)
       ]
     where
@@ -191,6 +189,12 @@ module _ (s : Scene) (k : Contest s) where
 
       cut : s.rest ≡ a ++ one ∷ behind
       cut = cut_in a (one ∷ d) e
+
+      ends : end_of s.timed.at (a ++ one ∷ []) ≤ last s
+      ends = ends_soon (a ++ one ∷ []) d (e ∙ sym (append_assoc a (one ∷ []) d))
+
+      soon : one.at ≤ last s
+      soon = let l = end_last s.timed.at a one in let k = ends in omega (arith, l, k)
 
       t : AllocatorState
       t = (runs_at s s.c s.calm.member a (one ∷ behind) cut).server
@@ -209,5 +213,5 @@ module _ (s : Scene) (k : Contest s) where
 
       low : u.raft_server.store.term ≤ s.term
       low = within_at s s.term (within_v s k) (a ++ one ∷ []) behind (cut ∙ sym (append_assoc a (one ∷ []) behind))
-          (ends_soon (a ++ one ∷ []) d (e ∙ sym (append_assoc a (one ∷ []) d))) s.c s.calm.member u
+          ends s.c s.calm.member u
           (ap (λ (w : Cluster). (w.member s.c).status) (here_more (v s) a one) ∙ up_then)

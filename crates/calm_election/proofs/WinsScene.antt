@@ -21,7 +21,7 @@ use Rattle.cluster_discovery.specs.Members.{Event as Discovered, IsMemberList, I
 use Rattle.cluster_progress.specs.InTime.{FramesLeaveFollowers, StaysFollower, WaitsAnew as HearsAnew}
 use Rattle.cluster_recovery.specs.Calm.{Pace, Timed, end_of, rows_in}
 use Rattle.cluster_recovery.proofs.Members.{IsUp}
-use Rattle.calm_election.specs.Terms.{LogsStay, NoAppendsCome, TermsDoNotFall, TermsStay, VotesStayFree}
+use Rattle.calm_election.specs.Terms.{TermsDoNotFall, TermsStay, VotesStayFree}
 use Rattle.calm_election.specs.Votes.{IsAsStanding, IsCandidateStill, Stands, VoteAnswersAsSaid, VoteComes, VotesAreTaken, WaitsForVote}
 use Rattle.calm_election.specs.Waits.{WaitsAnew}
 use Rattle.calm_election.specs.Wins.{IsCalmStanding}
@@ -65,8 +65,6 @@ pub record FrontLaws (ids : List ℕ) (rows : List Row) : Type 0 where
   pub terms : TermsStay ids rows
   pub rise : TermsDoNotFall ids rows
   pub free : VotesStayFree ids rows
-  pub logs : LogsStay ids rows
-  pub appends : NoAppendsCome ids rows
 
 -- member c stands for election in the row `timed` of a calm
 pub record Scene : Type 0 where

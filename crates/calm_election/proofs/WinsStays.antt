@@ -1,18 +1,24 @@
 -- For four delays behind the row in which member c stands for election nobody stands again, and so terms stay.
-use Rattle.std.proofs.Common.{◌≡◌, ◌≢◌, ℕ, ◌+◌, ◌<◌, ◌≤◌, arith, List, [], ◌∷◌, ◌++◌, inl, inr, refl, sym, ◌∙◌, ap, subst}
+use Rattle.std.proofs.Common.{◌≡◌, ◌≢◌, ℕ, ◌+◌, ◌<◌, ◌≤◌, arith, List, [], ◌∷◌, ◌++◌, inl, inr, refl, sym, ◌∙◌, ap, subst, Some}
 use Rattle.std.proofs.lemmas.Bool.Decides.{eqb_tells}
-use Rattle.std.proofs.lemmas.List.{append_assoc}
+use Rattle.std.proofs.lemmas.List.{append_assoc, append-nil}
 use Rattle.raft_model.specs.Lists.{In}
+use Rattle.raft_model.specs.Server.Role.{Leader}
 use Rattle.replay_text.specs.declared.row.Row.{Row}
 use Rattle.replay_text.specs.declared.row.Row.TheVariants.{Tick}
+use Rattle.transfer_rx.specs.Reassembly.{Arrival}
 use Rattle.alloc_spec.specs.AllocatorState.{AllocatorState}
+use Rattle.alloc_spec.specs.Step.{Event}
+use Rattle.cluster_progress.specs.InTime.{HearsLeader}
 use Rattle.cluster_recovery.specs.Calm.{Timed, end_of, rows_in}
 use Rattle.calm_election.specs.Terms.{AreWithin, IsFreeFor, NobodyElseStands, NobodyLeads, NobodyStandsAbove}
 use Rattle.calm_election.specs.Votes.{HearsAppend, IsAsStanding, Stands}
 use Rattle.calm_election.specs.Waits.{WaitsAnew}
-use Rattle.calm_election.proofs.WinsFronts.{from_row_to_row, nobody_above, nobody_else, throughout_join}
-use Rattle.calm_election.proofs.WinsScene.{Scene, by_end, c_listed, calm_upto, clock_at, clock_next, end_before, from_at, from_there, harm_row, harm_there, harm_upto, here, highest, last, laws_at, laws_there, row_calm, runs_at, there, upto, v, w0, world_upto}
-use Rattle.calm_leader.proofs.Stretches.{world_both}
+use Rattle.calm_election.proofs.WinsFronts.{from_row_to_row, here_more, nobody_above, nobody_else}
+use Rattle.calm_election.proofs.LogsChange.{HearsAtFrame, log_or_hears}
+use Rattle.calm_election.proofs.WinsScene.{IsStepped, Scene, by_end, c_listed, calm_upto, clock_at, clock_next, end_before, from_at, from_there, harm_row, harm_there, harm_upto, here, highest, last, laws_at, laws_there, row_calm, runs_at, stepped_or_not, there, upto, v, w0, world_upto}
+use Rattle.calm_leader.proofs.RowsOfOne.{receipt_is}
+use Rattle.calm_leader.proofs.Stretches.{throughout_at, throughout_front, world_both}
 use Rattle.cluster_calm.specs.Calm.{AreCalm, IsCalmRow, Member as OfMember, no_traffic}
 use Rattle.cluster_calm.specs.Comes.{Throughout}
 use Rattle.cluster_calm.proofs.Pair.{same_server}
@@ -180,24 +186,65 @@ module _ (s : Scene) where
 
   -- ---- as long as nobody leads
 
-  -- nobody leads before these rows, from the beginning of the calm on
-  pub quiet_upto : (a : List Timed) → Throughout (NobodyLeads s.group) (v s) a → Throughout (NobodyLeads s.group) (w0 s) (upto s a)
-  quiet_upto a none = throughout_join (NobodyLeads s.group) s.front (s.timed ∷ a) (w0 s) s.calm.led_before (s.calm.led_here, none)
-
-  -- logs stay as they were when c stood
-  pub logs_at : (m : ℕ) → In (OfMember m) s.group → (a b : List Timed) → s.rest ≡ a ++ b → Throughout (NobodyLeads s.group) (v s) a → NobodyLeads s.group (here s a)
-      → (t u : AllocatorState) → ((there s).member m).status ≡ Up t → ((here s a).member m).status ≡ Up u → u.raft_server.store.log ≡ t.raft_server.store.log
-  logs_at m i a b e none none_then t u up up_then =
-      let q = s.calm.running m i in
-      (s.laws.logs s.group s.clocks s.pace s.start m (upto s a) b q.server u s.calm.listed s.calm.running s.calm.none_waits (calm_upto s a b e) i
-      (quiet_upto a none) (subst (NobodyLeads s.group) (sym (world_upto s a)) none_then) q.runs
-      (ap (λ (w : Cluster). (w.member m).status) (world_upto s a) ∙ up_then)).0
-      ∙ sym (s.laws.logs s.group s.clocks s.pace s.start m s.front (s.timed ∷ s.rest) q.server t s.calm.listed s.calm.running s.calm.none_waits s.calm.calm i
-      s.calm.led_before s.calm.led_here q.runs up).0
+  -- where nobody leads throughout, nobody does behind a front
+  pub quiet_at : (a front more : List Timed) → a ≡ front ++ more → Throughout (NobodyLeads s.group) (v s) a → NobodyLeads s.group (here s a) → NobodyLeads s.group (here s front)
+  quiet_at a front [] e all then_too = subst (λ (l : List Timed). NobodyLeads s.group (here s l)) (e ∙ append-nil front) then_too
+  quiet_at a front (y ∷ more) e all then_too = throughout_at (NobodyLeads s.group) front more y (v s) (subst (Throughout (NobodyLeads s.group) (v s)) e all)
 
   -- no append request comes to a member
-  pub no_append : (m : ℕ) → In (OfMember m) s.group → (a b : List Timed) (x : Timed) → s.rest ≡ a ++ x ∷ b → Throughout (NobodyLeads s.group) (v s) a
+  pub no_append : (m : ℕ) → In (OfMember m) s.group → (a b : List Timed) (x : Timed) → s.rest ≡ a ++ x ∷ b → x.at ≤ last s → Throughout (NobodyLeads s.group) (v s) a
       → NobodyLeads s.group (here s a) → HearsAppend m (here s a) x.row → ⊥
-  no_append m i a b x e none none_then hears = s.laws.appends s.group s.clocks s.pace s.start m (upto s a) b x s.calm.listed s.calm.running s.calm.none_waits
-      (calm_upto s a (x ∷ b) e) i (quiet_upto a none) (subst (NobodyLeads s.group) (sym (world_upto s a)) none_then)
-      (subst (λ (w : Cluster). HearsAppend m w x.row) (sym (world_upto s a)) hears)
+  no_append m i a b x e soon none none_then hears = s.calm.unheard a b x m e soon none none_then i hears
+
+  -- a server that hears an append request in a step hears it in the row
+  append_heard : (m : ℕ) (a : List Timed) (x : Timed) (t u : AllocatorState) → ((here s a).member m).status ≡ Up t → (stepped : IsStepped s m a x t u)
+      → HearsAtFrame t stepped.event → HearsAppend m (here s a) x.row
+  append_heard m a x t u up stepped hears =
+      let receipt = receipt_is (here s a) m x.row hears.arrival (stepped.in_step ∙ ap (λ (event : Event). Some (m, event)) hears.comes) in
+      record {
+        k = receipt.k;
+        ms = receipt.ms;
+        comes = receipt.row_is;
+        server = t;
+        runs = up;
+        delivery = hears.one.delivery;
+        request = hears.one.request;
+        hears = subst (λ (arrival : Arrival). HearsLeader t arrival hears.one.delivery hears.one.request) receipt.arrival_is hears.one.hears;
+      }
+
+  module _ (m : ℕ) (i : In (OfMember m) s.group) (first : AllocatorState) (a b : List Timed) (e : s.rest ≡ a ++ b) (soon : end_of s.timed.at a ≤ last s)
+      (none : Throughout (NobodyLeads s.group) (v s) a) (none_then : NobodyLeads s.group (here s a)) where
+    log_more : (front more : List Timed) (x : Timed) → a ≡ front ++ x ∷ more
+        → ((t : AllocatorState) → ((here s front).member m).status ≡ Up t → t.raft_server.store.log ≡ first.raft_server.store.log)
+        → (u : AllocatorState) → ((after_row (here s front) x.row).member m).status ≡ Up u → u.raft_server.store.log ≡ first.raft_server.store.log
+    log_more front more x same before u up_then = elim (stepped_or_not s m i front (more ++ b) x whole_cut t u up up_then) [
+      | inl stepped ↦ elim (log_or_hears t ((here s front).rows + 1) stepped.event (subst (λ (q : AllocatorState). q.raft_server.memory.role ≢ Leader) stepped.is leads_not)) [
+        | inl still ↦ ap (λ (q : AllocatorState). q.raft_server.store.log) stepped.is ∙ (still ∙ before t up)
+        | inr hears ↦ absurd (no_append m i front (more ++ b) x whole_cut x_soon (throughout_front (NobodyLeads s.group) front (x ∷ more) (v s)
+            (subst (Throughout (NobodyLeads s.group) (v s)) same none)) (quiet_at a front (x ∷ more) same none none_then) (append_heard m front x t u up stepped hears))
+      ]
+      | inr left ↦ ap (λ (q : _). q.store.log) left.raft_server ∙ before t up
+    ]
+      where
+        whole_cut : s.rest ≡ front ++ x ∷ (more ++ b)
+        whole_cut = e ∙ ap (λ (l : List Timed). l ++ b) same ∙ append_assoc front (x ∷ more) b
+
+        x_soon : x.at ≤ last s
+        x_soon = let k = (by_end s a b e x (subst (In x) (sym same) (in_middle front more x))).1 in omega (arith, k, soon)
+
+        t : AllocatorState
+        t = (runs_at s m i front (x ∷ more ++ b) whole_cut).server
+
+        up : ((here s front).member m).status ≡ Up t
+        up = (runs_at s m i front (x ∷ more ++ b) whole_cut).up.status
+
+        leads_not : u.raft_server.memory.role ≢ Leader
+        leads_not = quiet_at a (front ++ x ∷ []) more (same ∙ sym (append_assoc front (x ∷ []) more)) none none_then m i u
+            (ap (λ (w : Cluster). (w.member m).status) (here_more (v s) front x) ∙ up_then)
+
+    -- logs stay as they were when c had stood
+    pub logs_at : ((v s).member m).status ≡ Up first → (u : AllocatorState) → ((here s a).member m).status ≡ Up u → u.raft_server.store.log ≡ first.raft_server.store.log
+    logs_at first_up = from_row_to_row (v s)
+        (λ (done : List Timed) (w : Cluster). (t : AllocatorState) → (w.member m).status ≡ Up t → t.raft_server.store.log ≡ first.raft_server.store.log) a
+        (λ front more x same before. log_more front more x same before)
+        (λ t up. ap (λ (q : AllocatorState). q.raft_server.store.log) (same_server t first (sym up ∙ first_up)))

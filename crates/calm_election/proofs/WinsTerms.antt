@@ -1,7 +1,7 @@
--- Who stands is heard; and by four delays later it knows the highest term of the group, or somebody has led.
-use Rattle.std.proofs.Common.{◌≡◌, ◌≢◌, ℕ, ◌+◌, ◌*◌, ◌<◌, ◌≤◌, arith, List, [], ◌∷◌, ◌++◌, inl, inr, refl, sym, ◌∙◌, ap, subst}
+-- Who is in the highest term of the group when a member has stood, and whether that one leads by four delays later.
+use Rattle.std.proofs.Common.{◌≡◌, ◌≢◌, ℕ, ◌≤◌, arith, List, [], ◌∷◌, ◌++◌, inl, inr, refl, sym, ◌∙◌, ap, subst}
 use Rattle.std.specs.Prelude.{◌⊎◌}
-use Rattle.std.proofs.lemmas.Bool.Decides.{eqb_tells, leb_tells}
+use Rattle.std.proofs.lemmas.Bool.Decides.{leb_tells}
 use Rattle.std.proofs.lemmas.List.{append_assoc}
 use Rattle.raft_model.specs.Lists.{In}
 use Rattle.raft_model.specs.Moves.Elections.{with_term}
@@ -9,65 +9,15 @@ use Rattle.raft_model.specs.Server.{Role, Store}
 use Rattle.raft_model.specs.Server.Role.{Candidate, Follower, Leader}
 use Rattle.alloc_spec.specs.AllocatorState.{AllocatorState}
 use Rattle.alloc_spec_laws.proofs.Choices.{lt_tells}
-use Rattle.cluster_recovery.specs.Calm.{Timed, end_of}
-use Rattle.calm_election.proofs.WinsAsked.{asked_is, comes_back}
-use Rattle.calm_election.proofs.WinsFronts.{Longest, from_row_to_row, here_more, longest, part_of}
-use Rattle.calm_election.proofs.WinsScene.{Scene, by_end, end_before, ends_rise, here, last, runs_at, runs_v, v}
-use Rattle.calm_election.proofs.WinsStays.{in_middle, rises_at}
+use Rattle.cluster_recovery.specs.Calm.{Timed}
+use Rattle.calm_election.proofs.WinsFronts.{Longest, from_row_to_row, longest, part_of}
+use Rattle.calm_election.proofs.WinsScene.{Scene, by_end, end_before, here, last, runs_at, runs_v, v}
+use Rattle.calm_election.proofs.WinsStays.{in_middle}
 use Rattle.calm_leader.specs.CallsComeBack.{LeadsNotIfUp}
-use Rattle.calm_leader.proofs.RowsOfOne.{stepped_up}
 use Rattle.cluster_calm.specs.Calm.{Device as OfDevice, Member as OfMember, Party}
 use Rattle.cluster_calm.proofs.Pair.{same_server}
-use Rattle.cluster_spec.specs.Cluster.{Cluster, receipt_of, step_of}
+use Rattle.cluster_spec.specs.Cluster.{Cluster}
 use Rattle.cluster_spec.specs.Members.MemberStatus.{Up}
-
--- ---- who stands is heard
-
-module _ (s : Scene) (m : ℕ) (i : In (OfMember m) s.group) (other : m ≢ s.c) where
-  abbrev heard_front : List Timed
-  heard_front = (comes_back s m i other).early ++ (comes_back s m i other).hears ∷ []
-
-  heard_split : s.rest ≡ heard_front ++ (comes_back s m i other).late
-  heard_split = (comes_back s m i other).split ∙ sym (append_assoc (comes_back s m i other).early ((comes_back s m i other).hears ∷ []) (comes_back s m i other).late)
-
-  -- behind the row in which it hears the request its term is no lower
-  pub term_then : (t : AllocatorState) → ((here s heard_front).member m).status ≡ Up t → s.term ≤ t.raft_server.store.term
-  term_then t up =
-      let b = comes_back s m i other in
-      let after = stepped_up (here s b.early) m b.delivers.server (record { status = b.delivers.runs; quiet = (runs_at s m i b.early (b.hears ∷ b.late) b.split).up.quiet })
-      b.hears.row (receipt_of (here s b.early) b.delivers.k b.delivers.ms) (ap (λ (r : _). step_of (here s b.early) r) b.delivers.comes) in
-      let same = same_server t _ (sym up ∙ (ap (λ (w : Cluster). (w.member m).status) (here_more (v s) b.early b.hears) ∙ after.status)) in
-      let term = ap (λ (q : AllocatorState). q.raft_server.store.term) same in
-      let leaves = b.answers.leaves.term in
-      let says = ap (λ (r : _). r.term) (asked_is s m i other) in
-      let its = s.calm.stands.its_term in
-      omega (arith, term, leaves, says, its)
-
--- each other member is in the term of c, or a higher one, two delays later
-pub is_heard : (s : Scene) (m : ℕ) → In (OfMember m) s.group → (early late : List Timed) → s.rest ≡ early ++ late
-    → s.timed.at + 2 * s.pace.delay < end_of s.timed.at early → (t : AllocatorState) → ((here s early).member m).status ≡ Up t → s.term ≤ t.raft_server.store.term
-is_heard s m i early late e long t up = elim (eqb_tells m s.c) [
-  | inl z ↦
-      let its = rises_at s s.c s.calm.member [] early late e s.calm.stands.after t s.calm.stands.runs_then
-      (ap (λ (k : ℕ). ((here s early).member k).status) (sym z.1) ∙ up) in
-      let k = s.calm.stands.its_term in omega (arith, its, k)
-  | inr z ↦
-      let b = comes_back s m i z.1 in
-      elim (part_of early late b.early b.late b.hears (sym e ∙ b.split)) [
-        | inl p ↦
-            let q = runs_at s m i (heard_front s m i z.1) b.late (heard_split s m i z.1) in
-            let low = term_then s m i z.1 q.server q.up.status in
-            let same : early ≡ heard_front s m i z.1 ++ p.0 = p.1 ∙ sym (append_assoc b.early (b.hears ∷ []) p.0) in
-            let more = rises_at s m i (heard_front s m i z.1) p.0 late (heard_split s m i z.1 ∙ ap (λ (l : List Timed). heard_front s m i z.1 ++ l) p.2) q.server t
-            q.up.status (ap (λ (l : List Timed). ((here s l).member m).status) (sym same) ∙ up) in
-            omega (arith, low, more)
-        | inr p ↦
-            let k = ends_rise s early p.0 (b.hears ∷ b.late) (e ∙ ap (λ (l : List Timed). early ++ l) p.1) in
-            let same = ap (end_of s.timed.at) p.2 in
-            let l = end_before s b.early b.late b.hears b.split in
-            let soon = b.soon in absurd (omega (arith, k, same, l, soon, long))
-      ]
-]
 
 -- ---- small facts
 

@@ -3,7 +3,7 @@
 use Rattle.std.specs.Prelude.{⊤, ◌≡◌, ◌≢◌, ◌⊎◌, ℕ, ◌+◌, ◌*◌, ◌<◌, ◌≤◌, ◌==◌, ◌||◌, Bool, false, true, List, []}
 use Rattle.std.specs.Prelude.{◌∷◌, ◌++◌, length, Some}
 use Rattle.can_frame.specs.declared.step.What.TheVariants.{VoteQ}
-use Rattle.can_frame.specs.Timing.{call_timeout}
+use Rattle.can_frame.specs.Timing.{call_timeout, transfer_timeout}
 use Rattle.raft_model.specs.Lists.{In, how_many}
 use Rattle.can_frame.specs.Log.{last_term}
 use Rattle.raft_model.specs.Log.{NotAbove}
@@ -14,8 +14,8 @@ use Rattle.alloc_spec.specs.AllocatorState.{AllocatorState}
 use Rattle.alloc_spec.specs.Step.{Event, step}
 use Rattle.alloc_spec.specs.Transfers.{Offer}
 use Rattle.cluster_recovery.specs.Calm.{Pace, Timed, end_of, rows_in}
-use Rattle.calm_election.specs.Terms.{AreWithin, NoAppendWaits, NobodyLeads}
-use Rattle.calm_election.specs.Votes.{CanAsk, Stands}
+use Rattle.calm_election.specs.Terms.{AreWithin, NobodyLeads}
+use Rattle.calm_election.specs.Votes.{CanAsk, HearsAppend, Stands}
 use Rattle.calm_leader.specs.CallsComeBack.{LeadsNotIfUp, LeadsOn}
 use Rattle.calm_leader.specs.LeadsOn.{IsLed}
 use Rattle.cluster_calm.specs.Calm.{AreCalm, AreRunning, Device, Member, Party, no_traffic}
@@ -43,9 +43,11 @@ VoteRequestsFit n w [] = ⊤
 VoteRequestsFit n w (timed ∷ rest) = ((m : ℕ) (asks : OffersVoteRequest n m w timed.row) → asks.offer.fitted ≡ true)
     × VoteRequestsFit n (after_row w timed.row) rest
 
--- in none of these rows member n offers a vote request
-abbrev pub AskedNobody : ℕ → Cluster → List Timed → Type 0
-AskedNobody n w whole = (front rest : List Timed) (timed : Timed) (m : ℕ) → whole ≡ front ++ timed ∷ rest →
+-- In those of these rows that come so long before this moment at most, member n asks no member of the group for its
+-- vote.
+abbrev pub AsksNobodySince : List Party → (n moment within : ℕ) → Cluster → List Timed → Type 0
+AsksNobodySince group n moment within w whole = (front rest : List Timed) (timed : Timed) (m : ℕ) →
+    whole ≡ front ++ timed ∷ rest → moment ≤ timed.at + within → In (Member m) group →
     OffersVoteRequest n m (after_rows w (rows_in front)) timed.row → ⊥
 
 -- whether the member is of the group
@@ -60,10 +62,19 @@ StandsAlone group c last w whole = (front rest : List Timed) (timed : Timed) (n 
     whole ≡ front ++ timed ∷ rest → timed.at ≤ last → In (Member n) group →
     Stands n term (after_rows w (rows_in front)) timed.row → n ≡ c
 
--- What is asked of a calm, in which member c of the group stands for election in this row: the rows do no harm, c can
--- ask each other member of the group for its vote and has room to ask, no append request waits when the calm begins,
--- and nobody leads up to this row. The group has a quorum of the cluster's members. In this calm c has
--- asked nobody for its vote before, and for four delays no other member of the group stands for election.
+-- In these rows, up to this moment and as long as nobody leads, no append request comes that makes a member of the
+-- group follow.
+abbrev pub AppendsUnheard : List Party → (last : ℕ) → Cluster → List Timed → Type 0
+AppendsUnheard group last w whole = (front rest : List Timed) (timed : Timed) (m : ℕ) →
+    whole ≡ front ++ timed ∷ rest → timed.at ≤ last → Throughout (NobodyLeads group) w front →
+    NobodyLeads group (after_rows w (rows_in front)) → In (Member m) group →
+    HearsAppend m (after_rows w (rows_in front)) timed.row → ⊥
+
+-- What is asked of a calm, in which member c of the group stands for election in this row: the rows do no harm, and c
+-- can ask each other member of the group for its vote and has room to ask. The group has a quorum of the cluster's
+-- members. For four delays before the row c has asked nobody of the group for its vote. For four delays behind it no
+-- other member of the group stands for election, and as long as nobody leads no call of a former leader is heard. What
+-- happened earlier in the calm is not asked, nor anything of members that are not of the group.
 pub record IsCalmStanding (ids : List ℕ) (rows : List Row) (group : List Party) (clocks : Party → ℕ) (pace : Pace)
     (start c term : ℕ) (front : List Timed) (timed : Timed) (rest : List Timed) : Type 0 where
   pub listed : (p : ℕ) → In (Member p) group → In p ids
@@ -76,11 +87,10 @@ pub record IsCalmStanding (ids : List ℕ) (rows : List Row) (group : List Party
   pub harmless : DoNoHarm (world_of ids rows) (rows_in (front ++ timed ∷ rest))
   pub can : (m : ℕ) → In (Member m) group → m ≢ c → CanAsk c m (world_of ids rows) (front ++ timed ∷ rest)
   pub fit : VoteRequestsFit c (world_of ids rows) (front ++ timed ∷ rest)
-  pub none_waits : NoAppendWaits group (world_of ids rows)
-  pub led_before : Throughout (NobodyLeads group) (world_of ids rows) front
-  pub led_here : NobodyLeads group (after_rows (world_of ids rows) (rows_in front))
   pub stands : Stands c term (after_rows (world_of ids rows) (rows_in front)) timed.row
-  pub silent : AskedNobody c (world_of ids rows) front
+  pub silent : AsksNobodySince group c timed.at (4 * pace.delay) (world_of ids rows) front
+  pub unheard : AppendsUnheard group (timed.at + 4 * pace.delay)
+      (after_row (after_rows (world_of ids rows) (rows_in front)) timed.row) rest
   pub alone : StandsAlone group c (timed.at + 4 * pace.delay)
       (after_row (after_rows (world_of ids rows) (rows_in front)) timed.row) rest
   pub long : timed.at + 4 * pace.delay < end_of timed.at rest
@@ -163,11 +173,21 @@ WhoStandsKnowsTerms ids rows = (group : List Party) (clocks : Party → ℕ) (pa
     let there = after_rows (world_of ids rows) (rows_in front) in
     KnowsTermsBy group c timed.at (timed.at + 4 * pace.delay) (after_row there timed.row) rest
 
--- In such a calm each other member of the group is in the term in which c stands, or a higher one, two delays later.
+-- ---- who stands is heard
+
+-- In each calm from the world of these rows on, of rows that do no harm, in which twice the delay is no longer than a
+-- transfer is remembered: where member c of the group stands for election, can ask member m for its vote, if that is
+-- another one, and has room to ask, m is in the term in which c stands, or in a higher one, two delays later: behind
+-- rows among which all rows of these two delays are, where the calm lasts longer. Who leads or stands meanwhile, and
+-- whom c asked before, is no premise.
 abbrev pub WhoStandsIsHeard : List ℕ → List Row → Type 0
 WhoStandsIsHeard ids rows = (group : List Party) (clocks : Party → ℕ) (pace : Pace) (start c m term : ℕ)
-    (front rest early late : List Timed) (timed : Timed) (server : AllocatorState) →
-    IsCalmStanding ids rows group clocks pace start c term front timed rest →
-    let then_w = after_row (after_rows (world_of ids rows) (rows_in front)) timed.row in In (Member m) group →
-    rest ≡ early ++ late → timed.at + 2 * pace.delay < end_of timed.at early →
-    ((after_rows then_w (rows_in early)).member m).status ≡ Up server → term ≤ server.raft_server.store.term
+    (front early late : List Timed) (timed : Timed) (server : AllocatorState) → let w = world_of ids rows in
+    let there = after_rows w (rows_in front) in let whole = front ++ timed ∷ (early ++ late) in
+    ((p : ℕ) → In (Member p) group → In p ids) → AreRunning group w → In (Member c) group → In (Member m) group →
+    2 * pace.delay ≤ transfer_timeout → (m ≢ c → CanAsk c m w whole) → VoteRequestsFit c w whole →
+    AreCalm group clocks pace (no_traffic start) w whole → DoNoHarm w (rows_in whole) → Stands c term there timed.row →
+    ((later : Timed) → In later late → timed.at + 2 * pace.delay < later.at) →
+    timed.at + 2 * pace.delay < end_of timed.at (early ++ late) →
+    ((after_rows (after_row there timed.row) (rows_in early)).member m).status ≡ Up server →
+    term ≤ server.raft_server.store.term

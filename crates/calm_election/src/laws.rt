@@ -86,10 +86,10 @@ pub fn vote_requests_come_back()
 }
 
 /// The answer to a vote request comes alone. In a calm in which a member of the group stands for election, and has
-/// asked nobody for its vote before in this calm: each vote request that it sends in that row comes back, as
+/// asked nobody of the group for its vote for four delays: each vote request that it sends in that row comes back, as
 /// [`vote_requests_come_back`] says, and before its answer no vote answer of the same member comes under its transfer
-/// ID. For the request is the first one of this calm to that member, which answers requests as they come; and its
-/// answers come in the order in which it sends them.
+/// ID. For what the member asked earlier in the calm has been answered by then, and the answers have come; the other
+/// one answers requests as they come, and its answers come in the order in which it sends them.
 pub fn votes_come_alone()
     ensures { (ids : List ℕ) (rows : List Row) → AreMembers ids → DoNoHarm (cluster ids) rows →
         VotesComeAlone ids rows }
@@ -357,6 +357,7 @@ pub fn who_is_ahead_wins()
     lengths_of_cuttings();
     logs_stay_in_calm();
     members_of_a_step();
+    no_appends_come();
     rows_are_shown();
     rows_grow_by_one();
     steps_stay_in_range();
@@ -391,6 +392,7 @@ pub fn elections_end_in_one_term()
     law_members();
     logs_stay_in_calm();
     members_of_a_step();
+    no_appends_come();
     steps_stay_in_range();
     terms_do_not_fall();
     terms_stay_in_calm();
@@ -401,38 +403,27 @@ pub fn elections_end_in_one_term()
     who_stands_asks();
 }
 
-/// Who stands for election is heard. In a calm of rows that do no harm, in which a member of the group can ask each
-/// other one for its vote, and has room to ask: where it stands for election, each other member of the group is in its
-/// term, or in a higher one, two delays later. It has asked nobody before in this calm.
+/// Who stands for election is heard. In a calm of rows that do no harm, in which a member of the group can ask another
+/// one for its vote, and has room to ask: where it stands for election, the other one is in its term, or in a higher
+/// one, two delays later. Who leads or stands meanwhile, and whom the member has asked before, makes no difference.
 pub fn who_stands_is_heard()
     ensures { (ids : List ℕ) (rows : List Row) → AreMembers ids → DoNoHarm (cluster ids) rows →
         WhoStandsIsHeard ids rows }
 {
     a_choice_fits();
-    candidates_stay();
-    followers_follow_on();
-    law_decisions();
-    law_members();
-    logs_stay_in_calm();
-    no_appends_come();
+    each_transfer_comes_whole();
     rows_are_shown();
     rows_grow_by_one();
-    steps_are_in_time();
     terms_do_not_fall();
-    terms_stay_in_calm();
-    vote_answers_read_as_said();
-    votes_are_taken();
-    votes_come_alone();
-    votes_stay_free();
-    waits_begin_then();
-    what_a_step_keeps();
-    who_asked_waits_on();
+    vote_requests_read_as_said();
+    votes_are_answered();
+    what_is_said_of_a_step();
     who_is_listed_stays();
     who_stands_asks();
 }
 
 /// Who stands for election knows the highest term in time, or somebody has led. In a calm as for
-/// [`who_stands_is_heard`], in which for four delays no other member of the group stands: at the end of these some
+/// [`votes_come_alone`], in which for four delays no other member of the group stands: at the end of these some
 /// member of the group leads, or has led since, or the one that stood is in a term that no other one is above.
 pub fn who_stands_knows_terms()
     ensures { (ids : List ℕ) (rows : List Row) → AreMembers ids → DoNoHarm (cluster ids) rows →
@@ -443,8 +434,6 @@ pub fn who_stands_knows_terms()
     followers_follow_on();
     law_decisions();
     law_members();
-    logs_stay_in_calm();
-    no_appends_come();
     rows_are_shown();
     rows_grow_by_one();
     steps_are_in_time();
@@ -474,8 +463,6 @@ pub fn who_stands_alone_wins()
     followers_follow_on();
     law_decisions();
     law_members();
-    logs_stay_in_calm();
-    no_appends_come();
     rows_are_shown();
     rows_grow_by_one();
     steps_are_in_time();
@@ -503,8 +490,6 @@ pub fn who_stands_first_wins()
     followers_follow_on();
     law_decisions();
     law_members();
-    logs_stay_in_calm();
-    no_appends_come();
     rows_are_shown();
     rows_grow_by_one();
     steps_are_in_time();

@@ -19,21 +19,21 @@ use Rattle.alloc_spec_laws.proofs.Choices.{lt_tells}
 use Rattle.cluster_recovery.specs.Calm.{Pace, Timed, end_of, rows_in}
 use Rattle.cluster_recovery.proofs.Members.{IsUp}
 use Rattle.calm_leader.specs.Answers.{TakesAnswer, answer_by, asked_by}
-use Rattle.calm_leader.specs.CallsComeBack.{ComesBack, IsTakenBy, LeadsOn}
-use Rattle.cluster_calm.specs.Calm.{AreCalm, Member as OfMember, Party, no_traffic}
-use Rattle.cluster_calm.specs.Comes.{Delivers, HasMemory, Throughout, sent_by}
-use Rattle.calm_leader.specs.CallsComeBack.{HasPlace}
-use Rattle.calm_leader.specs.Entries.{CanExchange, IsCalledInStep}
+use Rattle.calm_leader.specs.CallsComeBack.{ComesBack, IsTakenBy}
+use Rattle.cluster_calm.specs.Calm.{Member as OfMember, Party}
+use Rattle.cluster_calm.specs.Comes.{Delivers, sent_by}
+use Rattle.calm_leader.specs.Entries.{IsCalledInStep}
 use Rattle.cluster_calm.proofs.Calls.{Goes}
 use Rattle.calm_leader.proofs.EntriesParts.{rows_counted, same_front}
 use Rattle.calm_leader.proofs.EntriesPending.{AtN, HoldsAs, MakesCall, WasCalled, at, harmless_at, was_called, world_at}
 use Rattle.calm_leader.specs.EntriesBelow.{EntryLaws}
+use Rattle.calm_leader.proofs.EntriesReturn.{GetsAnswers}
 use Rattle.calm_leader.proofs.EntriesRows.{IsLedCalm, Leading, goes_at, here_then, lead_on}
 use Rattle.cluster_calm.proofs.Pair.{same_server, same_stepper}
 use Rattle.calm_leader.proofs.RowsOfOne.{stepped_up}
 use Rattle.calm_leader.proofs.Stretches.{world_both}
 use Rattle.cluster_spec.specs.Cluster.{Cluster, after_row, after_rows, receipt_of, step_of, world_of}
-use Rattle.cluster_spec.specs.Lawful.{DoNoHarm, DoesNoHarm}
+use Rattle.cluster_spec.specs.Lawful.{DoesNoHarm}
 use Rattle.cluster_spec.specs.Members.MemberStatus.{Up}
 
 -- calls in step are accepted in this world
@@ -56,7 +56,7 @@ module _ (ids : List ℕ) (rows : List Row) (laws : EntryLaws ids rows) (group :
     (whole : List Timed)
     (calm : IsLedCalm ids rows group clocks pace start n term whole) (m : ℕ) (in_m : In (OfMember m) group) (other : m ≢ n)
     (short : 4 * pace.delay < call_timeout)
-    (can : CanExchange n m (world_of ids rows) whole) where
+    (can : GetsAnswers n m pace.delay (world_of ids rows) whole) where
   abbrev w : Cluster
   w = world_of ids rows
 
@@ -108,7 +108,7 @@ module _ (ids : List ℕ) (rows : List Row) (laws : EntryLaws ids rows) (group :
     pub taken : AtLeader (TakenThen before asked next matched) (before ++ row ∷ [])
 
   module _ (a b : List Timed) (x : Timed) (cut : whole ≡ a ++ x ∷ b) (asked : Request) (made : Made a x asked)
-      (long : x.at + 4 * pace.delay < end_of x.at b) where
+      (late : can.number ≤ (now a).rows) (long : x.at + 4 * pace.delay < end_of x.at b) where
     abbrev call : SentTransfer
     call = sent_by n (now a) made.offer
 
@@ -116,12 +116,7 @@ module _ (ids : List ℕ) (rows : List Row) (laws : EntryLaws ids rows) (group :
     asks = asked_by call made.request m
 
     comes : ComesBack n m call made.request x.at pace.delay (now a) (x ∷ b)
-    comes = laws.back group clocks pace start n m term a b x made.offer made.request calm.listed calm.running calm.member in_m (λ e. other (sym e)) short
-        can.calls_it can.hears_it can.calls can.first_call can.answers can.first_answer
-        (subst (AreCalm group clocks pace (no_traffic start) w) cut calm.calm) (subst (λ (l : List Timed). DoNoHarm w (rows_in l)) cut calm.harmless)
-        (subst (Throughout (HasMemory n) w) cut can.memory) (subst (Throughout (HasMemory m) w) cut can.its_memory)
-        (subst (Throughout (HasPlace m) w) cut can.place)
-        (subst (LeadsOn n term w) cut calm.leads_on) made.calls long
+    comes = can.back a b x made.offer made.request cut late made.calls long
 
     -- the server of the leader when the row of the call is over
     then_ : (t : AllocatorState) × (((now (a ++ x ∷ [])).member n).status ≡ Up t)
@@ -136,7 +131,7 @@ module _ (ids : List ℕ) (rows : List Row) (laws : EntryLaws ids rows) (group :
 
     -- the leader leads on behind it
     on : (c d : List Timed) → whole ≡ ((a ++ x ∷ []) ++ c) ++ d → Leads ((a ++ x ∷ []) ++ c)
-    on c d split = lead_on ids rows laws group clocks pace start n term whole calm (a ++ x ∷ []) c d split then_.0 then_.1 (made.leading then_.0 then_.1).0
+    on c d split = lead_on ids rows laws group clocks pace start n term whole calm (a ++ x ∷ []) c d split made.leading
 
     -- ---- the member answers
 
@@ -215,7 +210,8 @@ module _ (ids : List ℕ) (rows : List Row) (laws : EntryLaws ids rows) (group :
 
           was : WasCalled ids rows laws group clocks pace start n term whole calm m asked before
           was = was_called ids rows laws group clocks pace start n term whole calm m before (z ∷ last) cut_before e.server e.runs asked
-              (let its = its_step in let count = rows_counted w a in omega (arith, its, count)) (ap (λ (r : Request). r.append) made.said) pends
+              (let its = its_step in let count = rows_counted w a in omega (arith, its, count)) (ap (λ (r : Request). r.append) made.said)
+              (ap (λ (r : Request). r.term) made.said ∙ called_term) pends
 
           -- since it was made
           same_place : (a ≡ was.earlier) × (x ∷ (front ++ y ∷ between) ≡ was.row ∷ was.later)

@@ -10,11 +10,12 @@ use Rattle.cluster_agreement.proofs.Concatenations.{first_harmless}
 use Rattle.cluster_recovery.specs.Calm.{Pace, Timed, end_of, rows_in}
 use Rattle.cluster_recovery.proofs.Goes.{after_both}
 use Rattle.cluster_calm.specs.Calm.{AreCalm, AreRunning, Member as OfMember, Party, no_traffic}
-use Rattle.calm_leader.specs.CallsComeBack.{LeadsIfUp, LeadsOn}
-use Rattle.calm_leader.specs.Entries.{CanExchange, GoesOnCalling, HasComeBy, PendsSince, calls_left, come_within}
+use Rattle.calm_leader.specs.CallsComeBack.{LeadsIfUp}
+use Rattle.calm_leader.specs.Entries.{GoesOnCalling, HasComeBy, PendsSince, calls_left, come_within}
 use Rattle.calm_leader.specs.LeadsOn.{FollowsWithin, IsLed, IsLedThroughout, LeadsIn}
 use Rattle.calm_leader.specs.NoElection.{CallsFit}
 use Rattle.calm_leader.proofs.EntriesComing.{cut_row}
+use Rattle.calm_leader.proofs.EntriesReturn.{GetsAnswers}
 use Rattle.calm_leader.specs.EntriesBelow.{EntryLaws, HasWhatIsKnown}
 use Rattle.calm_leader.proofs.EntriesRows.{IsLedCalm, leads_if_up}
 use Rattle.calm_leader.proofs.EntriesStart.{Done, comes}
@@ -23,19 +24,18 @@ use Rattle.cluster_spec.specs.Cluster.{Cluster, after_rows, cluster, world_of}
 use Rattle.cluster_spec.specs.Lawful.{DoNoHarm}
 use Rattle.cluster_spec.specs.Members.MemberStatus.{Up}
 
--- a calm in which a member leads on, and is led to lead from some rows on
+-- a calm in which a member leads from some rows on
 pub is_led_calm : (ids : List ℕ) (rows : List Row) (group : List Party) (clocks : Party → ℕ) (pace : Pace) (start n term : ℕ) (first later : List Timed)
     → ((p : ℕ) → In (OfMember p) group → In p ids) → AreRunning group (world_of ids rows) → In (OfMember n) group
     → AreCalm group clocks pace (no_traffic start) (world_of ids rows) (first ++ later) → DoNoHarm (world_of ids rows) (rows_in (first ++ later))
-    → LeadsOn n term (world_of ids rows) (first ++ later) → IsLedThroughout group n term (after_rows (world_of ids rows) (rows_in first)) later
+    → IsLedThroughout group n term (after_rows (world_of ids rows) (rows_in first)) later
     → CallsFit n (world_of ids rows) (first ++ later) → IsLedCalm ids rows group clocks pace start n term (first ++ later)
-is_led_calm ids rows group clocks pace start n term first later listed running member calm harmless on led fit = record {
+is_led_calm ids rows group clocks pace start n term first later listed running member calm harmless led fit = record {
   listed = listed;
   running = running;
   member = member;
   calm = calm;
   harmless = harmless;
-  leads_on = on;
   at_end = subst (LeadsIfUp n term) (sym (world_both (world_of ids rows) first later))
       (leads_if_up n term (after_rows (after_rows (world_of ids rows) (rows_in first)) (rows_in later)) (led later [] (sym (append-nil later))).leader);
   fit = fit;
@@ -62,11 +62,11 @@ module _ (ids : List ℕ) (rows : List Row) (laws : EntryLaws ids rows) (group :
   led_behind c b cut = subst (IsLed group n term) (sym (world_both w first c))
       (led c b (append_cancel_left first later (c ++ b) (cut ∙ append_assoc first c b)))
 
-  module _ (m : ℕ) (in_m : In (OfMember m) group) (other : m ≢ n) (short : 4 * pace.delay < call_timeout) (can : CanExchange n m w whole)
-      (since : PendsSince n m w.rows there) (goes : GoesOnCalling n m there) where
+  module _ (m : ℕ) (in_m : In (OfMember m) group) (other : m ≢ n) (short : 4 * pace.delay < call_timeout) (can : GetsAnswers n m pace.delay w whole)
+      (late : can.number ≤ there.rows) (since : PendsSince n m can.number there) (goes : GoesOnCalling n m there) where
     -- what is known behind a step of the leader, and then is there: it is said from behind the first rows on
     come_from_there : (e : List Timed) (count last : ℕ)
-        → Done ids rows laws group clocks pace start n term whole calm m in_m other short can first leading since goes (first ++ e) count last
+        → Done ids rows laws group clocks pace start n term whole calm m in_m other short can first leading late since goes (first ++ e) count last
         → HasComeBy n m count last (end_of start first) there later
     come_from_there e count last done = record {
       front = front;
@@ -125,7 +125,7 @@ module _ (ids : List ℕ) (rows : List Row) (laws : EntryLaws ids rows) (group :
     come_in_time front rest cut leader up more few long = subst (λ (k : ℕ). HasComeBy n m (length leader.raft_server.store.log) (k + come_within pace more) (end_of start first) there later)
         (end_both start first front)
         (come_from_there front (length leader.raft_server.store.log) (end_of start (first ++ front) + come_within pace more)
-        (comes ids rows laws group clocks pace start n term whole calm m in_m other short can first leading since goes front rest
+        (comes ids rows laws group clocks pace start n term whole calm m in_m other short can first leading late since goes front rest
         (ap (λ (l : List Timed). first ++ l) cut ∙ sym (append_assoc first front rest)) leader
         (subst (λ (v : Cluster). (v.member n).status ≡ Up leader) (sym (world_both w first front)) up) more few
         (let e = end_both start first front in omega (arith, e, long))))

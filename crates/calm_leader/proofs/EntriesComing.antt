@@ -1,5 +1,5 @@
 -- A leader's entries come to a member, whatever its log is, call by call.
-use Rattle.std.proofs.Common.{◌≡◌, ◌≢◌, ℕ, zero, suc, ◌+◌, ◌*◌, ◌<◌, ◌≤◌, List, [], ◌∷◌, ◌++◌, drop, length, append_assoc, append-nil, max, refl, sym, ◌∙◌, ap, subst, inl, inr, arith, Option, None, Some}
+use Rattle.std.proofs.Common.{◌≡◌, ◌≢◌, ℕ, zero, suc, ◌+◌, ◌*◌, ◌<◌, ◌≤◌, List, [], ◌∷◌, ◌++◌, drop, length, length-append, append_assoc, append-nil, max, refl, sym, ◌∙◌, ap, subst, inl, inr, arith, Option, None, Some}
 use Rattle.std.specs.Prelude.{◌⊎◌, slice_index_or}
 use Rattle.std.proofs.lemmas.Bool.Decides.{leb_tells}
 use Rattle.can_frame.specs.Timing.{call_timeout}
@@ -10,13 +10,13 @@ use Rattle.alloc_spec.specs.AllocatorState.{AllocatorState, members_of}
 use Rattle.alloc_spec.specs.Step.{Event, step}
 use Rattle.cluster_recovery.specs.Calm.{Pace, Timed, end_of}
 use Rattle.cluster_calm.specs.Calm.{AreCalm, Member as OfMember, Party, no_traffic}
-use Rattle.calm_leader.specs.Entries.{CanExchange}
 use Rattle.calm_leader.specs.NoElection.{CallsFit}
 use Rattle.cluster_calm.proofs.Calls.{Goes}
 use Rattle.cluster_calm.proofs.CallsOffered.{same_after}
 use Rattle.calm_leader.proofs.EntriesBack.{AtLeader, Holds, IsTaken, Leads, Made, comes_back, leader_at, now}
 use Rattle.calm_leader.proofs.EntriesParts.{listed_behind, reach_owed, rows_counted, same_front}
-use Rattle.calm_leader.proofs.EntriesPending.{WasCalled, appends_at, inside_at, was_called}
+use Rattle.calm_leader.proofs.EntriesPending.{WasCalled, appends_at, in_term_at, inside_at, was_called}
+use Rattle.calm_leader.proofs.EntriesReturn.{GetsAnswers}
 use Rattle.calm_leader.specs.EntriesBelow.{EntryLaws}
 use Rattle.calm_leader.proofs.EntriesRows.{AtLeast, IsLedCalm, goes_at, grown, here_then, lead_on, left_of}
 use Rattle.calm_leader.proofs.EntriesSteps.{longer, still_left}
@@ -30,7 +30,7 @@ module _ (ids : List ℕ) (rows : List _) (laws : EntryLaws ids rows) (group : L
     (whole : List Timed)
     (calm : IsLedCalm ids rows group clocks pace start n term whole) (m : ℕ) (in_m : In (OfMember m) group) (other : m ≢ n)
     (short : 4 * pace.delay < call_timeout)
-    (can : CanExchange n m (world_of ids rows) whole) where
+    (can : GetsAnswers n m pace.delay (world_of ids rows) whole) where
   abbrev w : Cluster
   w = world_of ids rows
 
@@ -61,8 +61,7 @@ module _ (ids : List ℕ) (rows : List _) (laws : EntryLaws ids rows) (group : L
   -- where it leads behind a row, it leads on
   pub leads_on : (a c b : List Timed) → whole ≡ (a ++ c) ++ b → whole ≡ a ++ (c ++ b) → IsLeading a → IsLeading (a ++ c)
   leads_on a c b cut whole_cut leads =
-      let t = it_at a (c ++ b) whole_cut in
-      lead_on ids rows laws group clocks pace start n term whole calm a c b cut t.0 t.1 (leads t.0 t.1).0
+      lead_on ids rows laws group clocks pace start n term whole calm a c b cut leads
 
   -- ---- moments
 
@@ -120,7 +119,7 @@ module _ (ids : List ℕ) (rows : List _) (laws : EntryLaws ids rows) (group : L
       listed : In m (drop 1 (members_of (step before.0 number is.0).step_state.allocator))
       listed = listed_behind (step before.0 number is.0).step_state.allocator m (subst (λ (u : AllocatorState). In m (members_of u)) (sym same)
           (laws.stay group clocks pace (no_traffic start) n m (a ++ x ∷ []) b w (calm.running n calm.member)
-          (subst (AreCalm group clocks pace (no_traffic start) w) (cut_row a b x cut) calm.calm) can.calls_it t up))
+          (subst (AreCalm group clocks pace (no_traffic start) w) (cut_row a b x cut) calm.calm) can.lists_it t up))
           (λ e. other (e ∙ (laws.me before.0 number is.0 ∙ goes.runs.holds)))
 
       pends : (pending : ℕ → Option Request) → t.raft_server.memory.pending ≡ pending → (pending m ≢ None) → (asked : Request)
@@ -164,7 +163,8 @@ module _ (ids : List ℕ) (rows : List _) (laws : EntryLaws ids rows) (group : L
       since : WasCalled ids rows laws group clocks pace start n term whole calm m asked (a ++ x ∷ [])
       since = was_called ids rows laws group clocks pace start n term whole calm m (a ++ x ∷ []) b (cut_row a b x cut) t up asked
           (let count = here_rows in omega (arith, number, count))
-          (appends_at ids rows laws group clocks pace start n term whole calm m (a ++ x ∷ []) b (cut_row a b x cut) leading t up asked pends) pends
+          (appends_at ids rows laws group clocks pace start n term whole calm m (a ++ x ∷ []) b (cut_row a b x cut) leading t up asked pends)
+          (in_term_at ids rows laws group clocks pace start n term whole calm m (a ++ x ∷ []) b (cut_row a b x cut) leading t up asked pends) pends
 
       parts : (a ≡ since.earlier) × (x ∷ [] ≡ since.row ∷ since.later)
       parts =
@@ -251,15 +251,16 @@ module _ (ids : List ℕ) (rows : List _) (laws : EntryLaws ids rows) (group : L
       behind : before ++ row ∷ [] ≡ origin ++ tail
       stepped : IsStep before row
       soon : row.at ≤ x.at + four
+      late : can.number ≤ (then_ before).rows
       leading : IsLeading (before ++ row ∷ [])
       fresh : AtIt (Fresh before) (before ++ row ∷ [])
       left : AtIt (AreLeft k count) (before ++ row ∷ [])
 
     one_call : (k count : ℕ) (before : List Timed) (row : Timed) (rest : List Timed) → whole ≡ before ++ row ∷ rest → (tail : List Timed)
-        → before ++ row ∷ [] ≡ origin ++ tail → IsStep before row → IsLeading (before ++ row ∷ [])
+        → before ++ row ∷ [] ≡ origin ++ tail → IsStep before row → can.number ≤ (then_ before).rows → IsLeading (before ++ row ∷ [])
         → AtIt (Fresh before) (before ++ row ∷ []) → AtIt (AreLeft (suc k) count) (before ++ row ∷ [])
         → row.at + four < end_of start whole → IsDone origin count row.at ⊎ Comes k count row
-    one_call k count before row rest cut tail behind is leading fresh few long = elim (leb_tells count (t.raft_server.memory.matched m)) [
+    one_call k count before row rest cut tail behind is late leading fresh few long = elim (leb_tells count (t.raft_server.memory.matched m)) [
       | inl z ↦ inl (record {
         before = before;
         row = row;
@@ -293,6 +294,7 @@ module _ (ids : List ℕ) (rows : List _) (laws : EntryLaws ids rows) (group : L
           behind = joined ∙ (ap (λ (l : List Timed). l ++ (taken.between ++ taken.row ∷ [])) behind ∙ append_assoc origin tail (taken.between ++ taken.row ∷ []));
           stepped = taken.stepped;
           soon = taken.soon;
+          late = behind_call;
           leading = taken_leading before rest row cut asked made taken;
           fresh = taken_fresh before rest row cut asked made taken;
           left = λ u is_up.
@@ -314,8 +316,17 @@ module _ (ids : List ℕ) (rows : List _) (laws : EntryLaws ids rows) (group : L
                 ap reach (made.owed t up) ∙ reach_owed ((then_ before).rows + 1) m t (omega (arith, above)) (omega (arith, near, inside, high))
 
             taken : TakenIn before row asked
-            taken = comes_back ids rows laws group clocks pace start n term whole calm m in_m other short can before rest row cut asked made
+            taken = comes_back ids rows laws group clocks pace start n term whole calm m in_m other short can before rest row cut asked made late
                 (let ends = end_from before rest row cut in omega (arith, long, ends))
+
+            -- the row of the answer stands behind that of the call
+            behind_call : can.number ≤ (then_ taken.before).rows
+            behind_call =
+                let here_rows = rows_counted w before in
+                let there_rows = rows_counted w taken.before in
+                let size = ap length taken.behind ∙ length-append (before ++ row ∷ []) taken.between in
+                let more = length-append before (row ∷ []) in
+                omega (arith, late, here_rows, there_rows, size, more)
 
             joined : taken.before ++ taken.row ∷ [] ≡ (before ++ row ∷ []) ++ (taken.between ++ taken.row ∷ [])
             joined = taken_joined before rest row cut asked made taken
@@ -359,11 +370,11 @@ module _ (ids : List ℕ) (rows : List _) (laws : EntryLaws ids rows) (group : L
     }
 
     pub by_calls : (k count : ℕ) (before : List Timed) (row : Timed) (rest : List Timed) → whole ≡ before ++ row ∷ rest → (tail : List Timed)
-        → before ++ row ∷ [] ≡ origin ++ tail → IsStep before row → IsLeading (before ++ row ∷ [])
+        → before ++ row ∷ [] ≡ origin ++ tail → IsStep before row → can.number ≤ (then_ before).rows → IsLeading (before ++ row ∷ [])
         → AtIt (Fresh before) (before ++ row ∷ []) → AtIt (AreLeft k count) (before ++ row ∷ [])
         → row.at + span k < end_of start whole → IsDone origin count (row.at + span k)
     unfolding span
-    by_calls zero count before row rest cut tail behind is leading fresh few long = record {
+    by_calls zero count before row rest cut tail behind is late leading fresh few long = record {
       before = before;
       row = row;
       rest = rest;
@@ -374,9 +385,9 @@ module _ (ids : List ℕ) (rows : List _) (laws : EntryLaws ids rows) (group : L
       soon = omega arith;
       known = λ t up. let f = (few t up).0 in omega (arith, f);
     }
-    by_calls (suc k) count before row rest cut tail behind is leading fresh few long =
-        elim (one_call k count before row rest cut tail behind is leading fresh few (omega (arith, long))) [
+    by_calls (suc k) count before row rest cut tail behind is late leading fresh few long =
+        elim (one_call k count before row rest cut tail behind is late leading fresh few (omega (arith, long))) [
           | inl d ↦ done_later count row.at (row.at + (four + span k)) (omega arith) d
           | inr c ↦ let soon = c.soon in done_later count (c.row.at + span k) (row.at + (four + span k)) (omega (arith, soon))
-              (by_calls k count c.before c.row c.rest c.cut c.tail c.behind c.stepped c.leading c.fresh c.left (omega (arith, soon, long)))
+              (by_calls k count c.before c.row c.rest c.cut c.tail c.behind c.stepped c.late c.leading c.fresh c.left (omega (arith, soon, long)))
         ]

@@ -1,5 +1,5 @@
 -- What a leader knows a member to have the member has; and where a calm begins, what the run says of a leader.
-use Rattle.std.proofs.Common.{◌≡◌, ℕ, ◌+◌, ◌≤◌, Bool, List, length, ◌∙◌, ap, subst, arith}
+use Rattle.std.proofs.Common.{◌≡◌, ℕ, ◌+◌, ◌≤◌, Bool, List, length, sym, ◌∙◌, ap, subst, arith}
 use Rattle.raft_model.specs.Fit.{IsFit}
 use Rattle.raft_model.specs.Invariants.{Invariants}
 use Rattle.raft_model.specs.Lists.{In}
@@ -12,7 +12,7 @@ use Rattle.cluster_agreement.specs.LawsBelow.{CodecLaws}
 use Rattle.cluster_agreement.specs.Shows.{Shows}
 use Rattle.cluster_progress.specs.CatchingUp.{AreJoined, two_of}
 use Rattle.cluster_progress.proofs.InRuns.{joined_in}
-use Rattle.calm_leader.specs.EntriesBelow.{AppendsPend, CallsInside, HasWhatIsKnown, PendingCallsArePast}
+use Rattle.calm_leader.specs.EntriesBelow.{AppendsPend, CallsInside, HasWhatIsKnown, PendInTerm, PendingCallsArePast}
 use Rattle.calm_leader.proofs.EntriesJudged.{run_up}
 use Rattle.cluster_spec.specs.Cluster.{Cluster}
 use Rattle.cluster_spec.specs.Members.MemberStatus.{Up}
@@ -50,6 +50,13 @@ module _ (choice : ℕ → Bool) (made : List SentTransfer) (w : Cluster) (run :
       let then = shows.past called.call called.was_made in
       let same = called.step in
       omega (arith, then, same)
+
+  pub pend_in_term : PendInTerm w.ids w
+  pend_in_term n m leader request in_n up leads pends =
+      let here = server_of n leader in_n up in
+      (inv.calls.pending n m request (λ e. cc (sym e ∙ (ap (λ (s : RaftServer). s.memory.role) here ∙ leads)))
+      (ap (λ (s : RaftServer). s.memory.pending m) here ∙ pends)).2
+      ∙ ap (λ (s : RaftServer). s.store.term) here
 
   pub appends_pend : AppendsPend w.ids w
   appends_pend n m leader request in_n up leads pends =

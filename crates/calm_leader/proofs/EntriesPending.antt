@@ -23,10 +23,10 @@ use Rattle.calm_leader.specs.CallsComeBack.{LeadsIfUp}
 use Rattle.calm_leader.specs.Entries.{PendsSince}
 use Rattle.cluster_calm.proofs.Calls.{Goes}
 use Rattle.calm_leader.specs.CallsAsk.{AsksNext, next_request}
-use Rattle.calm_leader.specs.EntriesBelow.{AppendsPend, CallsInside, EntryLaws}
+use Rattle.calm_leader.specs.EntriesBelow.{AppendsPend, CallsInside, EntryLaws, PendInTerm}
 use Rattle.calm_leader.proofs.EntriesHold.{holds_on}
-use Rattle.calm_leader.proofs.EntriesParts.{rows_counted}
-use Rattle.calm_leader.proofs.EntriesRows.{AtLeader, IsLedCalm, cut_more, goes_at, here, lead_here, row_of}
+use Rattle.calm_leader.proofs.EntriesParts.{in_either, rows_counted}
+use Rattle.calm_leader.proofs.EntriesRows.{AtLeader, IsLedCalm, goes_at, here, row_of}
 use Rattle.cluster_calm.proofs.Pair.{same_server}
 use Rattle.calm_leader.proofs.Stretches.{rows_both}
 use Rattle.cluster_spec.specs.Cluster.{Cluster, cluster, step_of, world_of}
@@ -91,6 +91,13 @@ module _ (ids : List ℕ) (rows : List Row) (laws : EntryLaws ids rows) (group :
       (laws.appends (rows_in a) (first_harmless w (rows_in a) (rows_in b) (subst (DoNoHarm w) (ap rows_in cut ∙ rows_both a b) calm.harmless)))
       n m t asked (calm.listed n calm.member) up (leads t up).0 pends
 
+  -- and of its term
+  pub in_term_at : (m : ℕ) (a b : List Timed) → whole ≡ a ++ b → LeadsIfUp n term (at a)
+      → AtN (λ t. (asked : Request) → t.raft_server.memory.pending m ≡ Some asked → asked.term ≡ term) a
+  in_term_at m a b cut leads t up asked pends = subst (PendInTerm ids) (world_at a)
+      (laws.terms (rows_in a) (first_harmless w (rows_in a) (rows_in b) (subst (DoNoHarm w) (ap rows_in cut ∙ rows_both a b) calm.harmless)))
+      n m t asked (calm.listed n calm.member) up (leads t up).0 pends ∙ (leads t up).1
+
   -- so it calls the peer next at a place of its log, or just behind them
   pub inside_at : (m : ℕ) (a b : List Timed) → whole ≡ a ++ b → LeadsIfUp n term (at a)
       → AtN (λ t. (1 ≤ t.raft_server.memory.next m) × (t.raft_server.memory.next m ≤ length t.raft_server.store.log + 1)) a
@@ -110,23 +117,23 @@ module _ (ids : List ℕ) (rows : List Row) (laws : EntryLaws ids rows) (group :
 
     makes_call : (a b : List Timed) (x : Timed) → whole ≡ a ++ x ∷ b → (t after : AllocatorState) → ((at a).member n).status ≡ Up t
         → ((at (a ++ x ∷ [])).member n).status ≡ Up after → (event : Event) → step_of (at a) x.row ≡ Some (n, event)
-        → after ≡ (step t ((at a).rows + 1) event).step_state.allocator → (asked : Request) → asked.append ≡ true
+        → after ≡ (step t ((at a).rows + 1) event).step_state.allocator → (asked : Request) → asked.append ≡ true → asked.term ≡ term
         → after.raft_server.memory.pending m ≡ Some asked
         → IsCalled ((at a).rows + 1) (step t ((at a).rows + 1) event).step_state m asked → MakesCall a x asked
-    makes_call a b x cut t after up then_up event in_step is asked append pends called = record {
+    makes_call a b x cut t after up then_up event in_step is asked append its_term pends called = record {
       offer = called.offer;
       request = reads.request;
       calls = record { sends = sends; what = what; to = called.to; says = reads.read };
       said = one_request asked _ (sym called.says ∙ (reads.said ∙ ap
           (λ (to : ℕ). Some (Requests (handled.append_request_of reads.request ((at a).rows + 1) n to))) called.to));
       owed = λ later later_up. owed ∙ ap (next_request m ((at a).rows + 1)) (sym is ∙ same_server after later (sym then_up ∙ later_up));
-      leading = lead_here ids rows laws group clocks pace start n term whole calm (a ++ x ∷ []) b cut_then after then_up
-          (ap (λ (u : AllocatorState). u.raft_server.memory.role) is ∙ asks.leads);
+      leading = λ later later_up. (
+        ap (λ (u : AllocatorState). u.raft_server.memory.role) (sym (same_server after later (sym then_up ∙ later_up)) ∙ is) ∙ asks.leads,
+        ap (λ (u : AllocatorState). u.raft_server.store.term) (sym (same_server after later (sym then_up ∙ later_up)) ∙ is)
+            ∙ (sym (ap (λ (r : Request). r.term) owed) ∙ its_term),
+      );
     }
       where
-        cut_then : whole ≡ (a ++ x ∷ []) ++ b
-        cut_then = cut_more ids rows laws group clocks pace start n term whole calm a b x cut
-
         what : called.offer.what ≡ AppQ
         what = called.what ∙ ap (λ (b : Bool). if b then AppQ else VoteQ) append
 
@@ -171,7 +178,7 @@ module _ (ids : List ℕ) (rows : List Row) (laws : EntryLaws ids rows) (group :
 
     -- so it is of each append request of these that pends
     abbrev pub IsSince : (Request → Type 0) → List Timed → Type 0
-    IsSince Late a = AtN (λ t. (asked : Request) → Late asked → asked.append ≡ true → Pends asked t → WasCalled asked a) a
+    IsSince Late a = AtN (λ t. (asked : Request) → Late asked → asked.append ≡ true → asked.term ≡ term → Pends asked t → WasCalled asked a) a
 
     -- one row more, in which nothing changes
     goes_by : (asked : Request) (a : List Timed) (x : Timed) (t after : AllocatorState) → ((at a).member n).status ≡ Up t
@@ -214,17 +221,17 @@ module _ (ids : List ℕ) (rows : List Row) (laws : EntryLaws ids rows) (group :
 
     module _ (Late : Request → Type 0) where
       one_row : (a b : List Timed) (x : Timed) → whole ≡ a ++ x ∷ b → IsSince Late a → IsSince Late (a ++ x ∷ [])
-      one_row a b x cut before after then_up asked late append pends = elim (row_of ids rows laws group clocks pace start n term whole calm a b x cut t after up then_up) [
+      one_row a b x cut before after then_up asked late append its_term pends = elim (row_of ids rows laws group clocks pace start n term whole calm a b x cut t after up then_up) [
         | inr same ↦ goes_by asked a x t after up then_up pends (ap (λ (s : RaftServer). s.memory.next m) same, ap (λ (s : RaftServer). s.memory.matched m) same)
-            (before t up asked late append (ap (λ (s : RaftServer). s.memory.pending m) (sym same) ∙ pends))
+            (before t up asked late append its_term (ap (λ (s : RaftServer). s.memory.pending m) (sym same) ∙ pends))
         | inl s ↦ elim (laws.made t ((at a).rows + 1) s.0 m asked (ap (λ (u : AllocatorState). u.raft_server.memory.pending m) (sym s.2) ∙ pends)) [
-          | inl stays ↦ on s (before t up asked late append (sym stays.pending ∙ (ap (λ (u : AllocatorState). u.raft_server.memory.pending m) (sym s.2) ∙ pends)))
+          | inl stays ↦ on s (before t up asked late append its_term (sym stays.pending ∙ (ap (λ (u : AllocatorState). u.raft_server.memory.pending m) (sym s.2) ∙ pends)))
           | inr called ↦ record {
             earlier = a;
             row = x;
             later = [];
             split = refl;
-            made = makes_call a b x cut t after up then_up s.0 s.1 s.2 asked append pends called;
+            made = makes_call a b x cut t after up then_up s.0 s.1 s.2 asked append its_term pends called;
             next = after.raft_server.memory.next m;
             matched = after.raft_server.memory.matched m;
             since = λ c d e. subst (λ (l : List Timed). AtN (HoldsAs asked (after.raft_server.memory.next m) (after.raft_server.memory.matched m)) (a ++ x ∷ l)) (sym (no_first c d e))
@@ -258,9 +265,28 @@ module _ (ids : List ℕ) (rows : List Row) (laws : EntryLaws ids rows) (group :
     -- so it is, behind each front, of a call that was made in the calm
     pub was_called : (a b : List Timed) → whole ≡ a ++ b → IsSince (λ asked. w.rows < asked.step) a
     was_called a b cut = further_rows (λ asked. w.rows < asked.step) a [] b cut
-        (λ t up asked late append pends. let past = laws.past n m t asked (calm.listed n calm.member) up pends in absurd (omega (arith, late, past)))
+        (λ t up asked late append its_term pends. let past = laws.past n m t asked (calm.listed n calm.member) up pends in absurd (omega (arith, late, past)))
 
     -- and from a front on of each, where a call that pends behind it was made in the calm
-    pub was_called_from : (first c b : List Timed) → whole ≡ (first ++ c) ++ b → PendsSince n m w.rows (at first) → IsSince (λ asked. ⊤) (first ++ c)
-    was_called_from first c b cut since = further_rows (λ asked. ⊤) c first b cut
-        (λ t up asked late append pends. was_called first (c ++ b) (cut ∙ append_assoc first c b) t up asked (since t asked up pends) append pends)
+    module _ (number : ℕ) (above : w.rows ≤ number) (first c b : List Timed) (cut : whole ≡ (first ++ c) ++ b) (since : PendsSince n m number (at first)) where
+      cut_first : whole ≡ first ++ (c ++ b)
+      cut_first = cut ∙ append_assoc first c b
+
+      pub was_called_from : IsSince (λ asked. ⊤) (first ++ c)
+      was_called_from = further_rows (λ asked. ⊤) c first b cut
+          (λ t up asked late append its_term pends. was_called first (c ++ b) cut_first t up asked
+          (let later = since t asked up pends in omega (arith, above, later)) append its_term pends)
+
+      -- that step stands behind this number
+      pub called_since : number ≤ (at first).rows → (asked : Request) → WasCalled asked (first ++ c) → number < asked.step
+      called_since low asked s = elim (in_either first c s.earlier s.later s.row s.split) [
+        | inr z ↦
+            let its = ap (λ (r : Request). r.step) s.made.said in
+            let here_rows = rows_counted w first in
+            let there_rows = rows_counted w s.earlier in
+            let size = ap length z.split ∙ length-append first z.tail in
+            omega (arith, low, its, here_rows, there_rows, size)
+        | inl z ↦
+            let run = (goes_at ids rows laws group clocks pace start n term whole calm n calm.member first (c ++ b) cut_first).runs in
+            since run.server asked run.up.status (subst (AtN (HoldsAs asked s.next s.matched)) (sym z.split) (s.since z.tail c z.rest) run.server run.up.status).0
+      ]

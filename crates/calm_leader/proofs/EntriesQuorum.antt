@@ -19,13 +19,14 @@ use Rattle.cluster_recovery.specs.Calm.{Pace, Timed, end_of, rows_in}
 use Rattle.cluster_recovery.proofs.Goes.{after_both}
 use Rattle.cluster_calm.specs.Calm.{Member as OfMember, Party}
 use Rattle.calm_leader.specs.CallsComeBack.{LeadsIfUp}
-use Rattle.calm_leader.specs.Entries.{CanExchange, GoesOnCalling, IsCommittedBy, PendsSince, calls_left, come_within, is_one_of}
+use Rattle.calm_leader.specs.Entries.{GoesOnCalling, IsCommittedBy, PendsSince, calls_left, come_within, is_one_of}
 use Rattle.calm_leader.specs.LeadsOn.{IsLedThroughout}
 use Rattle.cluster_calm.proofs.Calls.{Goes}
 use Rattle.calm_leader.proofs.EntriesAccepted.{same_term}
 use Rattle.calm_leader.proofs.EntriesCome.{leading, led_behind}
 use Rattle.calm_leader.proofs.EntriesCommitted.{HasCommitted, duty_at, has_committed}
 use Rattle.calm_leader.proofs.EntriesParts.{IsFirst, IsSecond, in_either}
+use Rattle.calm_leader.proofs.EntriesReturn.{GetsAnswers}
 use Rattle.calm_leader.specs.EntriesBelow.{EntryLaws}
 use Rattle.calm_leader.proofs.EntriesRows.{AtLeader, AtLeast, IsLedCalm, cut_more, goes_at, grown, here, here_then, leads_if_up, left_of}
 use Rattle.calm_leader.proofs.EntriesStart.{Done, NextTick, comes, next_tick}
@@ -101,15 +102,16 @@ module _ (ids : List ℕ) (rows : List Row) (laws : EntryLaws ids rows) (group :
   pub record IsOther (m : ℕ) : Type 0 where
     pub member : In (OfMember m) group
     pub other : m ≢ n
-    pub can : CanExchange n m (world_of ids rows) whole
-    pub since : PendsSince n m (world_of ids rows).rows (after_rows (world_of ids rows) (rows_in first))
+    pub can : GetsAnswers n m pace.delay (world_of ids rows) whole
+    pub late : can.number ≤ (after_rows (world_of ids rows) (rows_in first)).rows
+    pub since : PendsSince n m can.number (after_rows (world_of ids rows) (rows_in first))
     pub goes : GoesOnCalling n m (after_rows (world_of ids rows) (rows_in first))
 
   abbrev leads_first : LeadsIfUp n term (after_rows (world_of ids rows) (rows_in first))
   leads_first = leading ids rows laws group clocks pace start n term first later calm led
 
   abbrev DoneOf : (m : ℕ) → IsOther m → (origin : List Timed) (count last : ℕ) → Type 0
-  DoneOf m is = Done ids rows laws group clocks pace start n term whole calm m is.member is.other short is.can first leads_first is.since is.goes
+  DoneOf m is = Done ids rows laws group clocks pace start n term whole calm m is.member is.other short is.can first leads_first is.late is.since is.goes
 
   module _ (e : List Timed) where
     -- a step of the leader is over by this moment, behind this front, and the leader knows each of these to have so many
@@ -229,14 +231,14 @@ module _ (ids : List ℕ) (rows : List Row) (laws : EntryLaws ids rows) (group :
         known = λ m i. absurd i;
       }
         where
-          tick : NextTick ids rows laws group clocks pace start n term whole calm other is.member is.other short is.can first leads_first is.since is.goes (first ++ e)
-          tick = next_tick ids rows laws group clocks pace start n term whole calm other is.member is.other short is.can first leads_first is.since is.goes (first ++ e) b cut
+          tick : NextTick ids rows laws group clocks pace start n term whole calm other is.member is.other short is.can first leads_first is.late is.since is.goes (first ++ e)
+          tick = next_tick ids rows laws group clocks pace start n term whole calm other is.member is.other short is.can first leads_first is.late is.since is.goes (first ++ e) b cut
               (omega (arith, long))
       all_have other is (m ∷ list) each =
           let it = each m (inl refl) in
           one_more m it.0 list count last
           (comes ids rows laws group clocks pace start n term whole calm m it.0.member it.0.other short it.0.can
-          first leads_first it.0.since it.0.goes e b cut t up left it.1 long)
+          first leads_first it.0.late it.0.since it.0.goes e b cut t up left it.1 long)
           (all_have other is list (λ p i. each p (inr i)))
 
       -- then the leader has committed the places

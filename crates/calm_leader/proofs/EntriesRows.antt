@@ -1,26 +1,26 @@
 -- What a leader knows of a peer as a calm goes on: it loses nothing of it, and its calls begin no further on.
-use Rattle.std.proofs.Common.{◌≡◌, ℕ, ◌+◌, ◌≤◌, List, [], ◌∷◌, ◌++◌, length, append_assoc, append-nil, sym, ◌∙◌, ap, subst, inl, inr, arith, max, Option, None, Some}
+use Rattle.std.proofs.Common.{◌≡◌, ℕ, ◌+◌, ◌<◌, ◌≤◌, List, [], ◌∷◌, ◌++◌, length, append_assoc, append-nil, sym, ◌∙◌, ap, subst, inl, inr, arith, max, Option, None, Some}
 use Rattle.std.specs.Prelude.{◌⊎◌}
 use Rattle.std.proofs.lemmas.Bool.Decides.{eqb_tells}
 use Rattle.can_frame.specs.declared.entry.Entry.{Entry}
 use Rattle.raft_model.specs.Lists.{In}
 use Rattle.raft_model.specs.Server.{RaftServer}
-use Rattle.raft_model.specs.Server.Role.{Leader}
 use Rattle.replay_text.specs.declared.row.Row.{Row}
 use Rattle.alloc_spec.specs.AllocatorState.{AllocatorState}
 use Rattle.alloc_spec.specs.Step.{Event, step}
+use Rattle.alloc_spec_laws.proofs.Choices.{lt_tells}
 use Rattle.cluster_recovery.specs.Calm.{Pace, Timed, rows_in}
 use Rattle.cluster_calm.specs.Calm.{AreCalm, AreRunning, IsRunning, Member as OfMember, Party, no_traffic}
-use Rattle.cluster_calm.specs.Comes.{Throughout}
 use Rattle.calm_leader.specs.CallsComeBack.{LeadsIfUp, LeadsOn}
 use Rattle.calm_leader.specs.EntriesBelow.{EntryLaws}
 use Rattle.calm_leader.specs.LeadsOn.{IsLedThroughout, LeadsIn}
 use Rattle.calm_leader.specs.NoElection.{CallsFit}
-use Rattle.cluster_calm.proofs.Calls.{Goes, further_on}
-use Rattle.calm_leader.proofs.EntriesSteps.{Knows, Leads, step_knows, still_left}
+use Rattle.cluster_calm.proofs.Calls.{Always, Goes, further_on}
+use Rattle.cluster_calm.proofs.CallsKept.{IsKept, RunsWith, further}
+use Rattle.calm_leader.proofs.EntriesSteps.{Knows, Leads, stays_above, step_knows, still_left}
 use Rattle.cluster_calm.proofs.Pair.{same_server, same_stepper}
 use Rattle.calm_leader.proofs.RowsOfOne.{IsLeft, left_up, stepped_up}
-use Rattle.calm_leader.proofs.Stretches.{throughout_at, throughout_by, throughout_rest, world_both}
+use Rattle.calm_leader.proofs.Stretches.{throughout_by, world_both}
 use Rattle.cluster_spec.specs.Cluster.{Cluster, after_row, after_rows, step_of, world_of}
 use Rattle.cluster_spec.specs.Lawful.{DoNoHarm}
 use Rattle.cluster_spec.specs.Members.MemberStatus.{Up}
@@ -37,7 +37,7 @@ step_or_not w row n = by (step_of w row)
       | inr z ↦ inr (λ other e. z.1 (same_stepper p n event other e))
     ]
 
--- a calm in which a member of the group leads on in one term, once it leads
+-- a calm at whose end a member of the group leads, in this term
 pub record IsLedCalm (ids : List ℕ) (rows : List Row) (group : List Party) (clocks : Party → ℕ) (pace : Pace) (start n term : ℕ)
     (whole : List Timed) : Type 0 where
   pub listed : (p : ℕ) → In (OfMember p) group → In p ids
@@ -45,29 +45,10 @@ pub record IsLedCalm (ids : List ℕ) (rows : List Row) (group : List Party) (cl
   pub member : In (OfMember n) group
   pub calm : AreCalm group clocks pace (no_traffic start) (world_of ids rows) whole
   pub harmless : DoNoHarm (world_of ids rows) (rows_in whole)
-  pub leads_on : LeadsOn n term (world_of ids rows) whole
   pub at_end : LeadsIfUp n term (after_rows (world_of ids rows) (rows_in whole))
   pub fit : CallsFit n (world_of ids rows) whole
 
 -- ---- who leads on
-
--- where a member leads in one world, it leads before each row from there on
-leads_from : (n term : ℕ) (rest : List Timed) (w : Cluster) (t : AllocatorState) → (w.member n).status ≡ Up t → t.raft_server.memory.role ≡ Leader
-    → LeadsOn n term w rest → Throughout (LeadsIfUp n term) w rest
-leads_from n term [] w t up leads on = tt
-leads_from n term (timed ∷ rest) w t up leads (inl z) = absurd (z.0 t up leads)
-leads_from n term (timed ∷ rest) w t up leads (inr all) = all
-
--- further on it is so too
-leads_further : (n term : ℕ) (front rest : List Timed) (w : Cluster) → LeadsOn n term w (front ++ rest) → LeadsOn n term (after_rows w (rows_in front)) rest
-leads_further n term [] rest w on = on
-leads_further n term (timed ∷ front) rest w (inl z) = leads_further n term front rest (after_row w timed.row) z.1
-leads_further n term (timed ∷ front) rest w (inr all) = by rest (throughout_rest (LeadsIfUp n term) (timed ∷ front) rest w all)
-  where
-    by : (list : List Timed) → Throughout (LeadsIfUp n term) (after_rows (after_row w timed.row) (rows_in front)) list
-        → LeadsOn n term (after_rows (after_row w timed.row) (rows_in front)) list
-    by [] all = tt
-    by (next ∷ list) all = inr all
 
 -- where a member is led to be, so it is if it runs
 pub leads_if_up : (n term : ℕ) (w : Cluster) → LeadsIn n term w → LeadsIfUp n term w
@@ -123,19 +104,36 @@ module _ (ids : List ℕ) (rows : List Row) (laws : EntryLaws ids rows) (group :
   abbrev pub Leading : List Timed → Type 0
   Leading a = LeadsIfUp n term (here a)
 
-  -- where it leads, it leads further on
-  pub lead_on : (a c b : List Timed) → whole ≡ (a ++ c) ++ b → (t : AllocatorState) → ((here a).member n).status ≡ Up t → t.raft_server.memory.role ≡ Leader
-      → Leading (a ++ c)
-  lead_on a c [] cut t up leads = subst (λ (l : List Timed). LeadsIfUp n term (after_rows w (rows_in l))) (cut ∙ append-nil (a ++ c)) calm.at_end
-  lead_on a c (x ∷ b) cut t up leads = subst (LeadsIfUp n term) (sym (world_both w a c))
-      (throughout_at (LeadsIfUp n term) c b x (here a)
-      (leads_from n term (c ++ x ∷ b) (here a) t up leads (leads_further n term a (c ++ x ∷ b) w
-      (subst (LeadsOn n term w) (cut ∙ append_assoc a c (x ∷ b)) calm.leads_on))))
+  abbrev IsAboveIt : AllocatorState → Type 0
+  IsAboveIt u = term < u.raft_server.store.term
 
-  -- where it leads, it does so in the term
-  pub lead_here : (a b : List Timed) → whole ≡ a ++ b → (t : AllocatorState) → ((here a).member n).status ≡ Up t → t.raft_server.memory.role ≡ Leader
-      → Leading a
-  lead_here a b cut t up leads = subst Leading (append-nil a) (lead_on a [] b (cut ∙ ap (λ (l : List Timed). l ++ b) (sym (append-nil a))) t up leads)
+  above_kept : IsKept Always IsAboveIt
+  above_kept = record { stepped = λ u number event may h. stays_above term number u event h; popped = λ u h. h }
+
+  -- its term is never above, since terms do not fall
+  pub within : (a b : List Timed) → whole ≡ a ++ b → (t : AllocatorState) → ((here a).member n).status ≡ Up t → t.raft_server.store.term ≤ term
+  within a b cut t up = elim (lt_tells term t.raft_server.store.term) [
+    | inl high ↦ absurd (not_above (further Always IsAboveIt above_kept group clocks pace n b [] (here a) (λ timed i. tt) (record {
+      traffic = goes.traffic;
+      calm = subst (AreCalm group clocks pace goes.traffic (here a)) (sym (append-nil b)) goes.calm;
+      runs = record {
+        server = goes.runs.server;
+        up = goes.runs.up;
+        holds = subst IsAboveIt (same_server t goes.runs.server (sym up ∙ goes.runs.up.status)) high.1;
+      };
+    })).runs)
+    | inr low ↦ low.1
+  ]
+    where
+      goes : Goes laws.me group clocks pace n (here a) b
+      goes = goes_at n calm.member a b cut
+
+      not_above : RunsWith IsAboveIt ((after_rows (here a) (rows_in b)).member n) → ⊥
+      not_above runs =
+          let high = runs.holds in
+          let e = (calm.at_end runs.server (subst (λ (v : Cluster). (v.member n).status ≡ Up runs.server)
+          (sym (ap (λ (l : List Timed). after_rows w (rows_in l)) cut ∙ world_both w a b)) runs.up.status)).1 in
+          omega (arith, high, e)
 
   -- a row is a step of the leader, or leaves its server of the Raft model
   abbrev pub IsRowOf : (a : List Timed) (x : Timed) (t after : AllocatorState) → Type 0
@@ -182,8 +180,8 @@ module _ (ids : List ℕ) (rows : List Row) (laws : EntryLaws ids rows) (group :
           → AtLeader (AtLeast matched base left over) (a ++ x ∷ [])
       one_row a b x cut before after then_up = elim (row_of a b x cut t after up then_up) [
         | inl s ↦ subst (AtLeast matched base left over) (sym s.2) (stays (step t ((here a).rows + 1) s.0).step_state.allocator.raft_server
-            (ap (λ (u : AllocatorState). u.raft_server.store.term) (sym s.2)
-            ∙ (lead_on a (x ∷ []) b (cut_more a b x cut) t up (before t up).leads after then_up).1)
+            (let low = within (a ++ x ∷ []) b (cut_more a b x cut) after then_up in
+            let e = ap (λ (u : AllocatorState). u.raft_server.store.term) s.2 in omega (arith, low, e))
             (step_knows m term matched base left over ((here a).rows + 1) t s.0 (inr (before t up))))
         | inr same ↦ subst (Leads m term matched base left over) (sym same) (before t up)
       ]
@@ -194,9 +192,9 @@ module _ (ids : List ℕ) (rows : List Row) (laws : EntryLaws ids rows) (group :
           up : ((here a).member n).status ≡ Up t
           up = (goes_at n calm.member a (x ∷ b) cut).runs.up.status
 
-          stays : (s : RaftServer) → s.store.term ≡ term → Knows m term matched base left over s → Leads m term matched base left over s
-          stays s e (inl high) = absurd (omega (arith, high, e))
-          stays s e (inr l) = l
+          stays : (s : RaftServer) → s.store.term ≤ term → Knows m term matched base left over s → Leads m term matched base left over s
+          stays s low (inl high) = absurd (omega (arith, high, low))
+          stays s low (inr l) = l
 
       -- it holds further on
       pub goes_on : (c a b : List Timed) → whole ≡ (a ++ c) ++ b → AtLeader (AtLeast matched base left over) a
@@ -222,6 +220,13 @@ module _ (ids : List ℕ) (rows : List Row) (laws : EntryLaws ids rows) (group :
           log_is = sym (append-nil t.raft_server.store.log);
         }))
 
+  -- where it leads in the term, it leads further on
+  pub lead_on : (a c b : List Timed) → whole ≡ (a ++ c) ++ b → Leading a → Leading (a ++ c)
+  lead_on a c b cut leads u is_up =
+      let run = (goes_at n calm.member a (c ++ b) (cut ∙ append_assoc a c b)).runs in
+      let k = grown n a c b (run.server.raft_server.memory.next n) cut leads run.server run.up.status (omega arith) u is_up in
+      (k.leads, k.its_term)
+
 -- a calm in which a member of the group leads from the beginning on
 pub led_from_start : (ids : List ℕ) (rows : List Row) (group : List Party) (clocks : Party → ℕ) (pace : Pace) (start n term : ℕ) (whole : List Timed)
     → ((p : ℕ) → In (OfMember p) group → In p ids) → AreRunning group (world_of ids rows) → In (OfMember n) group
@@ -234,7 +239,6 @@ led_from_start ids rows group clocks pace start n term whole listed running memb
   member = member;
   calm = calm;
   harmless = harmless;
-  leads_on = leads_throughout group n term (world_of ids rows) whole led;
   at_end = leads_if_up n term (after_rows (world_of ids rows) (rows_in whole)) (led whole [] (sym (append-nil whole))).leader;
   fit = fit;
 }

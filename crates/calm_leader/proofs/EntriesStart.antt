@@ -12,11 +12,12 @@ use Rattle.alloc_spec_laws.proofs.Lists.{in_back}
 use Rattle.cluster_recovery.specs.Calm.{Pace, Timed, end_of, rows_in}
 use Rattle.cluster_calm.specs.Calm.{Member as OfMember, Party}
 use Rattle.calm_leader.specs.CallsComeBack.{LeadsIfUp}
-use Rattle.calm_leader.specs.Entries.{CanExchange, GoesOnCalling, PendsSince, come_within}
+use Rattle.calm_leader.specs.Entries.{GoesOnCalling, PendsSince, come_within}
 use Rattle.calm_leader.proofs.EntriesBack.{IsTaken, comes_back}
 use Rattle.calm_leader.proofs.EntriesComing.{AtIt, HeldAs, IsDone, IsLeading, by_calls, cut_row, done_later, end_from, from_start, in_touch, it_at, leads_on, span, span_is, taken_fresh, taken_leading, then_}
 use Rattle.calm_leader.proofs.EntriesParts.{IsFirst, IsSecond, Ticks, in_either, reads_step, rows_counted, ticks_by}
-use Rattle.calm_leader.proofs.EntriesPending.{IsSince, WasCalled, appends_at, was_called, was_called_from}
+use Rattle.calm_leader.proofs.EntriesPending.{IsSince, WasCalled, appends_at, called_since, in_term_at, was_called, was_called_from}
+use Rattle.calm_leader.proofs.EntriesReturn.{GetsAnswers}
 use Rattle.calm_leader.specs.EntriesBelow.{EntryLaws}
 use Rattle.calm_leader.proofs.EntriesRows.{AtLeast, IsLedCalm, grown, left_of}
 use Rattle.calm_leader.proofs.EntriesSteps.{longer}
@@ -34,9 +35,10 @@ module _ (ids : List ℕ) (rows : List _) (laws : EntryLaws ids rows) (group : L
     (whole : List Timed)
     (calm : IsLedCalm ids rows group clocks pace start n term whole) (m : ℕ) (in_m : In (OfMember m) group) (other : m ≢ n)
     (short : 4 * pace.delay < call_timeout)
-    (can : CanExchange n m (world_of ids rows) whole)
+    (can : GetsAnswers n m pace.delay (world_of ids rows) whole)
     (first : List Timed) (leading : LeadsIfUp n term (after_rows (world_of ids rows) (rows_in first)))
-    (since_first : PendsSince n m (world_of ids rows).rows (after_rows (world_of ids rows) (rows_in first)))
+    (late_first : can.number ≤ (after_rows (world_of ids rows) (rows_in first)).rows)
+    (since_first : PendsSince n m can.number (after_rows (world_of ids rows) (rows_in first)))
     (goes_first : GoesOnCalling n m (after_rows (world_of ids rows) (rows_in first))) where
   abbrev w : Cluster
   w = world_of ids rows
@@ -109,9 +111,9 @@ module _ (ids : List ℕ) (rows : List _) (laws : EntryLaws ids rows) (group : L
         (subst (In since.row) (sym since.split) (in_back since.row since.earlier (since.row ∷ since.later) (inl refl)))).1
 
     -- its answer is taken
-    answered : end_of start a + 4 * pace.delay < end_of start whole → Taken since.earlier since.row asked
-    answered long = comes_back ids rows laws group clocks pace start n term whole calm m in_m other short can since.earlier
-        (since.later ++ b) since.row cut_since asked since.made
+    answered : can.number < asked.step → end_of start a + 4 * pace.delay < end_of start whole → Taken since.earlier since.row asked
+    answered late long = comes_back ids rows laws group clocks pace start n term whole calm m in_m other short can since.earlier
+        (since.later ++ b) since.row cut_since asked since.made (let its = ap (λ (r : Request). r.step) since.made.said in omega (arith, late, its))
         (let ends = end_from ids rows laws group clocks pace start n term whole calm m in_m other short can since.earlier
         (since.later ++ b) since.row cut_since in
         let low = by_then in
@@ -201,11 +203,12 @@ module _ (ids : List ℕ) (rows : List _) (laws : EntryLaws ids rows) (group : L
 
           since : Called asked first
           since = was_called ids rows laws group clocks pace start n term whole calm m first (c ++ b) cut_first t.0 t.1 asked
-              (since_first t.0 asked t.1 call.1)
-              (appends_at ids rows laws group clocks pace start n term whole calm m first (c ++ b) cut_first leading t.0 t.1 asked call.1) call.1
+              (let later = since_first t.0 asked t.1 call.1 in let above = can.above in omega (arith, later, above))
+              (appends_at ids rows laws group clocks pace start n term whole calm m first (c ++ b) cut_first leading t.0 t.1 asked call.1)
+              (in_term_at ids rows laws group clocks pace start n term whole calm m first (c ++ b) cut_first leading t.0 t.1 asked call.1) call.1
 
           taken : Taken since.earlier since.row asked
-          taken = answered asked first (c ++ b) cut_first since long
+          taken = answered asked first (c ++ b) cut_first since (since_first t.0 asked t.1 call.1) long
 
           front_then : first ++ c ≡ (since.earlier ++ since.row ∷ []) ++ (since.later ++ c)
           front_then = ap (λ (l : List Timed). l ++ c) (front_is asked first (c ++ b) cut_first since taken)
@@ -303,12 +306,17 @@ module _ (ids : List ℕ) (rows : List _) (laws : EntryLaws ids rows) (group : L
     module _ (asked : Request) (pends : u.0.raft_server.memory.pending m ≡ Some asked) where
       since : Called asked upto
       since = subst (IsSince ids rows laws group clocks pace start n term whole calm m (λ any. ⊤)) (sym joined_first)
-          (was_called_from ids rows laws group clocks pace start n term whole calm m first (e ++ (c ++ x ∷ [])) d
+          (was_called_from ids rows laws group clocks pace start n term whole calm m can.number can.above first (e ++ (c ++ x ∷ [])) d
           (cut_upto ∙ ap (λ (l : List Timed). l ++ d) joined_first) since_first) u.0 u.1 asked tt
-          (appends_at ids rows laws group clocks pace start n term whole calm m upto d cut_upto leads_upto u.0 u.1 asked pends) pends
+          (appends_at ids rows laws group clocks pace start n term whole calm m upto d cut_upto leads_upto u.0 u.1 asked pends)
+          (in_term_at ids rows laws group clocks pace start n term whole calm m upto d cut_upto leads_upto u.0 u.1 asked pends) pends
+
+      late : can.number < asked.step
+      late = called_since ids rows laws group clocks pace start n term whole calm m can.number can.above first (e ++ (c ++ x ∷ [])) d
+          (cut_upto ∙ ap (λ (l : List Timed). l ++ d) joined_first) since_first late_first asked (subst (Called asked) joined_first since)
 
       taken : Taken since.earlier since.row asked
-      taken = answered asked upto d cut_upto since (let ends = ends_there in omega (arith, ends, long))
+      taken = answered asked upto d cut_upto since late (let ends = ends_there in omega (arith, ends, long))
 
       -- the answer is taken later, and the rest comes from there on
       by_answer : IsSecond since.later d taken.between taken.rest taken.row → Done a count (x.at + (4 * pace.delay + delays left))
@@ -319,7 +327,7 @@ module _ (ids : List ℕ) (rows : List _) (laws : EntryLaws ids rows) (group : L
           done_later ids rows laws group clocks pace start n term whole calm m in_m other short can a count (taken.row.at + delays left)
           (x.at + (4 * pace.delay + delays left)) (omega (arith, soon, by, ends))
           (by_calls ids rows laws group clocks pace start n term whole calm m in_m other short can a left count
-          taken.before taken.row taken.rest taken.cut ((c ++ x ∷ []) ++ (second.tail ++ taken.row ∷ [])) after taken.stepped
+          taken.before taken.row taken.rest taken.cut ((c ++ x ∷ []) ++ (second.tail ++ taken.row ∷ [])) after taken.stepped behind_call
           (taken_leading ids rows laws group clocks pace start n term whole calm m in_m other short can since.earlier (since.later ++ d) since.row
           (cut_since asked upto d cut_upto since) asked since.made taken)
           (taken_fresh ids rows laws group clocks pace start n term whole calm m in_m other short can since.earlier (since.later ++ d) since.row
@@ -336,6 +344,17 @@ module _ (ids : List ℕ) (rows : List _) (laws : EntryLaws ids rows) (group : L
               ∙ (sym (append_assoc (since.earlier ++ since.row ∷ []) since.later (second.tail ++ taken.row ∷ []))
               ∙ (ap (λ (l : List Timed). l ++ (second.tail ++ taken.row ∷ [])) (sym (front_is asked upto d cut_upto since taken) ∙ joined)
               ∙ append_assoc a (c ++ x ∷ []) (second.tail ++ taken.row ∷ [])))))
+
+          -- the row of the answer stands behind that of the call
+          behind_call : can.number ≤ (there taken.before).rows
+          behind_call =
+              let low = late in
+              let its = ap (λ (r : Request). r.step) since.made.said in
+              let here_rows = rows_counted w since.earlier in
+              let there_rows = rows_counted w taken.before in
+              let size = ap length taken.behind ∙ length-append (since.earlier ++ since.row ∷ []) taken.between in
+              let more = length-append since.earlier (since.row ∷ []) in
+              omega (arith, low, its, here_rows, there_rows, size, more)
 
           known_then : AtOnce (Known t (t.raft_server.memory.next m)) (taken.before ++ taken.row ∷ [])
           known_then = subst (AtOnce (Known t (t.raft_server.memory.next m)))

@@ -279,3 +279,32 @@ module _ (m term matched : ℕ) (base : List Entry) (left over : ℕ) where
     -- when the step is over
     pub step_knows : (t : AllocatorState) (event : Event) → Knows t.raft_server → Knows (step t number event).step_state.allocator.raft_server
     step_knows t event h = step_keeps number event Keeps (λ d. ⊤) (keeping event) t (λ arrival is d e. tt) h
+
+-- ---- terms
+
+-- a step leaves a term above another one above it
+module _ (term number : ℕ) where
+  abbrev IsAbove : RaftServer → Type 0
+  IsAbove s = term < s.store.term
+
+  above_moves : (members : List ℕ) (me : ℕ) (moves : List Move) (s : RaftServer) → IsAbove s → IsAbove (server_after_all members me number s moves)
+  above_moves members me [] s h = h
+  above_moves members me (move ∷ moves) s h = above_moves members me moves (server_after members me number s move)
+      (let up = risen (puts members me s move) s.store (puts_rise members me s move) in omega (arith, up, h))
+
+  keeps_above : (event : Event) → Keeping number event (λ g. IsAbove g.allocator.raft_server) (λ d. ⊤)
+  keeps_above event = record {
+    takes_keep = λ given moves g quiet decided h. above_moves (members_of g.allocator) g.allocator.me moves g.allocator.raft_server h;
+    proposes_keep = λ given uid node g found h. h;
+    sends_keep = λ what to payload says g sends h. h;
+    calls_keep = λ what peer move request payload g makes fits h.
+        subst (λ (ps : List Put). term < (put_all g.allocator.raft_server.store ps).term) (sym (makes.nothing (members_of g.allocator))) h;
+    responds_keep = λ what d payload says g comes responds h. h;
+    changes_keep = λ u g like h. subst IsAbove (sym like.raft_server) h;
+    watches_keep = λ node happens g has h. h;
+    tells_keep = λ g h. h;
+    hears_keep = λ d message g comes kind other read h. h;
+  }
+
+  pub stays_above : (t : AllocatorState) (event : Event) → IsAbove t.raft_server → IsAbove (step t number event).step_state.allocator.raft_server
+  stays_above t event h = step_keeps number event (λ g. IsAbove g.allocator.raft_server) (λ d. ⊤) (keeps_above event) t (λ arrival is d e. tt) h

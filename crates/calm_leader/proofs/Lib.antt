@@ -25,6 +25,7 @@ pub mod EntriesSteps
 pub mod EntriesHold
 pub mod EntriesRows
 pub mod EntriesPending
+pub mod EntriesReturn
 pub mod EntriesBack
 pub mod EntriesParts
 pub mod EntriesComing

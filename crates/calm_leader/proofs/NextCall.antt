@@ -1,17 +1,19 @@
 -- In a calm in which a member leads, each other member hears it lately: from whatever row on the leader calls it in time,
 -- and the call is heard. The rows may go on from any moment of the calm.
-use Rattle.std.proofs.Common.{◌≡◌, ◌≢◌, ℕ, ◌+◌, ◌*◌, ◌<◌, ◌≤◌, arith, max, List, [], ◌∷◌, ◌++◌, refl, sym, ◌∙◌, ap, subst, inl, inr, Some}
+use Rattle.std.proofs.Common.{◌≡◌, ◌≢◌, ℕ, ◌+◌, ◌*◌, ◌<◌, ◌≤◌, arith, max, List, [], ◌∷◌, ◌++◌, refl, sym, ◌∙◌, ap, subst, inl, inr, Some, true}
+use Rattle.std.specs.Prelude.{◌⊎◌}
 use Rattle.std.proofs.lemmas.List.{append_assoc, append-nil}
 use Rattle.can_frame.specs.declared.step.What.TheVariants.{AppQ}
 use Rattle.can_frame.specs.Timing.{call_timeout, election_wait}
 use Rattle.dsdl_codec.specs.declared.append_request.AppendRequest.{AppendRequest}
 use Rattle.raft_model.specs.Lists.{In, at_here}
-use Rattle.raft_model.specs.Server.Role.{Leader}
+use Rattle.raft_model.specs.Server.{Role}
+use Rattle.raft_model.specs.Server.Role.{Follower, Leader}
 use Rattle.replay_text.specs.declared.row.Row.{Row}
 use Rattle.replay_text.specs.declared.row.Row.TheVariants.{AEnd, AOpen, ARx, ASend, ATick, Crash, Ext, Fault, Open, Rx, Send, Tick}
-use Rattle.alloc_spec.specs.AllocatorState.{AllocatorState}
+use Rattle.alloc_spec.specs.AllocatorState.{AllocatorState, members_of}
 use Rattle.alloc_spec.specs.Step.{Event, step}
-use Rattle.alloc_spec.specs.Transfers.{Offer}
+use Rattle.alloc_spec.specs.Transfers.{Offer, SentTransfer}
 use Rattle.alloc_spec_laws.proofs.Choices.{lt_tells}
 use Rattle.alloc_spec_laws.proofs.Lists.{in_back, in_front}
 use Rattle.cluster_agreement.proofs.Concatenations.{first_harmless, row_harmless}
@@ -19,10 +21,10 @@ use Rattle.cluster_recovery.specs.Calm.{Pace, Timed, end_of, rows_in}
 use Rattle.cluster_recovery.proofs.Goes.{after_both}
 use Rattle.cluster_recovery.proofs.Members.{IsUp, steps_up}
 use Rattle.cluster_calm.specs.Calm.{AreCalm, AreRunning, IsRunning, Member as OfMember, Party}
-use Rattle.cluster_calm.specs.Calls.{Calls, CallsReadAsSaid, CalmLeavesFollowers, FollowsFrom, FollowsSince, HearsCallBy, Lists, ListsStay, MayFollow, ReadsAsSaid}
+use Rattle.cluster_calm.specs.Calls.{Calls, CallsReadAsSaid, CalmLeavesFollowers, FollowsFrom, FollowsSince, HearsCall, HearsCallBy, Lists, ListsStay, MayFollow, ReadsAsSaid}
 use Rattle.cluster_calm.specs.CallsInTime.{CalledUntil, Leads, LeadersCallInTime, OffersCall, OffersCallBy}
 use Rattle.cluster_calm.specs.Comes.{Sends, Throughout, sent_by}
-use Rattle.calm_leader.specs.LeadsOn.{FollowsWithin, IsLed}
+use Rattle.calm_leader.specs.LeadsOn.{IsLed, LeadsIn}
 use Rattle.calm_leader.specs.NoElection.{CallsFit, ClocksGoOn, greatest_wait, heard_within}
 use Rattle.cluster_calm.proofs.CallsKept.{GoesOn, IsKept, RunsWith, further}
 use Rattle.calm_leader.proofs.CallsPast.{calls_past_in, until_later}
@@ -97,6 +99,98 @@ abbrev CallsReadIn : Cluster → Type 0
 CallsReadIn v = (n : ℕ) (row : Row) (offer : Offer) → DoesNoHarm v row → IsRunning n v → Sends n v row offer → offer.what ≡ AppQ
     → ReadsAsSaid (sent_by n v offer)
 
+-- ---- who heeds a leader
+
+-- member m runs, and may follow who leads in this term: its own is lower, or the same while it does not lead
+pub record MayHeed (m term : ℕ) (w : Cluster) : Type 0 where
+  pub server : AllocatorState
+  pub runs : (w.member m).status ≡ Up server
+  pub current : (server.raft_server.store.term < term) ⊎ ((term ≡ server.raft_server.store.term) × (server.raft_server.memory.role ≢ Leader))
+
+-- member n leads in this term, and each other member of the group may follow it
+pub record IsHeeded (group : List Party) (n term : ℕ) (w : Cluster) : Type 0 where
+  pub leader : LeadsIn n term w
+  pub others : (m : ℕ) → In (OfMember m) group → m ≢ n → MayHeed m term w
+
+pub no_leader : (role : Role) → role ≡ Follower → role ≢ Leader
+no_leader role e f = cc (sym e ∙ f)
+
+-- so it is where the others follow
+pub led_heeded : (group : List Party) (n term : ℕ) (w : Cluster) → IsLed group n term w → IsHeeded group n term w
+led_heeded group n term w led = record {
+  leader = led.leader;
+  others = λ m i other. let follows = led.others m i other in record {
+    server = follows.server;
+    runs = follows.runs;
+    current = elim (lt_tells follows.server.raft_server.store.term term) [
+      | inl z ↦ inl z.1
+      | inr z ↦ inr (
+        (let low = follows.its_term in let high = z.1 in omega (arith, low, high)),
+        no_leader follows.server.raft_server.memory.role follows.follows,
+      )
+    ];
+  };
+}
+
+-- who may heed the caller, and lists it, may follow it when its call comes
+pub may_follow : (n m term ahead : ℕ) (x : SentTransfer) (request : AppendRequest) (v : Cluster) (timed : Timed) (call : HearsCall m ahead x request v timed)
+    → x.by ≡ n → request.term ≡ term → MayHeed m term v → Lists m n v → MayFollow x.by request call.delivers.server
+may_follow n m term ahead x request v timed call by its_term heeds lists = record {
+  listed = subst (λ (p : ℕ). In p (members_of call.delivers.server)) (sym by) (lists call.delivers.server call.delivers.runs);
+  current = subst (λ (t : AllocatorState). (t.raft_server.store.term < request.term)
+      ⊎ ((request.term ≡ t.raft_server.store.term) × (t.raft_server.memory.role ≢ Leader)))
+      (same_server heeds.server call.delivers.server (sym heeds.runs ∙ call.delivers.runs))
+      (subst (λ (k : ℕ). (heeds.server.raft_server.store.term < k)
+      ⊎ ((k ≡ heeds.server.raft_server.store.term) × (heeds.server.raft_server.memory.role ≢ Leader))) (sym its_term) heeds.current);
+}
+
+-- ---- a call that a leader offers
+
+-- member n calls member m, in this term
+pub record CallsInTerm (n m term : ℕ) (w : Cluster) (row : Row) : Type 0 where
+  pub offer : Offer
+  pub request : AppendRequest
+  pub calls : Calls n m w row offer request
+  pub its_term : request.term ≡ term
+
+-- a call for which the queue has room is one in the term in which the member leads behind the row
+pub call_in_term : (ids : List ℕ) (rows : List Row) (laws : CallLaws ids rows) (n m term : ℕ) (a b : List Row) (row : Row)
+    → DoNoHarm (world_of ids rows) (a ++ row ∷ b) → IsRunning n (after_rows (world_of ids rows) a)
+    → (offers : OffersCall n m (after_rows (world_of ids rows) a) row) → offers.offer.fitted ≡ true
+    → LeadsIn n term (after_row (after_rows (world_of ids rows) a) row) → CallsInTerm n m term (after_rows (world_of ids rows) a) row
+call_in_term ids rows laws n m term a b row harm running offers fitted leads = record {
+  offer = offers.offer;
+  request = reads.request;
+  calls = record { sends = sends; what = offers.what; to = offers.to; says = reads.read };
+  its_term = says_its_term offers.server (there.rows + 1) offers.event offers.offer offers.offered offers.what _ reads.said
+      ∙ ap (λ (t : AllocatorState). t.raft_server.store.term) same ∙ leads.its_term;
+}
+  where
+    there : Cluster
+    there = after_rows (world_of ids rows) a
+
+    sends : Sends n there row offers.offer
+    sends = record {
+      server = offers.server;
+      runs = offers.runs;
+      event = offers.event;
+      in_step = offers.in_step;
+      offered = offers.offered;
+      fitted = fitted;
+    }
+
+    reads : ReadsAsSaid (sent_by n there offers.offer)
+    reads = subst CallsReadIn (after_both (cluster ids) rows a) (laws.read a (first_harmless (world_of ids rows) a (row ∷ b) harm))
+        n row offers.offer (row_harmless (world_of ids rows) a b row harm) running sends offers.what
+
+    up : IsUp (step offers.server (there.rows + 1) offers.event).step_state.allocator
+        (member_after_step (there.rows + 1) offers.event (there.member n).status (there.member n))
+    up = steps_up (there.rows + 1) offers.event offers.server (there.member n)
+        (record { status = offers.runs; quiet = record { faults = running.faults; calls = running.disk } })
+
+    same : (step offers.server (there.rows + 1) offers.event).step_state.allocator ≡ leads.server
+    same = same_server _ _ (sym up.status ∙ sym (ap (λ (y : Member). y.status) (after_step there row n offers.event offers.in_step)) ∙ leads.runs)
+
 module _ (ids : List ℕ) (rows : List Row) (laws : CallLaws ids rows) (group : List Party) (clocks : Party → ℕ) (pace : Pace) (start : ℕ)
     (running : AreRunning group (world_of ids rows))
     (server_me : (p : ℕ) → In (OfMember p) group → (server : AllocatorState) → ((world_of ids rows).member p).status ≡ Up server → server.me ≡ p)
@@ -137,7 +231,7 @@ module _ (ids : List ℕ) (rows : List Row) (laws : CallLaws ids rows) (group : 
   module _ (n term : ℕ) (in_n : In (OfMember n) group) (front : List Timed) (timed : Timed)
       (from : GoesOnFrom group clocks pace start w (front ++ timed ∷ []))
       (harmless : DoNoHarm w (rows_in (front ++ timed ∷ []))) (fits : CallsFit n w (front ++ timed ∷ []))
-      (led : Throughout (IsLed group n term) w (front ++ timed ∷ []))
+      (led : Throughout (IsHeeded group n term) w (front ++ timed ∷ []))
       (m : ℕ) (in_m : In (OfMember m) group) (differs : m ≢ n) (lists_it : Lists n m w) (lists_back : Lists m n w)
       (in_time : HearsCalls clocks pace n m w (front ++ timed ∷ [])) where
     -- ---- what holds at each front of the rows before the last
@@ -157,11 +251,11 @@ module _ (ids : List ℕ) (rows : List Row) (laws : CallLaws ids rows) (group : 
     goes_at : (a b : List Timed) → front ≡ a ++ b → GoesOnFrom group clocks pace (end_of start a) (here a) (b ++ timed ∷ [])
     goes_at a b cut = calm_rest group clocks pace a (b ++ timed ∷ []) start w (from_start a b cut)
 
-    leds_at : (a b : List Timed) → front ≡ a ++ b → Throughout (IsLed group n term) (here a) (b ++ timed ∷ [])
-    leds_at a b cut = throughout_rest (IsLed group n term) a (b ++ timed ∷ []) w (subst (Throughout (IsLed group n term) w) (whole_cut a b cut) led)
+    leds_at : (a b : List Timed) → front ≡ a ++ b → Throughout (IsHeeded group n term) (here a) (b ++ timed ∷ [])
+    leds_at a b cut = throughout_rest (IsHeeded group n term) a (b ++ timed ∷ []) w (subst (Throughout (IsHeeded group n term) w) (whole_cut a b cut) led)
 
-    led_at : (a b : List Timed) → front ≡ a ++ b → IsLed group n term (here a)
-    led_at a b cut = throughout_first (IsLed group n term) b timed (here a) (leds_at a b cut)
+    led_at : (a b : List Timed) → front ≡ a ++ b → IsHeeded group n term (here a)
+    led_at a b cut = throughout_first (IsHeeded group n term) b timed (here a) (leds_at a b cut)
 
     abbrev leader_at : (a b : List Timed) → front ≡ a ++ b → RunsWith (HasRead n (end_of start a + clocks (OfMember n))) ((here a).member n)
     leader_at a b cut = runs_at n in_n a (b ++ timed ∷ []) (from_start a b cut)
@@ -172,51 +266,11 @@ module _ (ids : List ℕ) (rows : List Row) (laws : CallLaws ids rows) (group : 
 
     -- ---- a call that the leader offers
 
-    -- the leader calls the member, in its term
-    record CallsInTerm (a : List Timed) (x : Timed) : Type 0 where
-      pub offer : Offer
-      pub request : AppendRequest
-      pub calls : Calls n m (here a) x.row offer request
-      pub its_term : request.term ≡ term
-
-    is_call : (a b : List Timed) (x : Timed) → front ≡ a ++ x ∷ b → OffersCall n m (here a) x.row → CallsInTerm a x
-    is_call a b x cut offers = record {
-      offer = offers.offer;
-      request = reads.request;
-      calls = record { sends = sends; what = offers.what; to = offers.to; says = reads.read };
-      its_term = says_its_term offers.server ((here a).rows + 1) offers.event offers.offer offers.offered offers.what _ reads.said
-          ∙ ap (λ (t : AllocatorState). t.raft_server.store.term) same ∙ leads.leader.its_term;
-    }
-      where
-        sends : Sends n (here a) x.row offers.offer
-        sends = record {
-          server = offers.server;
-          runs = offers.runs;
-          event = offers.event;
-          in_step = offers.in_step;
-          offered = offers.offered;
-          fitted = fits_at n a (b ++ timed ∷ []) x w (subst (CallsFit n w) (whole_cut a (x ∷ b) cut) fits) m offers;
-        }
-
-        harm : DoNoHarm w (rows_in a ++ rows_in (x ∷ b ++ timed ∷ []))
-        harm = subst (DoNoHarm w) (ap rows_in (whole_cut a (x ∷ b) cut) ∙ rows_both a (x ∷ b ++ timed ∷ [])) harmless
-
-        reads : ReadsAsSaid (sent_by n (here a) offers.offer)
-        reads = subst CallsReadIn (after_both (cluster ids) rows (rows_in a))
-            (laws.read (rows_in a) (first_harmless w (rows_in a) (rows_in (x ∷ b ++ timed ∷ [])) harm))
-            n x.row offers.offer (row_harmless w (rows_in a) (rows_in (b ++ timed ∷ [])) x.row harm) (leader_runs a (x ∷ b) cut) sends offers.what
-
-        leads : IsLed group n term (after_row (here a) x.row)
-        leads = subst (IsLed group n term) (world_both w a (x ∷ [])) (led_at (a ++ x ∷ []) b (cut ∙ sym (append_assoc a (x ∷ []) b)))
-
-        up : IsUp (step offers.server ((here a).rows + 1) offers.event).step_state.allocator
-            (member_after_step ((here a).rows + 1) offers.event ((here a).member n).status ((here a).member n))
-        up = steps_up ((here a).rows + 1) offers.event offers.server ((here a).member n)
-            (record { status = offers.runs; quiet = (leader_at a (x ∷ b) cut).up.quiet })
-
-        same : (step offers.server ((here a).rows + 1) offers.event).step_state.allocator ≡ leads.leader.server
-        same = same_server _ _ (sym up.status ∙ sym (ap (λ (y : Member). y.status) (after_step (here a) x.row n offers.event offers.in_step))
-            ∙ leads.leader.runs)
+    is_call : (a b : List Timed) (x : Timed) → front ≡ a ++ x ∷ b → OffersCall n m (here a) x.row → CallsInTerm n m term (here a) x.row
+    is_call a b x cut offers = call_in_term ids rows laws n m term (rows_in a) (rows_in (b ++ timed ∷ [])) x.row
+        (subst (DoNoHarm w) (ap rows_in (whole_cut a (x ∷ b) cut) ∙ rows_both a (x ∷ b ++ timed ∷ [])) harmless) (leader_runs a (x ∷ b) cut) offers
+        (fits_at n a (b ++ timed ∷ []) x w (subst (CallsFit n w) (whole_cut a (x ∷ b) cut) fits) m offers)
+        (subst (LeadsIn n term) (world_both w a (x ∷ [])) (led_at (a ++ x ∷ []) b (cut ∙ sym (append_assoc a (x ∷ []) b))).leader)
 
     -- from each front on the leader offers one in time
     offers_by : (a b : List Timed) → front ≡ a ++ b → end_of start a + call_timeout + pace.period < timed.at
@@ -225,7 +279,7 @@ module _ (ids : List ℕ) (rows : List Row) (laws : CallLaws ids rows) (group : 
         (leader_runs a b cut) in_n
         (laws.stay group clocks pace from.traffic n m a (b ++ timed ∷ []) w (running n in_n) (calm_cut a b cut) lists_it run.server run.up.status)
         (λ e. differs (e ∙ run.holds.me)) until goes.calm
-        (throughout_so (IsLed group n term) (Leads n) so (b ++ timed ∷ []) (here a) (leds_at a b cut))
+        (throughout_so (IsHeeded group n term) (Leads n) so (b ++ timed ∷ []) (here a) (leds_at a b cut))
         (omega arith) (omega (arith, goes.at_end)) (let ticked = goes.ticked (OfMember n) in omega (arith, ticked))
         (let ends = end_last goes.traffic.at b timed in omega (arith, ends, long))
       where
@@ -238,7 +292,7 @@ module _ (ids : List ℕ) (rows : List Row) (laws : CallLaws ids rows) (group : 
         run : RunsWith (HasRead n moment) ((here a).member n)
         run = leader_at a b cut
 
-        so : (v : Cluster) → IsLed group n term v → Leads n v
+        so : (v : Cluster) → IsHeeded group n term v → Leads n v
         so v led_then server up = subst (λ (t : AllocatorState). t.raft_server.memory.role ≡ Leader)
             (same_server led_then.leader.server server (sym led_then.leader.runs ∙ up)) led_then.leader.leads
 
@@ -262,7 +316,7 @@ module _ (ids : List ℕ) (rows : List Row) (laws : CallLaws ids rows) (group : 
       pub late : least ≤ moment
       pub follows : FollowsSince m moment (after_row (here before) row.row)
 
-    -- a call that comes is heard, since the member follows in no higher term
+    -- a call that comes is heard, since the member may follow who leads
     hears_it : (a b : List Timed) → front ≡ a ++ b → (least : ℕ) → ((x : Timed) → In x b → least ≤ x.at)
         → (offer : Offer) (request : AppendRequest) → request.term ≡ term
         → (bound : ℕ) → bound < timed.at → HearsCallBy m (clocks (OfMember m)) (sent_by n (here a) offer) request bound (here a) (b ++ timed ∷ [])
@@ -291,31 +345,13 @@ module _ (ids : List ℕ) (rows : List Row) (laws : CallLaws ids rows) (group : 
         there : here before ≡ after_rows (here a) (rows_in by.front)
         there = world_both w a by.front
 
-        within : FollowsWithin m term (after_rows (here a) (rows_in by.front))
-        within = subst (FollowsWithin m term) there ((led_at before (by.timed ∷ found.0) split_at).others m in_m differs)
-
-        same : within.server ≡ by.call.delivers.server
-        same = same_server within.server by.call.delivers.server (sym within.runs ∙ by.call.delivers.runs)
-
         lists : Lists m n (after_rows (here a) (rows_in by.front))
         lists = subst (Lists m n) there (laws.stay group clocks pace from.traffic m n before ((by.timed ∷ found.0) ++ timed ∷ []) w (running m in_m)
             (calm_cut before (by.timed ∷ found.0) split_at) lists_back)
 
         may : MayFollow n request by.call.delivers.server
-        may = record {
-          listed = lists by.call.delivers.server by.call.delivers.runs;
-          current =
-              let its = within.its_term in
-              let same_term : within.server.raft_server.store.term ≡ by.call.delivers.server.raft_server.store.term
-              = ap (λ (t : AllocatorState). t.raft_server.store.term) same in
-              elim (lt_tells by.call.delivers.server.raft_server.store.term request.term) [
-                | inl z ↦ inl z.1
-                | inr z ↦ inr (
-                  omega (arith, z.1, its, same_term, its_term),
-                  λ leads. absurd (cc (sym within.follows, ap (λ (t : AllocatorState). t.raft_server.memory.role) same, leads)),
-                )
-              ];
-        }
+        may = may_follow n m term (clocks (OfMember m)) (sent_by n (here a) offer) request (after_rows (here a) (rows_in by.front)) by.timed by.call refl its_term
+            (subst (MayHeed m term) there ((led_at before (by.timed ∷ found.0) split_at).others m in_m differs)) lists
 
     -- from each front on the member hears the leader in time
     hears_from : (a b : List Timed) → front ≡ a ++ b → end_of start a + heard_within pace < timed.at → HearsFrom (end_of start a + clocks (OfMember m))
@@ -337,7 +373,7 @@ module _ (ids : List ℕ) (rows : List Row) (laws : CallLaws ids rows) (group : 
         split_at : front ≡ c ++ by.timed ∷ found.0
         split_at = cut ∙ ap (λ (l : List Timed). a ++ l) found.2 ∙ sym (append_assoc a by.front (by.timed ∷ found.0))
 
-        call : CallsInTerm c by.timed
+        call : CallsInTerm n m term (here c) by.timed.row
         call = is_call c found.0 by.timed split_at (subst (λ (v : Cluster). OffersCall n m v by.timed.row) (sym (world_both w a by.front)) by.offers)
 
         above : (x : Timed) → In x (by.timed ∷ found.0) → end_of start a ≤ x.at

@@ -18,9 +18,9 @@ use Rattle.calm_leader.specs.LeadsOn.{FollowsWithin, IsLed, NobodyStands, WaitsO
 use Rattle.calm_leader.specs.NoElection.{CallsFit, ClocksGoOn, HasHeard, NoElection, greatest_wait, heard_within}
 use Rattle.cluster_calm.proofs.CallsKept.{GoesOn, IsKept, RunsWith, further}
 use Rattle.calm_leader.proofs.FirstWait.{FollowsUntil, IsBetween, first_wait}
-use Rattle.calm_leader.proofs.NextCall.{CallLaws, FollowsLately, HearsCalls, follows_lately, runs_at}
+use Rattle.calm_leader.proofs.NextCall.{CallLaws, FollowsLately, HearsCalls, IsHeeded, follows_lately, led_heeded, runs_at}
 use Rattle.cluster_calm.proofs.Pair.{same_server}
-use Rattle.calm_leader.proofs.Stretches.{GoesOnFrom, HasLast, calm_first, calm_rest, end_last, fits_front, in_between, nobody_front, nobody_more, none_or_last, rows_both, throughout_by, throughout_more}
+use Rattle.calm_leader.proofs.Stretches.{GoesOnFrom, HasLast, calm_first, calm_rest, end_last, fits_front, in_between, nobody_front, nobody_more, none_or_last, rows_both, throughout_by, throughout_more, throughout_so}
 use Rattle.cluster_spec.specs.Cluster.{Cluster, after_rows, world_of}
 use Rattle.cluster_spec.specs.Lawful.{DoNoHarm}
 use Rattle.cluster_spec.specs.Members.MemberStatus.{Up}
@@ -74,12 +74,13 @@ module _ (ids : List ℕ) (rows : List Row) (laws : CallLaws ids rows) (ticks : 
     upto_cut : whole ≡ upto ++ rest
     upto_cut = cut ∙ sym (append_assoc front (timed ∷ []) rest)
 
-    led_upto : Throughout (IsLed group n term) w upto
-    led_upto = throughout_more (IsLed group n term) front timed w
+    led_upto : Throughout (IsHeeded group n term) w upto
+    led_upto = throughout_so (IsLed group n term) (IsHeeded group n term) (led_heeded group n term) upto w
+        (throughout_more (IsLed group n term) front timed w
         (throughout_by (IsLed group n term) front w (λ a b x same. begins.leads_on a (x ∷ b ++ timed ∷ rest)
         (cut ∙ ap (λ (l : List Timed). l ++ timed ∷ rest) same ∙ append_assoc a (x ∷ b) (timed ∷ rest))
         (nobody_front n a (x ∷ b) w (subst (NobodyStands n w) same nobody))))
-        (begins.leads_on front (timed ∷ rest) cut nobody)
+        (begins.leads_on front (timed ∷ rest) cut nobody))
 
     module _ (m : ℕ) (in_m : In (OfMember m) group) (differs : m ≢ n) where
       abbrev base : ℕ

@@ -6,13 +6,15 @@ use Rattle.can_frame.specs.Timing.{election_wait, transfer_timeout}
 use Rattle.raft_model.specs.Lists.{In}
 use Rattle.replay_text.specs.declared.row.Row.{Row}
 use Rattle.alloc_spec.specs.AllocatorState.{AllocatorState}
+use Rattle.alloc_spec.specs.Transfers.{id_of}
 use Rattle.cluster_agreement.proofs.Concatenations.{first_harmless}
 use Rattle.cluster_progress.specs.InTime.{FramesLeaveFollowers, StaysFollower}
 use Rattle.cluster_recovery.specs.Calm.{Pace, Timed, end_of, rows_in}
 use Rattle.cluster_recovery.proofs.Goes.{after_both}
 use Rattle.cluster_calm.specs.Calls.{Calls, CallsAreHeard, HearsCallBy}
 use Rattle.cluster_calm.specs.Calm.{AreCalm, AreRunning, Member as OfMember, Party, no_traffic}
-use Rattle.cluster_calm.specs.Comes.{HasMemory, Throughout, sent_by}
+use Rattle.can_frame.specs.declared.step.What.TheVariants.{AppQ}
+use Rattle.cluster_calm.specs.Comes.{AreReady, HasMemory, MayComeFirst, Throughout, sent_by}
 use Rattle.calm_leader.specs.LeadsOn.{IsLed, LeadersLeadOn}
 use Rattle.calm_leader.specs.NoElection.{CallsFit, ClocksGoOn, NoElection, WillHear, greatest_wait, heard_within}
 use Rattle.cluster_calm.proofs.CallsKept.{RunsWith}
@@ -23,6 +25,32 @@ use Rattle.calm_leader.proofs.Stretches.{GoesOnFrom, calm_front, calm_rest, harm
 use Rattle.cluster_spec.specs.Cluster.{Cluster, after_rows, cluster, world_of}
 use Rattle.cluster_spec.specs.Lawful.{DoNoHarm}
 use Rattle.cluster_spec.specs.Members.MemberStatus.{Up}
+
+-- ---- a call behind the first rows comes as any call of the calm does
+
+module _ (ids : List ℕ) (rows : List Row) (hear : CallsAreHeard ids rows) (group : List Party) (clocks : Party → ℕ) (pace : Pace) (start : ℕ)
+    (listed : (p : ℕ) → In (OfMember p) group → In p ids) (running : AreRunning group (world_of ids rows)) (n m : ℕ) (in_n : In (OfMember n) group)
+    (in_m : In (OfMember m) group) (differs : m ≢ n) (first later : List Timed) (quick : 2 * pace.delay ≤ transfer_timeout)
+    (ready : AreReady n m AppQ m (world_of ids rows)) (first_call : MayComeFirst n AppQ m ready.receiver (id_of ready.sender.ids AppQ m))
+    (memory : Throughout (HasMemory m) (world_of ids rows) (first ++ later))
+    (calm : AreCalm group clocks pace (no_traffic start) (world_of ids rows) (first ++ later)) where
+  cut_at : (front rest a b : List Timed) (x : Timed) → later ≡ front ++ rest → front ≡ a ++ x ∷ b → first ++ later ≡ ((first ++ a) ++ x ∷ b) ++ rest
+  cut_at front rest a b x cut split = ap (λ (l : List Timed). first ++ l) (cut ∙ ap (λ (l : List Timed). l ++ rest) split)
+      ∙ (sym (append_assoc first (a ++ x ∷ b) rest) ∙ ap (λ (l : List Timed). l ++ rest) (sym (append_assoc first a (x ∷ b))))
+
+  pub hears_in_time : (front rest : List Timed) → later ≡ front ++ rest
+      → HearsCalls clocks pace n m (after_rows (world_of ids rows) (rows_in first)) front
+  hears_in_time front rest cut a b x offer request split calls long =
+      let w = world_of ids rows in
+      subst
+      (λ (v : Cluster). HearsCallBy m (clocks (OfMember m)) (sent_by n v offer) request (x.at + 2 * pace.delay) v (x ∷ b))
+      (world_both w first a)
+      (hear group clocks pace start n m (first ++ a) b x offer request listed running in_n in_m (λ e. differs (sym e)) quick ready first_call
+      (calm_front group clocks pace ((first ++ a) ++ x ∷ b) rest (no_traffic start) w
+      (subst (AreCalm group clocks pace (no_traffic start) w) (cut_at front rest a b x cut split) calm))
+      (throughout_front (HasMemory m) ((first ++ a) ++ x ∷ b) rest w
+      (subst (Throughout (HasMemory m) w) (cut_at front rest a b x cut split) memory))
+      (subst (λ (v : Cluster). Calls n m v x.row offer request) (sym (world_both w first a)) calls) long)
 
 module _ (ids : List ℕ) (rows : List Row) (laws : CallLaws ids rows) (hear : CallsAreHeard ids rows) (leads_on : LeadersLeadOn ids rows)
     (group : List Party) (clocks : Party → ℕ) (pace : Pace) (start : ℕ)
@@ -58,33 +86,17 @@ module _ (ids : List ℕ) (rows : List Row) (laws : CallLaws ids rows) (hear : C
   is_run p i server up = subst (HasRead p (moment + clocks (OfMember p)))
       (same_server (run p i).server server (sym (run p i).up.status ∙ up)) (run p i).holds
 
-  -- ---- a call behind the first rows comes as any call of the calm does
+  -- ---- what each other member hears
 
   module _ (m : ℕ) (in_m : In (OfMember m) group) (differs : m ≢ n) where
     its : WillHear n m (moment + clocks (OfMember m) + heard_within pace) w first later
     its = will m in_m differs
 
-    cut_at : (front rest a b : List Timed) (x : Timed) → later ≡ front ++ rest → front ≡ a ++ x ∷ b
-        → first ++ later ≡ ((first ++ a) ++ x ∷ b) ++ rest
-    cut_at front rest a b x cut split = ap (λ (l : List Timed). first ++ l) (cut ∙ ap (λ (l : List Timed). l ++ rest) split)
-        ∙ (sym (append_assoc first (a ++ x ∷ b) rest) ∙ ap (λ (l : List Timed). l ++ rest) (sym (append_assoc first a (x ∷ b))))
-
-    in_time : (front rest : List Timed) → later ≡ front ++ rest → HearsCalls clocks pace n m there front
-    in_time front rest cut a b x offer request split calls long = subst
-        (λ (v : Cluster). HearsCallBy m (clocks (OfMember m)) (sent_by n v offer) request (x.at + 2 * pace.delay) v (x ∷ b))
-        (world_both w first a)
-        (hear group clocks pace start n m (first ++ a) b x offer request listed running in_n in_m (λ e. differs (sym e)) quick its.ready its.first_call
-        (calm_front group clocks pace ((first ++ a) ++ x ∷ b) rest (no_traffic start) w
-        (subst (AreCalm group clocks pace (no_traffic start) w) (cut_at front rest a b x cut split) calm))
-        (throughout_front (HasMemory m) ((first ++ a) ++ x ∷ b) rest w
-        (subst (Throughout (HasMemory m) w) (cut_at front rest a b x cut split) its.memory))
-        (subst (λ (v : Cluster). Calls n m v x.row offer request) (sym (world_both w first a)) calls) long)
-
     can_hear : CanHear group clocks pace moment n term later m there
     can_hear = record {
       calls = laws.stay group clocks pace (no_traffic start) n m first later w (running n in_n) calm its.calls;
       hears = laws.stay group clocks pace (no_traffic start) m n first later w (running m in_m) calm its.hears;
-      in_time = in_time;
+      in_time = hears_in_time ids rows hear group clocks pace start listed running n m in_n in_m differs first later quick its.ready its.first_call its.memory calm;
       waits = its.waits;
     }
 

@@ -131,6 +131,10 @@ pub fits_front : (n : ℕ) (front rest : List Timed) (w : Cluster) → CallsFit 
 fits_front n [] rest w all = tt
 fits_front n (first ∷ front) rest w all = (all.0, fits_front n front rest (after_row w first.row) all.1)
 
+pub fits_rest : (n : ℕ) (front rest : List Timed) (w : Cluster) → CallsFit n w (front ++ rest) → CallsFit n (after_rows w (rows_in front)) rest
+fits_rest n [] rest w all = all
+fits_rest n (first ∷ front) rest w all = fits_rest n front rest (after_row w first.row) all.1
+
 -- ---- calm rows
 
 module _ (group : List Party) (clocks : Party → ℕ) (pace : Pace) where

@@ -20,7 +20,7 @@ use Rattle.calm_leader.proofs.RowsOfOne.{IsLeft, left_up, stepped_up}
 use Rattle.calm_leader.proofs.Stretches.{fits_at, world_both}
 use Rattle.cluster_calm.specs.Calls.{Lists}
 use Rattle.cluster_calm.specs.Calm.{AreCalm, AreRunning, IsRunning, Member as OfMember, Party, no_traffic}
-use Rattle.cluster_calm.specs.CallsInTime.{Leads}
+use Rattle.cluster_calm.specs.CallsInTime.{Leads, OffersCall}
 use Rattle.cluster_calm.proofs.Calls.{Goes, further_on}
 use Rattle.cluster_calm.proofs.CallsOffered.{Offered, step_keeps_calls, touches_after}
 use Rattle.cluster_calm.proofs.Pair.{same_server}
@@ -129,10 +129,20 @@ module _ (ids : List ℕ) (rows : List Row) (laws : EntryLaws ids rows) (group :
         step_in None = 0
         step_in (Some request) = request.step
 
+  -- the row is a step of the member
+  steps_then : ((event : Event) → step_of there timed.row ≡ Some (n, event) → ⊥) → ⊥
+  steps_then none =
+      let left : IsLeft there n t goes.runs.up (then_.member n) = left_up there n t goes.runs.up group clocks pace goes.traffic timed.at timed.row goes.calm.1 none in
+      leads_not t goes.runs.up.status (sym (ap (λ (s : RaftServer). s.memory.role) left.same.raft_server) ∙ leads left.server left.its_up.status)
+
   pub winner_calls : PendsSince n m w.rows then_ × GoesOnCalling n m then_
-  winner_calls = elim (step_or_not there timed.row n) [
-    | inl z ↦ called z.0 z.1
-    | inr none ↦
-        let left : IsLeft there n t goes.runs.up (then_.member n) = left_up there n t goes.runs.up group clocks pace goes.traffic timed.at timed.row goes.calm.1 none in
-        absurd (leads_not t goes.runs.up.status (sym (ap (λ (s : RaftServer). s.memory.role) left.same.raft_server) ∙ leads left.server left.its_up.status))
+  winner_calls = elim (step_or_not there timed.row n) [ inl z ↦ called z.0 z.1 | inr none ↦ absurd (steps_then none) ]
+
+  -- so it offers the peer a call in the row
+  pub winner_offers_it : OffersCall n m there timed.row
+  winner_offers_it = elim (step_or_not there timed.row n) [
+    | inl z ↦
+        let o = offered z.0 z.1 in
+        record { server = t; runs = goes.runs.up.status; event = z.0; in_step = z.1; offer = o.0; offered = o.1; what = o.2; to = o.3 }
+    | inr none ↦ absurd (steps_then none)
   ]

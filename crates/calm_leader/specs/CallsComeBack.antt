@@ -70,6 +70,14 @@ pub record ComesBack (n m : ℕ) (x : SentTransfer) (request : AppendRequest) (a
       (answer_by (there.rows + 1) delivers.server (asked_by x request m)) (at + 4 * delay)
       (after_row there timed.row) rest
 
+-- In these rows, which begin in the world w, each call of member n to member m comes back within four delays, or the
+-- rows are over by then.
+abbrev pub CallsReturn : (n m delay : ℕ) → Cluster → List Timed → Type 0
+CallsReturn n m delay w whole = (front rest : List Timed) (timed : Timed) (offer : Offer) (request : AppendRequest) →
+    whole ≡ front ++ timed ∷ rest → let there = after_rows w (rows_in front) in
+    Calls n m there timed.row offer request → timed.at + 4 * delay < end_of timed.at rest →
+    ComesBack n m (sent_by n there offer) request timed.at delay there (timed ∷ rest)
+
 -- In each calm from the world of these rows on, of rows that do no harm, in which four delays are shorter than the call
 -- timeout: where a member of the group, once it leads in the calm, leads on in one term, and calls another member, the
 -- call comes back, or the calm is over by then. The two list each other; no call from the one to the other waits when

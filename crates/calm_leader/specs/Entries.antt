@@ -20,7 +20,7 @@ use Rattle.alloc_spec.specs.AllocatorState.{AllocatorState}
 use Rattle.alloc_spec.specs.Transfers.{SentTransfer, id_of}
 use Rattle.cluster_recovery.specs.Calm.{Pace, Timed, end_of, rows_in}
 use Rattle.cluster_calm.specs.Calls.{Lists}
-use Rattle.calm_leader.specs.CallsComeBack.{HasPlace, LeadsOn}
+use Rattle.calm_leader.specs.CallsComeBack.{CallsReturn, HasPlace, LeadsOn}
 use Rattle.cluster_calm.specs.Calm.{AreCalm, AreRunning, Member, Party, no_traffic}
 use Rattle.cluster_calm.specs.Comes.{AreReady, Delivers, HasMemory, MayComeFirst, Throughout}
 use Rattle.calm_leader.specs.LeadsOn.{IsLedThroughout}
@@ -127,6 +127,29 @@ pub record HasComeBy (n m count last start : ℕ) (w : Cluster) (whole : List Ti
   pub known : count ≤ leader.raft_server.memory.matched m
   pub has : Same count leader.raft_server.store.log peer.raft_server.store.log
 
+-- In each calm in which calls come back (`CallsComeBack` says when that is so), and behind any first rows of it: where
+-- a member of the group, once it leads in the calm, leads on in one term, and can exchange calls and answers with
+-- another member, each call that it makes to that one behind the first rows comes back.
+abbrev pub CallsReturnToWhoLeadsOn : List ℕ → List Row → Type 0
+CallsReturnToWhoLeadsOn ids rows = (group : List Party) (clocks : Party → ℕ) (pace : Pace) (start n m term : ℕ)
+    (first later : List Timed) → let w = world_of ids rows in let whole = first ++ later in
+    ((p : ℕ) → In (Member p) group → In p ids) → AreRunning group w → In (Member n) group → In (Member m) group →
+    m ≢ n →
+    4 * pace.delay < call_timeout → AreCalm group clocks pace (no_traffic start) w whole → DoNoHarm w (rows_in whole) →
+    CanExchange n m w whole → LeadsOn n term w whole → CallsReturn n m pace.delay (after_rows w (rows_in first)) later
+
+-- The first of these rows begin in the world w. Behind them the leader n goes on calling member m, which is on its
+-- list. Of the first rows some are `early`. Behind those each call of n to m comes back; and each call to m that waits
+-- for its answer behind the first rows was made there. What calls and answers went before is not asked.
+pub record KeepsCalling (n m delay : ℕ) (w : Cluster) (first later : List Timed) : Type 0 where
+  pub lists_it : Lists n m w
+  pub early : List Timed
+  pub since : List Timed
+  pub split : first ≡ early ++ since
+  pub back : CallsReturn n m delay (after_rows w (rows_in early)) (since ++ later)
+  pub pends : PendsSince n m (after_rows w (rows_in early)).rows (after_rows w (rows_in first))
+  pub goes_on : GoesOnCalling n m (after_rows w (rows_in first))
+
 -- So long it takes at most until so many calls are answered. A leader reads its clock within a period. Then a call may
 -- be under way, which is none of them; behind it each answer is followed by the next call at once. A call and its
 -- answer take two delays each.
@@ -134,13 +157,12 @@ abbrev pub come_within : Pace → ℕ → ℕ
 come_within pace more = pace.period + 4 * pace.delay * (more + 1)
 
 -- In each calm from the world of these rows on, of rows that do no harm, in which four delays are shorter than the call
--- timeout. Member n may not lead when the calm begins; once it leads, it leads on in this term. After some first rows
--- it leads, and from there on the other members of the group follow in no higher term (`no_election_comes_in_calm` says
--- when that is so); its calls find room in its queue. It can exchange calls and answers with another member of the
--- group, whatever that one's log is. After the first rows it goes on calling it, and a call to it that waits for its
--- answer then was made in the calm. From each front on behind there, at which so many calls at most are left: all
--- places that the leader's log has then come to the member in time, or the calm is over by then. What is put into the
--- log meanwhile does not count.
+-- timeout. After some first rows member n leads, and from there on it leads on in this term, and the other members of
+-- the group follow in no higher one (`no_election_comes_in_calm` says when that is so); its calls find room in its
+-- queue. Whether it led before, and in which term, is not asked. It keeps calling another member of the group, whatever
+-- that one's log is, and its calls come back. From each front on behind there, at which so many calls at most are left:
+-- all places that the leader's log has then come to the member in time, or the calm is over by then. What is put into
+-- the log meanwhile does not count.
 abbrev pub EntriesComeInTime : List ℕ → List Row → Type 0
 EntriesComeInTime ids rows = (group : List Party) (clocks : Party → ℕ) (pace : Pace) (start n m term more : ℕ)
     (first front rest : List Timed) (leader : AllocatorState) → let w = world_of ids rows in
@@ -148,8 +170,8 @@ EntriesComeInTime ids rows = (group : List Party) (clocks : Party → ℕ) (pace
     ((p : ℕ) → In (Member p) group → In p ids) → AreRunning group w → In (Member n) group → In (Member m) group →
     m ≢ n →
     4 * pace.delay < call_timeout → AreCalm group clocks pace (no_traffic start) w whole → DoNoHarm w (rows_in whole) →
-    LeadsOn n term w whole → IsLedThroughout group n term there (front ++ rest) → CallsFit n w whole →
-    CanExchange n m w whole → PendsSince n m w.rows there → GoesOnCalling n m there →
+    IsLedThroughout group n term there (front ++ rest) → CallsFit n w whole →
+    KeepsCalling n m pace.delay w first (front ++ rest) →
     ((after_rows there (rows_in front)).member n).status ≡ Up leader → calls_left leader m ≤ more →
     let then = end_of (end_of start first) front in then + come_within pace more < end_of start whole →
     HasComeBy n m (length leader.raft_server.store.log) (then + come_within pace more) (end_of start first) there
@@ -183,8 +205,8 @@ EntriesAreCommittedInTime ids rows = (group : List Party) (clocks : Party → �
     ((p : ℕ) → In (Member p) group → In p ids) → AreRunning group w → In (Member n) group →
     ((m : ℕ) → In m others → In (Member m) group × (m ≢ n)) → quorum ids ≤ how_many (is_one_of n others) ids →
     4 * pace.delay < call_timeout → AreCalm group clocks pace (no_traffic start) w whole → DoNoHarm w (rows_in whole) →
-    LeadsOn n term w whole → IsLedThroughout group n term there (front ++ rest) → CallsFit n w whole →
-    ((m : ℕ) → In m others → CanExchange n m w whole × PendsSince n m w.rows there × GoesOnCalling n m there) →
+    IsLedThroughout group n term there (front ++ rest) → CallsFit n w whole →
+    ((m : ℕ) → In m others → KeepsCalling n m pace.delay w first (front ++ rest)) →
     ((after_rows there (rows_in front)).member n).status ≡ Up leader →
     ((m : ℕ) → In m others → calls_left leader m ≤ more) →
     term_at leader.raft_server.store.log (length leader.raft_server.store.log) ≡ term →

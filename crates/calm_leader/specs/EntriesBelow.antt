@@ -13,7 +13,6 @@ use Rattle.cluster_agreement.specs.Duty.{AreDutiful}
 use Rattle.cluster_progress.specs.InTime.{StaysInTouch}
 use Rattle.cluster_calm.specs.Calls.{CallsReadAsSaid, ListsStay}
 use Rattle.calm_leader.specs.CallsAsk.{CallsAskNext}
-use Rattle.calm_leader.specs.CallsComeBack.{CallsComeBack}
 use Rattle.calm_leader.specs.Entries.{CallsInStepAreAccepted}
 use Rattle.cluster_spec.specs.Cluster.{Cluster, world_of}
 use Rattle.cluster_spec.specs.Lawful.{DoNoHarm}
@@ -44,6 +43,12 @@ AppendsPend ids w = (n m : ℕ) (leader : AllocatorState) (request : Request) �
     (w.member n).status ≡ Up leader → leader.raft_server.memory.role ≡ Leader →
     leader.raft_server.memory.pending m ≡ Some request → request.append ≡ true
 
+-- where member n leads, each of its calls that pends is of its term
+abbrev pub PendInTerm : List ℕ → Cluster → Type 0
+PendInTerm ids w = (n m : ℕ) (leader : AllocatorState) (request : Request) → In n ids →
+    (w.member n).status ≡ Up leader → leader.raft_server.memory.role ≡ Leader →
+    leader.raft_server.memory.pending m ≡ Some request → request.term ≡ leader.raft_server.store.term
+
 -- of these rows, and of more behind them that do no harm
 pub record EntryLaws (ids : List ℕ) (rows : List Row) : Type 0 where
   pub me : (t : AllocatorState) (number : ℕ) (event : Event) → (step t number event).step_state.allocator.me ≡ t.me
@@ -57,8 +62,8 @@ pub record EntryLaws (ids : List ℕ) (rows : List Row) : Type 0 where
   pub duty : (more : List Row) → DoNoHarm (world_of ids rows) more → AreDutiful ids (rows ++ more)
   pub has : (more : List Row) → DoNoHarm (world_of ids rows) more → HasWhatIsKnown ids (world_of ids (rows ++ more))
   pub appends : (more : List Row) → DoNoHarm (world_of ids rows) more → AppendsPend ids (world_of ids (rows ++ more))
+  pub terms : (more : List Row) → DoNoHarm (world_of ids rows) more → PendInTerm ids (world_of ids (rows ++ more))
   pub inside : (more : List Row) → DoNoHarm (world_of ids rows) more → CallsInside ids (world_of ids (rows ++ more))
   pub past : PendingCallsArePast ids (world_of ids rows)
   pub node : (p : ℕ) (server : AllocatorState) → In p ids → ((world_of ids rows).member p).status ≡ Up server →
       server.me ≡ p
-  pub back : CallsComeBack ids rows

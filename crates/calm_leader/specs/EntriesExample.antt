@@ -9,7 +9,7 @@ use Rattle.cluster_calm.specs.Calm.{AreCalm, AreRunning, no_traffic}
 use Rattle.cluster_calm.specs.CalmExample.{append_rows, clocks, first_rows, group, leading_row, pace, receiver, sender}
 use Rattle.cluster_calm.specs.CalmExample.{sending_row, start, then_world, two, vote_rows}
 use Rattle.calm_leader.specs.CallsComeBack.{LeadsNotIfUp, LeadsOn}
-use Rattle.calm_leader.specs.Entries.{CanExchange, GoesOnCalling, PendsSince, calls_left, come_within}
+use Rattle.calm_leader.specs.Entries.{CanExchange, KeepsCalling, calls_left, come_within}
 use Rattle.calm_leader.specs.LeadsOn.{IsLedThroughout}
 use Rattle.calm_leader.specs.NoElection.{CallsFit}
 use Rattle.cluster_spec.specs.Cluster.{Cluster, after_rows, cluster}
@@ -49,8 +49,7 @@ pub record EntriesMayCome : Type 0 where
   pub led : IsLedThroughout group sender 1 won_world led_rows
   pub fit : CallsFit sender then_world (won_rows ++ led_rows)
   pub can : CanExchange sender receiver then_world (won_rows ++ led_rows)
-  pub since : PendsSince sender receiver then_world.rows won_world
-  pub goes_on : GoesOnCalling sender receiver won_world
+  pub calling : KeepsCalling sender receiver pace.delay then_world won_rows led_rows
   pub leader : AllocatorState
   pub leads : (won_world.member sender).status ≡ Up leader
   pub few : calls_left leader receiver ≤ 0

@@ -5,7 +5,7 @@ ghost use Rattle.calm_leader.specs.CallsAsk.{CallsAskNext};
 ghost use Rattle.calm_leader.specs.CallsComeBack.{CallsComeBack};
 ghost use Rattle.calm_leader.specs.CallsExample.{MayComeBack};
 ghost use Rattle.calm_leader.specs.Entries.{CallsInStepAreAccepted, CallsInStepAreAcceptedInRuns};
-ghost use Rattle.calm_leader.specs.Entries.{EntriesAreCommittedInTime, EntriesComeInTime};
+ghost use Rattle.calm_leader.specs.Entries.{CallsReturnToWhoLeadsOn, EntriesAreCommittedInTime, EntriesComeInTime};
 ghost use Rattle.calm_leader.specs.EntriesBelow.{EntryLaws};
 ghost use Rattle.calm_leader.specs.EntriesExample.{EntriesMayCome};
 ghost use Rattle.calm_leader.specs.LeadsOn.{IsLed, LeadersLeadOn};
@@ -216,6 +216,17 @@ pub fn calls_can_come_back()
     calm_can_be();
 }
 
+/// So the calls of who leads on come back, in a calm as above and behind any first rows of it: where a member of the
+/// group, once it leads in the calm, leads on in one term, and can exchange calls and answers with another member when
+/// the calm begins, each call that it makes to that one behind the first rows comes back in time, or the calm is over
+/// by then.
+pub fn calls_return_to_who_leads_on()
+    ensures { (ids : List ℕ) (rows : List Row) → AreMembers ids → DoNoHarm (cluster ids) rows →
+        CallsReturnToWhoLeadsOn ids rows }
+{
+    calls_come_back();
+}
+
 /// The premises of [`entries_come_in_time`] can be met, also where the leader wins in the calm: behind the rows of
 /// [`calls_can_come_back`], in which member 1 comes to lead, the two read their clocks, for longer than a period and
 /// four delays.
@@ -223,15 +234,17 @@ pub fn entries_may_come()
     ensures { EntriesMayCome }
 {
     calls_can_come_back();
+    calls_return_to_who_leads_on();
     calm_can_be();
     winners_call();
 }
 
 /// A leader's entries come to a member in time, whatever the member's log is. In a calm as above, of rows that do no
-/// harm, in which four delays are shorter than the call timeout: a member of the group may not lead when the calm
-/// begins, but once it leads, it leads on in one term. From behind some first rows on it leads, and the others follow.
-/// It can exchange calls and answers with another member when the calm begins. Behind the first rows it goes on calling
-/// that member, and a call to it that waits for its answer then was made in the calm. From any moment behind there on,
+/// harm, in which four delays are shorter than the call timeout: from behind some first rows on a member of the group
+/// leads on in one term, and the others follow. Whether it led before, in this term or another, is not asked. It keeps
+/// calling another member: behind the first rows it goes on calling it, and from some moment on its calls come back
+/// ([`calls_return_to_who_leads_on`] says when that is so), and a call to it that waits for its answer behind the first
+/// rows was made behind that moment. From any moment behind there on,
 /// each place that the leader's log has by then is in the member's log too, and the leader knows so, within a period
 /// and four delays, and four delays more for each call that is left: one for each place by which the next call is too
 /// far on, and one for each place that the leader did not know the member to have; or the calm is over by then. A
@@ -270,7 +283,6 @@ pub fn what_entries_stand_on()
 {
     a_choice_fits();
     calls_ask_for_the_next_place();
-    calls_come_back();
     calls_read_as_said();
     calls_to_who_is_in_step_are_accepted();
     law_every_run();

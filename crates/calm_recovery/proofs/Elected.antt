@@ -15,14 +15,15 @@ use Rattle.cluster_calm.proofs.CallsKept.{IsKept}
 use Rattle.cluster_calm.proofs.Pair.{same_server}
 use Rattle.calm_election.specs.Elections.{EndsBy, IsCalmRestart, OthersFollow}
 use Rattle.calm_election.specs.Terms.{NobodyLeads, TermsDoNotFall}
+use Rattle.calm_election.proofs.ElectionsEnd.{all_run, opened}
 use Rattle.calm_leader.specs.CallsComeBack.{LeadsIfUp, LeadsNotIfUp}
 use Rattle.calm_leader.specs.LeadsOn.{IsLed, IsLedThroughout}
 use Rattle.calm_leader.specs.NoElection.{CallsFit, NoElection, NoElectionComes}
-use Rattle.calm_leader.proofs.Stretches.{end_both, throughout_at, throughout_by, world_both}
+use Rattle.calm_leader.proofs.Stretches.{end_both, fits_rest, throughout_at, throughout_by, world_both}
 use Rattle.calm_recovery.specs.Restart.{IsStart, settled_within}
-use Rattle.calm_recovery.proofs.Fronts.{Won, fits_rest, up_at, won}
+use Rattle.calm_recovery.proofs.Fronts.{Won, up_at, won}
 use Rattle.calm_recovery.proofs.Following.{cut_here, follow_on}
-use Rattle.calm_recovery.proofs.Started.{all_running, clocks_go_on, opened, ready}
+use Rattle.calm_rounds.proofs.Opened.{clocks_go_on, ready}
 use Rattle.calm_service.proofs.ServedCommitted.{two_cuts}
 use Rattle.cluster_spec.specs.Cluster.{AreMembers, Cluster, after_row, after_rows, world_of}
 use Rattle.cluster_spec.specs.Lawful.{DoNoHarm}
@@ -75,7 +76,7 @@ module _ (frames_leave : FramesLeaveFollowers) (ids : List ℕ) (members : AreMe
   is_here a = world_both w F (S ∷ a)
 
   abbrev running : AreRunning group w
-  running = all_running ids rows group clocks pace start whole r
+  running = all_run ids rows group clocks pace start whole r
 
   cut_at : (a b : List Timed) → G ≡ a ++ b → whole ≡ (F ++ S ∷ a) ++ (b ++ ends.wins.rest)
   cut_at = cut_here frames_leave ids rows group clocks pace start ended whole r running Sized sized sized_kept sized_first ends follow

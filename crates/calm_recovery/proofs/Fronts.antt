@@ -9,7 +9,6 @@ use Rattle.cluster_calm.specs.Comes.{Throughout}
 use Rattle.cluster_calm.proofs.Calls.{Always}
 use Rattle.cluster_calm.proofs.CallsKept.{IsKept, further}
 use Rattle.calm_leader.specs.CallsComeBack.{LeadsIfUp, LeadsNotIfUp, LeadsOn}
-use Rattle.calm_leader.specs.NoElection.{CallsFit}
 use Rattle.calm_service.specs.ServedTold.{HasRoomInSteps}
 use Rattle.calm_service.specs.Settled.{NobodyIsMissed}
 use Rattle.cluster_spec.specs.Cluster.{Cluster, after_row, after_rows}
@@ -20,10 +19,6 @@ use Rattle.cluster_spec.specs.Members.MemberStatus.{Up}
 pub room_rest : (n : ℕ) (front rest : List Timed) (w : Cluster) → HasRoomInSteps n w (front ++ rest) → HasRoomInSteps n (after_rows w (rows_in front)) rest
 room_rest n [] rest w all = all
 room_rest n (x ∷ front) rest w all = room_rest n front rest (after_row w x.row) all.1
-
-pub fits_rest : (n : ℕ) (front rest : List Timed) (w : Cluster) → CallsFit n w (front ++ rest) → CallsFit n (after_rows w (rows_in front)) rest
-fits_rest n [] rest w all = all
-fits_rest n (x ∷ front) rest w all = fits_rest n front rest (after_row w x.row) all.1
 
 pub missed_rest : (n : ℕ) (front rest : List Timed) (w : Cluster) → NobodyIsMissed n w (front ++ rest) → NobodyIsMissed n (after_rows w (rows_in front)) rest
 missed_rest n [] rest w all = all

@@ -1,3 +1,9 @@
+pub mod Back
+pub mod BackFine
+pub mod BackFronts
+pub mod BackGiven
+pub mod BackScenes
+pub mod BackSettles
 pub mod Elected
 pub mod Following
 pub mod Fronts
@@ -7,6 +13,9 @@ pub mod RestartMeets
 pub mod RestartMeetsRows
 pub mod RestartTests
 pub mod Returning
+pub mod Serves
+pub mod ServesHeard
+pub mod ServesLogs
 pub mod Settling
 pub mod Started
 pub mod Winning

@@ -25,8 +25,10 @@ use Rattle.cluster_calm.proofs.Pair.{same_server}
 use Rattle.calm_recovery.proofs.Fronts.{keeps_at}
 use Rattle.calm_election.specs.Elections.{EndsBy, OthersFollow}
 use Rattle.calm_election.specs.Terms.{LogsStay, TermsDoNotFall}
+use Rattle.calm_election.proofs.ElectionsEnd.{all_run, opened}
 use Rattle.calm_election.proofs.RowsLeave.{IsLeft, row_leaves}
 use Rattle.calm_election.proofs.WaitsTicks.{tick_leaves}
+use Rattle.calm_leader.specs.Entries.{CallsReturnToWhoLeadsOn}
 use Rattle.calm_leader.specs.WinnersCall.{WinnersCall}
 use Rattle.calm_leader.specs.LeadsOn.{IsLedThroughout}
 use Rattle.calm_leader.proofs.Stretches.{calm_first, calm_rest, not_before, rows_both}
@@ -34,7 +36,6 @@ use Rattle.calm_leader.specs.NoElection.{NoElectionComes}
 use Rattle.calm_recovery.specs.Restart.{ComesBackBy, HasJustWon, IsStart, WinnersBeginAnew, settled_within}
 use Rattle.calm_recovery.proofs.Elected as elected
 use Rattle.calm_recovery.proofs.Settling.{settles}
-use Rattle.calm_recovery.proofs.Started.{all_running, opened}
 use Rattle.calm_recovery.proofs.Winning.{frame_wins}
 use Rattle.calm_service.specs.Settles.{LeadersSettle}
 use Rattle.calm_service.specs.Tidy.{MembersStayTidy, TidyMembersMissNobody}
@@ -90,7 +91,7 @@ module _ (frames_leave : FramesLeaveFollowers) (ids : List ℕ) (members : AreMe
     (terms_rise : TermsDoNotFall ids rows) (no_election : NoElectionComes ids rows)
     (knows : (p : ℕ) (store : Store) (moment word : ℕ) → In (OfMember p) group → knows_all (opening_by p (rules_of ids true) store moment word) ≡ true)
     (stay : MembersStayTidy ids rows) (none_missed : TidyMembersMissNobody ids rows) (logs_stay : LogsStay ids rows) (winners : WinnersCall ids rows)
-    (settle : LeadersSettle ids rows)
+    (return : CallsReturnToWhoLeadsOn ids rows) (settle : LeadersSettle ids rows)
     (last_low : (m : ℕ) (t : AllocatorState) → In (OfMember m) group → ((world_of ids rows).member m).status ≡ Up t
     → last_term t.raft_server.store.log ≤ t.raft_server.store.term) where
   abbrev w : Cluster
@@ -142,7 +143,7 @@ module _ (frames_leave : FramesLeaveFollowers) (ids : List ℕ) (members : AreMe
   earlier =
       let low = last_low c stored ends.member stored_up in
       let rise = terms_rise group clocks pace start c [] ends.front (ends.timed ∷ ends.rest) stored ends.stands.before
-      (all_running ids rows group clocks pace start whole s.restart) (subst (AreCalm group clocks pace (no_traffic start) w) ends.split s.restart.calm) ends.member
+      (all_run ids rows group clocks pace start whole s.restart) (subst (AreCalm group clocks pace (no_traffic start) w) ends.split s.restart.calm) ends.member
       stored_up ends.stands.runs in
       let next = ends.stands.next in omega (arith, low, rise, next)
 
@@ -153,7 +154,7 @@ module _ (frames_leave : FramesLeaveFollowers) (ids : List ℕ) (members : AreMe
       → t.times.waits ≡ true → t.raft_server.memory.role ≢ Leader → u.raft_server.memory.role ≡ Leader
       → u.raft_server.store.term ≡ t.raft_server.store.term → HasJustWon t u
   anew t u up up_then knows_there waits none leads same_term =
-      let sized_at = keeps_at w group clocks pace start whole s.restart.calm (all_running ids rows group clocks pace start whole s.restart) c ends.member Sized sized_kept
+      let sized_at = keeps_at w group clocks pace start whole s.restart.calm (all_run ids rows group clocks pace start whole s.restart) c ends.member Sized sized_kept
       (sized_first c ends.member) before (x ∷ (few ++ rest)) in_parts in
       begins_anew c there x.row t u
       (row_harmless w (rows_in before) (rows_in (few ++ rest)) x.row
@@ -178,7 +179,7 @@ module _ (frames_leave : FramesLeaveFollowers) (ids : List ℕ) (members : AreMe
     runs = stored_up;
     settles = settles ids members rows group clocks pace start longest before x (few ++ rest) s_then
         (λ p i. knows p (s_then.restart.opened p i).store (s_then.restart.opened p i).moment (s_then.restart.opened p i).word i) lists stay none_missed logs_stay winners
-        settle c ends.term ends.member
+        return settle c ends.term ends.member
         (elected.none_before frames_leave ids members rows group clocks pace start longest ended whole s ends follow long Sized sized sized_kept sized_first lists
         terms_rise no_election)
         (elected.none_there frames_leave ids members rows group clocks pace start longest ended whole s ends follow long Sized sized sized_kept sized_first lists

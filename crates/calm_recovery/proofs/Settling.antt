@@ -1,10 +1,9 @@
 -- Who has come to lead in a calm of members that were just opened, and leads on, settles in time.
 use Rattle.std.proofs.Common.{◌≡◌, ◌≢◌, ℕ, ◌+◌, ◌*◌, ◌<◌, ◌≤◌, arith, true, List, [], ◌∷◌, ◌++◌, length, append_assoc, refl, sym, ◌∙◌, ap, subst, inl, inr}
 use Rattle.std.specs.Prelude.{max}
-use Rattle.alloc_exchange.specs.Exchange.{Accepted, answer}
+use Rattle.alloc_exchange.specs.Exchange.{Accepted, answer, last_moment}
 use Rattle.alloc_exchange.specs.declared.heard.Heard.TheVariants.{Whole}
 use Rattle.can_frame.specs.declared.entry.Entry.{Entry}
-use Rattle.can_frame.specs.declared.step.What.TheVariants.{App, AppQ}
 use Rattle.can_frame.specs.Log.{last_term, log_limit}
 use Rattle.raft_model.specs.Lists.{In, how_many}
 use Rattle.raft_model.specs.Server.{quorum}
@@ -25,8 +24,9 @@ use Rattle.cluster_calm.proofs.CallsKept.{IsKept}
 use Rattle.cluster_calm.proofs.Pair.{same_server}
 use Rattle.calm_election.specs.Elections.{IsCalmRestart}
 use Rattle.calm_election.specs.Terms.{LogsStay, NobodyLeads}
+use Rattle.calm_election.proofs.ElectionsEnd.{all_run, none_waits, opened}
 use Rattle.calm_leader.specs.CallsComeBack.{LeadsIfUp, LeadsNotIfUp, LeadsOn}
-use Rattle.calm_leader.specs.Entries.{CanExchange, GoesOnCalling, PendsSince, calls_left, is_one_of}
+use Rattle.calm_leader.specs.Entries.{CallsReturnToWhoLeadsOn, CanExchange, GoesOnCalling, PendsSince, calls_left, is_one_of}
 use Rattle.calm_leader.specs.LeadsOn.{IsLedThroughout}
 use Rattle.calm_leader.specs.NoElection.{CallsFit}
 use Rattle.calm_leader.specs.WinnersCall.{WinnersCall}
@@ -34,7 +34,8 @@ use Rattle.calm_leader.proofs.Stretches.{throughout_by, throughout_more, through
 use Rattle.calm_recovery.specs.Restart.{HasJustWon, IsStart, settled_within}
 use Rattle.calm_recovery.proofs.Fronts.{keeps_at, leads_on_by, missed_rest, room_rest}
 use Rattle.calm_recovery.proofs.Others.{apart_in, as_many, at_most_one, knows_none, not_alone, others_in}
-use Rattle.calm_recovery.proofs.Started.{all_running, no_append, no_discovery, opened, ready, tidy, waits}
+use Rattle.calm_recovery.proofs.Started.{no_discovery, tidy, waits}
+use Rattle.calm_rounds.proofs.Opened as opened_members
 use Rattle.calm_service.specs.Settled.{IsCalmUnder, NobodyIsMissed}
 use Rattle.calm_service.specs.Settles.{GrowsBy, HasComeToLead, HasSettledBy, IsToSettle, LeadersSettle, settle_within}
 use Rattle.calm_service.specs.Tidy.{IsTidy, MembersStayTidy, TidyMembersMissNobody}
@@ -58,7 +59,7 @@ module _ (ids : List ℕ) (members : AreMembers ids) (rows : List Row) (group : 
     (knows : (p : ℕ) (i : In (OfMember p) group) → knows_all (opened ids rows group clocks pace start ((before ++ x ∷ []) ++ later) s.restart p i) ≡ true)
     (lists : (n m : ℕ) → In (OfMember n) group → In (OfMember m) group → Lists n m (world_of ids rows))
     (stay : MembersStayTidy ids rows) (none_missed : TidyMembersMissNobody ids rows) (logs_stay : LogsStay ids rows) (winners : WinnersCall ids rows)
-    (settle : LeadersSettle ids rows) where
+    (return : CallsReturnToWhoLeadsOn ids rows) (settle : LeadersSettle ids rows) where
   abbrev w : Cluster
   w = world_of ids rows
 
@@ -85,7 +86,7 @@ module _ (ids : List ℕ) (members : AreMembers ids) (rows : List Row) (group : 
   same_world = world_both w before (x ∷ [])
 
   abbrev running : AreRunning group w
-  running = all_running ids rows group clocks pace start whole r
+  running = all_run ids rows group clocks pace start whole r
 
   calm_parts : AreCalm group clocks pace (no_traffic start) w (before ++ x ∷ later)
   calm_parts = subst (AreCalm group clocks pace (no_traffic start) w) in_parts r.calm
@@ -138,7 +139,7 @@ module _ (ids : List ℕ) (members : AreMembers ids) (rows : List Row) (group : 
         )
 
     same_log : (t.raft_server.store.log ≡ log) × (t.raft_server.store.commit ≡ stored.raft_server.store.commit)
-    same_log = logs_stay group clocks pace start c before (x ∷ later) stored t r.listed running (no_append ids rows group clocks pace start whole r) calm_parts member
+    same_log = logs_stay group clocks pace start c before (x ∷ later) stored t r.listed running (none_waits ids rows group clocks pace start whole r) calm_parts member
         none none_then (r.opened c member).runs up_before.1
 
     its_term : t.raft_server.store.term ≡ term
@@ -184,14 +185,14 @@ module _ (ids : List ℕ) (members : AreMembers ids) (rows : List Row) (group : 
       disk = its_tidy.disk;
       leads = leads_then.0;
       log_is = log_then;
-      told = won.told ∙ sym won.commit;
+      told = let e = won.told in let h = won.commit in omega (arith, e, h);
       waits = λ some. inl (record {
         waits = waits_then;
         not_yet = not_yet (omega (arith, some));
         earlier = let e = leads_then.1 in let h = earlier in omega (arith, e, h);
         room = its_logs.1 (let k = commit_then in omega (arith, k, some));
       });
-      requests = its_tidy.requests;
+      requests = let e = ap (λ (l : List Accepted). last_moment l) its_tidy.requests in omega (arith, e);
       clock = its_tidy.clock;
       status = its_tidy.status;
       known = λ other no_one. its_tidy.listed other (or_false (is_on_list (members_of u) other) (is_recorded u.raft_server.store.log other) no_one).0;
@@ -222,17 +223,7 @@ module _ (ids : List ℕ) (members : AreMembers ids) (rows : List Row) (group : 
     -- ---- others can catch up
 
     can_exchange : (m : ℕ) → In (OfMember m) group → CanExchange c m w whole
-    can_exchange m i = record {
-      calls_it = lists c m member i;
-      hears_it = lists m c i member;
-      calls = ready ids rows group clocks pace start whole r c m AppQ m member i;
-      first_call = tt;
-      answers = ready ids rows group clocks pace start whole r m c App c i member;
-      first_answer = tt;
-      memory = r.memory c member;
-      its_memory = r.memory m i;
-      place = r.place m i;
-    }
+    can_exchange m i = opened_members.can_exchange ids rows group clocks pace start whole r lists c m member i
 
     calls : (m : ℕ) → In (OfMember m) group → m ≢ c → PendsSince c m w.rows led_from × GoesOnCalling c m led_from
     calls m i differs = subst (λ (v : Cluster). PendsSince c m w.rows v × GoesOnCalling c m v) (sym same_world)
@@ -267,16 +258,22 @@ module _ (ids : List ℕ) (members : AreMembers ids) (rows : List Row) (group : 
         under = under;
         new = new;
         few = let f = its_logs.0 in omega (arith, f);
-        leads_on = leads_on;
         fits = s.calls c member;
         room = room_rest c first later w (s.room c member);
         short = r.quick;
         catch_up = record {
           apart = apart;
           many = many;
-          exchange = λ m i. can_exchange m (apart m i).0;
-          pends = λ m i. (calls m (apart m i).0 (apart m i).1).0;
-          goes_on = λ m i. (calls m (apart m i).0 (apart m i).1).1;
+          calling = λ m i. record {
+            lists_it = lists c m member (apart m i).0;
+            early = [];
+            since = first;
+            split = refl;
+            back = return group clocks pace start c m term [] whole r.listed running member (apart m i).0 (apart m i).1 r.quick r.calm r.harmless
+                (can_exchange m (apart m i).0) leads_on;
+            pends = (calls m (apart m i).0 (apart m i).1).0;
+            goes_on = (calls m (apart m i).0 (apart m i).1).1;
+          };
           few = λ m i. few_left m;
         };
         long = omega (arith, long, beyond);
@@ -285,7 +282,7 @@ module _ (ids : List ℕ) (members : AreMembers ids) (rows : List Row) (group : 
       abbrev ends : ℕ
       ends = end_of start first + settle_within pace (2 * longest) longest
 
-      -- no request is whole
+      -- no request makes the log grow
       none_grows : GrowsBy c term log (clocks (OfMember c)) (end_of start first) ends led_from later → ⊥
       none_grows g =
           let cut : whole ≡ (first ++ g.front) ++ (g.timed ∷ g.rest)

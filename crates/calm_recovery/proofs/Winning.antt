@@ -1,5 +1,5 @@
 -- What a frame leaves by which a member comes to lead in its term: it has just won, and nothing else is done.
-use Rattle.std.proofs.Common.{◌≡◌, ◌≢◌, ℕ, ◌+◌, Bool, true, false, List, [], ◌∷◌, refl, drop, Option, Some, None, sym, ap, subst, inl, inr, arith, ◌≤◌, ◌<◌, ◌∙◌, zero, suc}
+use Rattle.std.proofs.Common.{◌≡◌, ◌≢◌, ℕ, ◌+◌, Bool, true, false, List, [], ◌∷◌, refl, drop, Option, Some, None, sym, ap, subst, inl, inr, arith, ◌≤◌, ◌<◌, ◌∙◌}
 use Rattle.std.specs.Prelude.{◌&&◌, ◌||◌, ◌-◌, length, nat_eq, nat_le, nat_lt, not, slice_index_or, ◌⊎◌, if◌then◌else◌, max}
 use Rattle.alloc_exchange.specs.declared.heard.Heard.{Heard}
 use Rattle.alloc_exchange.specs.declared.heard.Heard.TheVariants.{Denied, FollowUp, Ignored, Whole}
@@ -17,17 +17,16 @@ use Rattle.dsdl_codec.specs.VoteAnswer.{vote_answer_of}
 use Rattle.id_selector.specs.Choice.{chosen}
 use Rattle.node_discovery.specs.Watch.{some_unknown}
 use Rattle.raft_core.specs.Calls.{due, due_unless}
-use Rattle.raft_core.specs.Handled.{answer_of, append_request_of, vote_request_of, is_moment, moves_of_expire}
-use Rattle.raft_core.specs.Times.{Times, given_at, given_call, is_awaited, is_silent, times_after, HandedIn, overdue, times_after_all}
-use Rattle.raft_model.specs.Decisions.{commit_index, grants, verdict_on, can_commit, greatest_to}
+use Rattle.raft_core.specs.Handled.{answer_of, append_request_of, vote_request_of, is_moment}
+use Rattle.raft_core.specs.Times.{given_at, given_call, is_awaited, is_silent, overdue}
+use Rattle.raft_model.specs.Decisions.{commit_index, grants, verdict_on, can_commit}
 use Rattle.raft_model.specs.Duty.{commit_moves, is_heard, takes_blank}
-use Rattle.raft_model.specs.Handlers.{server_after}
 use Rattle.raft_model.specs.Messages.{Request, Answer}
 use Rattle.raft_model.specs.Messages.Message.{Requests}
 use Rattle.raft_model.specs.Moves.{Move}
 use Rattle.raft_model.specs.Moves.Elections.{is_leader, with_term, counting_memory, counts, has_quorum, memory_without_call, stepped_down, term_puts, votes_with, win_memory, with_vote}
 use Rattle.raft_model.specs.Moves.Leading.{append_request, vote_request, has_matched}
-use Rattle.raft_model.specs.Moves.Move.{AnswerAgain, CallForVote, CallToAppend, GiveUp, TakeAppendAnswer, TakeVoteAnswer, TakeVoteRequest}
+use Rattle.raft_model.specs.Moves.Move.{AnswerAgain, CallForVote, CallToAppend, TakeAppendAnswer, TakeVoteAnswer, TakeVoteRequest}
 use Rattle.raft_model.specs.Server.{RaftServer, Role, Memory, Store, put_all, quorum}
 use Rattle.raft_model.specs.Server.Role.{Candidate, Follower, Leader}
 use Rattle.transfer_rx.specs.Reassembly.{Answer as Received, Arrival, Continues, Delivery, Drops, Gives, answer}
@@ -51,35 +50,13 @@ use Rattle.raft_model.specs.Moves.Appending.{Verdict, acknowledges, append_memor
 use Rattle.raft_model.specs.Moves.Appending.Verdict.{Added, Held, Outdated, Refused}
 use Rattle.raft_model.specs.Server.Put.{PutTerm, PutVote}
 use Rattle.cluster_progress.proofs.Begins.{IsAsBefore, expired}
+use Rattle.calm_service.proofs.SettledRaft.{greatest_passes}
+use Rattle.calm_service.proofs.SettledRows.{begins_waiting}
 use Rattle.calm_recovery.proofs.Others.{at_most_one, knows_none}
 use Rattle.alloc_spec_laws.proofs.Peers.{members_list}
 use Rattle.alloc_exchange.specs.Exchange as exchange
 use Rattle.dsdl_codec.specs.AppendRequest as append_codec
 use Rattle.dsdl_codec.specs.VoteRequest as vote_codec
-
--- a number that is found passes the test
-one_number : (a b : ℕ) → Some a ≡ Some b → a ≡ b
-one_number a b e = cc (e)
-
-greatest_passes : (limit : ℕ) (test : ℕ → Bool) (found : ℕ) → greatest_to limit test ≡ Some found → test found ≡ true
-greatest_passes zero test found e = by (test zero) refl e
-  where
-    by : (b : Bool) → test zero ≡ b → (if b then Some zero else None) ≡ Some found → test found ≡ true
-    by true passes f = subst (λ (n : ℕ). test n ≡ true) (one_number zero found f) passes
-    by false passes f = absurd (cc (f))
-greatest_passes (suc limit) test found e = by (λ f. greatest_passes limit test found f) (test (suc limit)) refl e
-  where
-    by : (greatest_to limit test ≡ Some found → test found ≡ true) → (b : Bool) → test (suc limit) ≡ b
-        → (if b then Some (suc limit) else greatest_to limit test) ≡ Some found → test found ≡ true
-    by rest true passes f = subst (λ (n : ℕ). test n ≡ true) (one_number (suc limit) found f) passes
-    by rest false passes f = rest f
-
--- calls that are given up leave how a member waits with its blank
-waits_left : (members : List ℕ) (me number : ℕ) (given : HandedIn) (nodes : List ℕ) (server : RaftServer) (times : Times)
-    → (times_after_all members me number given server (moves_of_expire nodes) times).waits ≡ times.waits
-waits_left members me number given [] server times = refl
-waits_left members me number given (node ∷ nodes) server times =
-    waits_left members me number given nodes (server_after members me number server (GiveUp node)) (times_after members me given server (GiveUp node) times)
 
 -- ---- a server that does not lead, or has just won
 
@@ -374,6 +351,6 @@ frame_wins t number arrival none waits two leads = elim (at_frame t.raft_server.
     comes : Comes t.raft_server.store.log t.raft_server.store.commit (when_come t number arrival)
     comes = record {
       it_does_not = (λ e. none (sym before.role ∙ e), ap (λ (x : Store). x.log) before.store, ap (λ (x : Store). x.commit) before.store);
-      waits = waits_left (members_of (at_moment arrival.moment t)) t.me number (given_at (max t.now arrival.moment)) nodes t.raft_server t.times ∙ waits;
+      waits = begins_waiting (members_of (at_moment arrival.moment t)) t.me number (given_at (max t.now arrival.moment)) nodes t.raft_server t.times ∙ waits;
       two = two;
     }

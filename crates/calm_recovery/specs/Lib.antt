@@ -1,2 +1,3 @@
+pub mod ComeBack
 pub mod Restart
 pub mod RestartExample

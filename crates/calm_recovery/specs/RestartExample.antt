@@ -9,6 +9,7 @@ use Rattle.cluster_calm.specs.Calm.{Member, Party}
 use Rattle.cluster_calm.specs.CalmExample.{clocks, two}
 use Rattle.calm_election.specs.Elections.{IsAhead, election_within}
 use Rattle.calm_recovery.specs.Restart.{IsStart, settled_within}
+use Rattle.calm_rounds.specs.Running.{IsCalmOf}
 use Rattle.cluster_spec.specs.Cluster.{AreMembers, Cluster, cluster, world_of}
 use Rattle.cluster_spec.specs.Lawful.{DoNoHarm}
 
@@ -87,7 +88,9 @@ restart_rows = waiting_rows ++ election_rows ++ led_rows ++ last_rows
 
 -- ---- the premises
 
--- The rows meet each premise of `ClustersInStepSettle`.
+-- The rows meet each premise of `ClustersInStepSettle`. They are such a calm too (`rounds`) as the laws on members with
+-- any roles, terms and logs ask for, and so meet all premises of `LeadersCome` but one: they are shorter than that law
+-- gives a leader to come.
 pub record ClusterMayStart : Type 0 where
   pub members : AreMembers two
   pub before : DoNoHarm (cluster two) opening_rows
@@ -95,3 +98,4 @@ pub record ClusterMayStart : Type 0 where
   pub ahead : (m : ℕ) → In (Member m) members_only → IsAhead members_only m opened_world
   pub long : opened_at + election_within restart_pace + settled_within restart_pace no_entries
       < end_of opened_at restart_rows
+  pub rounds : IsCalmOf two opening_rows members_only clocks restart_pace opened_at restart_rows

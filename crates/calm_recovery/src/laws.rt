@@ -1,6 +1,7 @@
 //! The laws of this crate, each the contract of a function that does nothing.
 
 ghost use Rattle.calm_election.specs.Elections.{election_within};
+ghost use Rattle.calm_recovery.specs.ComeBack.{ClustersComeBack, DevicesAreServed};
 ghost use Rattle.calm_recovery.specs.Restart.{ClustersInStepSettle, ComesBackBy, StartedClustersSettle};
 ghost use Rattle.calm_recovery.specs.Restart.{WinnersBeginAnew, settled_within};
 ghost use Rattle.calm_recovery.specs.RestartExample.{ClusterMayStart, members_only, no_entries, opened_at};
@@ -9,17 +10,25 @@ ghost use Rattle.cluster_calm.specs.CalmExample.{clocks};
 ghost use Rattle.cluster_spec.specs.Cluster.{AreMembers, cluster};
 ghost use Rattle.cluster_spec.specs.Lawful.{DoNoHarm};
 ghost use Rattle.replay_text.specs.declared.row.Row.{Row};
-ghost use Rattle.std.specs.Prelude.{ℕ, ◌+◌, List};
+ghost use Rattle.std.specs.Prelude.{List, ℕ, ◌+◌};
 
 use alloc_spec_laws::laws::members_of_a_step;
 use calm_election::laws::{elections_end, logs_stay_in_calm, terms_do_not_fall};
-use calm_leader::laws::{no_election_comes_in_calm, winners_call};
-use calm_service::laws::{discoveries_miss_nobody, leaders_settle_in_calm, members_stay_tidy};
+use calm_leader::laws::{calls_return_to_who_leads_on, no_election_comes_in_calm, winners_call};
+use calm_rounds::laws::{
+    calls_return_in_rounds, leaders_come, leaders_go_on_calling, opened_members_go_on_calmly,
+};
+use calm_service::laws::{
+    asking_devices_are_heard_out_in_calm, discoveries_miss_nobody,
+    heard_devices_are_served_in_calm, heard_known_devices_are_told_in_calm, leaders_settle_in_calm,
+    members_stay_tidy, recorded_devices_are_served_in_calm, requests_are_the_devices,
+    who_follows_falls_silent, who_leads_has_come_to_lead,
+};
 use cluster_agreement::below::what_a_step_keeps;
 use cluster_agreement::headline::{a_choice_fits, rows_are_shown, rows_grow_by_one};
 use cluster_calm::laws::calm_can_be;
 use cluster_progress::laws::followers_follow_on;
-use raft_model::laws::{law_every_run, law_members};
+use raft_model::laws::{law_every_run, law_fit, law_members};
 
 /// Who wins begins anew. In a row that does no harm, in which a member of a cluster of two or more comes to lead in the
 /// term that it had: its log is as it was, and what it has committed; it has told all of that, and no more; it knows of
@@ -41,6 +50,7 @@ pub fn started_clusters_settle()
         StartedClustersSettle ids rows }
 {
     a_choice_fits();
+    calls_return_to_who_leads_on();
     discoveries_miss_nobody();
     followers_follow_on();
     law_every_run();
@@ -71,7 +81,9 @@ pub fn clusters_in_step_settle()
 
 /// The premises of [`clusters_in_step_settle`] can be met together (`premises`): two members are opened at one moment,
 /// with empty stores, and are told their list. The rows are calm, do no harm, and go on for longer than the law asks;
-/// in them one member stands, wins, and leads on. So the cluster comes back in time (`back`).
+/// in them one member stands, wins, and leads on. So the cluster comes back in time (`back`). The rows are also such a
+/// calm as `calm_rounds` asks for in its laws on members with any roles, terms and logs, though shorter than the time
+/// in which a leader comes by [`calm_rounds::laws::leaders_come`].
 pub fn clusters_may_start()
     ensures premises { ClusterMayStart }
     ensures back { ComesBackBy members_only clocks restart_pace opened_at (opened_at + election_within restart_pace)
@@ -79,4 +91,54 @@ pub fn clusters_may_start()
 {
     calm_can_be();
     clusters_in_step_settle();
+    opened_members_go_on_calmly();
+}
+
+/// A cluster comes back in time, whatever state its members are in. In a calm of members only, in which each member
+/// runs and is fit to serve when it begins, whatever roles, terms and logs they have: within `led_within` a member
+/// leads and no election comes any more, and within `settled_in` more it has settled, with whatever log it has then; or
+/// the calm is over by then. No two members stand for election within eight delays of each other.
+pub fn clusters_come_back()
+    ensures { (ids : List ℕ) (rows : List Row) → AreMembers ids → DoNoHarm (cluster ids) rows →
+        ClustersComeBack ids rows }
+{
+    a_choice_fits();
+    calls_return_in_rounds();
+    discoveries_miss_nobody();
+    law_every_run();
+    law_fit();
+    leaders_come();
+    leaders_go_on_calling();
+    leaders_settle_in_calm();
+    members_stay_tidy();
+    rows_are_shown();
+    rows_grow_by_one();
+    who_leads_has_come_to_lead();
+}
+
+/// A device that asks is served in time, whatever state the members are in. In a calm as for [`clusters_come_back`]
+/// with one device besides, which asks: within `served_within` it holds a node ID, or the calm is over by then. Each
+/// log that a member comes to have has the device's unique ID, or a place for it.
+pub fn devices_are_served()
+    ensures { (ids : List ℕ) (rows : List Row) → AreMembers ids → DoNoHarm (cluster ids) rows →
+        DevicesAreServed ids rows }
+{
+    a_choice_fits();
+    asking_devices_are_heard_out_in_calm();
+    calls_return_in_rounds();
+    discoveries_miss_nobody();
+    heard_devices_are_served_in_calm();
+    heard_known_devices_are_told_in_calm();
+    law_every_run();
+    law_fit();
+    leaders_come();
+    leaders_go_on_calling();
+    leaders_settle_in_calm();
+    members_stay_tidy();
+    recorded_devices_are_served_in_calm();
+    requests_are_the_devices();
+    rows_are_shown();
+    rows_grow_by_one();
+    who_follows_falls_silent();
+    who_leads_has_come_to_lead();
 }

@@ -55,7 +55,7 @@ use Rattle.cluster_agreement.proofs.Lists.{in_append}
 -- ---- the calls at its end are no Allocations
 
 -- its Allocations are of these offers
-abbrev From : List Offer → StepState → Type 0
+abbrev pub From : List Offer → StepState → Type 0
 From offers g = (x : Offer) → In x g.offers → x.what ≡ Alloc → In x offers
 
 module _ (number : ℕ) (offers : List Offer) where
@@ -77,7 +77,7 @@ module _ (number : ℕ) (offers : List Offer) where
       either (From offers) (has_room g.allocator.queue (append_call_bytes request_)) _ _ (λ e. s) (λ e. s)
   owed_from (Some move) g h = h
 
-  calls_from : (peers : List ℕ) (g : StepState) → From offers g → From offers (calls_all number peers g)
+  pub calls_from : (peers : List ℕ) (g : StepState) → From offers g → From offers (calls_all number peers g)
   calls_from [] g h = h
   calls_from (peer ∷ peers) g h = calls_from peers (calls_peer number peer g) (owed_from (owed g.allocator.raft_server g.allocator.times peer g.allocator.now) g h)
 

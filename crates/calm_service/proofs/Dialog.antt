@@ -170,7 +170,7 @@ module _ (g : Talk) (requests : RequestsAreRequests) (delivered : RequestsAreDel
 module _ (laws : CalmLaws) (session_laws : SessionLaws) (apart : (t : AllocatorState) (number : ℕ) (event : Event) → AreAllApart (step t number event).step_state.offers)
     (ids : List ℕ) (nodes : (p : ℕ) → In p ids → (1 ≤ p) × (p ≤ 125)) (choice : ℕ → Bool) (made : List SentTransfer) (w : Cluster) (run : raft.World)
     (shows : Shows choice made w run) (same : w.ids ≡ ids) (places : (p : ℕ) (t : AllocatorState) → (w.member p).status ≡ Up t → HasPlaces t.ids)
-    (g : Talk) (listed : (p : ℕ) → In (OfMember p) g.group → In p ids) (running : AreRunning g.group w)
+    (g : Talk) (begins : g.base ≡ g.start + its_clock g) (listed : (p : ℕ) → In (OfMember p) g.group → In p ids) (running : AreRunning g.group w)
     (come : HasJustCome g.group g.clocks g.start g.n g.a g.uid g.preferred g.log w) where
   there : (p : ℕ) → In (OfMember p) g.group → In p w.ids
   there p i = subst (λ (l : List ℕ). In p l) (sym same) (listed p i)
@@ -228,14 +228,13 @@ module _ (laws : CalmLaws) (session_laws : SessionLaws) (apart : (t : AllocatorS
               differ = tt;
               ones_are = λ x i. absurd i;
               past = λ x i. absurd i;
-              low = omega arith;
-              high = omega arith;
+              low = omega (arith, begins);
+              high = omega (arith, begins);
             };
             bears = refl;
             requests = refl;
           };
           stage = record {
-            early = omega arith;
             soon = omega arith;
             right = right_at_first g.uid g.whole g.preferred come.settled.server.accepted (g.start + ahead g) (g.start + request_wait come.word + ahead g)
                 (g.start + request_wait come.word + g.pace.period + 2 * g.pace.delay + ahead g) come.settled.requests (omega arith);

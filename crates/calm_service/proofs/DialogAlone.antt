@@ -103,7 +103,7 @@ module _ (judged : VerdictsAre) (n : ℕ) (log : List Entry) (w : Cluster) (t : 
   log_is : length t.raft_server.store.log ≡ length log
   log_is = ap (λ (u : AllocatorState). length u.raft_server.store.log) (sym same) ∙ ap length h.log_is
 
-  none : has_to_tell (when_committed t (w.rows + 1) event).allocator.raft_server ≡ false
+  pub none : has_to_tell (when_committed t (w.rows + 1) event).allocator.raft_server ≡ false
   none = none_to_tell judged t (w.rows + 1) event (length log) (let c = committed in let l = log_is in omega (arith, c, l)) (let e = told in omega (arith, e))
       (let e = committed in omega (arith, e)) (let e = ends in omega (arith, e))
 

@@ -29,7 +29,7 @@ use Rattle.cluster_calm.proofs.DevicesHeard.{RequestsAreDelivered}
 use Rattle.calm_service.proofs.DialogAsked.{RequestsFly, answered, answers_it, its_asked}
 use Rattle.calm_service.proofs.DialogFrames.{HasSource}
 use Rattle.calm_service.proofs.DialogPhases.{IsAnswering, IsDue, IsOnBus, Next, Quiet, ahead, its_clock, last, latest, on_way, request_at, within}
-use Rattle.calm_service.proofs.DialogRows.{AskerThen, IsCalm, IsKnown, Then, asker_with, each_row, nothing_sent, read_on, reads_on}
+use Rattle.calm_service.proofs.DialogRows.{AskerThen, IsCalm, IsKnown, Then, asker_with, delivers_it, each_row, nothing_sent, read_on, reads_on}
 use Rattle.calm_service.proofs.DialogScene.{Talk, scene_late}
 use Rattle.cluster_calm.proofs.Pending.{Coming, Made}
 use Rattle.cluster_calm.proofs.Ways.{flying_late}
@@ -64,7 +64,7 @@ module _ (g : Talk) where
 
     -- it is on its way still
     still_flies : (row : Row) (calm : CalmOf row) (known : KnownOf row) → SceneOf row calm known
-        → AskerThen g [] p.request None p.accepted [] cs traffic w p.scene p.asker at_ in_time row [] p.request None → BusGoal row
+        → AskerThen g [] p.request None traffic w p.asker at_ in_time row [] p.request None → BusGoal row
     still_flies row calm known scene asker = inl (
       j,
       two,
@@ -84,7 +84,7 @@ module _ (g : Talk) where
 
     bus_reads : (ms word : ℕ) (calm : CalmOf (ATick g.a ms word)) (known : KnownOf (ATick g.a ms word)) → SceneOf (ATick g.a ms word) calm known → BusGoal (ATick g.a ms word)
     bus_reads ms word calm known scene = still_flies (ATick g.a ms word) calm known scene
-        (reads_on g [] p.request None p.accepted [] cs traffic w p.scene p.asker at_ in_time ms word calm.1 refl
+        (reads_on g [] p.request None traffic w p.asker at_ in_time ms word calm.1 refl
         (has_not_passed ms p.request (let b = bus_by in let q = p.quiet.0 in let k = g.quick in let c = calm.1 in omega (arith, b, q, k, c)) (inr p.quiet.1)))
 
     -- it comes to the leader
@@ -143,15 +143,14 @@ module _ (g : Talk) where
                 x = answered g delivered follow p.accepted cs traffic w p.scene at_ k ms in_time calm known message request 0 bytes;
                 scene = answers_it g delivered follow p.accepted cs traffic w p.scene at_ k ms in_time calm known message request bytes few says [] fly;
                 request = p.request;
-                asker = asker_with g [] p.request None p.accepted [] cs traffic w p.scene p.asker at_ in_time (Rx g.n k ms) [] p.request None p.asker.id p.asker.moment
-                    p.asker.sessions p.asker.there p.asker.small (read_on g [] p.request None p.accepted [] cs traffic w p.scene p.asker at_ in_time);
+                asker = asker_with g [] p.request None traffic w p.asker at_ in_time (Rx g.n k ms) [] p.request None p.asker.id p.asker.moment
+                    p.asker.sessions p.asker.there p.asker.small (read_on g [] p.request None traffic w p.asker at_ in_time);
                 what = refl;
                 payload = refl;
                 right = subst (λ (l : List Accepted). Right g.uid g.whole g.preferred i l (at_ + ahead g) (at_ + ahead g + 500))
                     (sym (λ l. after p.accepted (request_of g.uid g.whole g.preferred (e l)) (moment_is l) true)) r.1;
                 quiet = let b = bus_by in let q = p.quiet.0 in let v = g.quick in omega (arith, b, q, v);
                 long = p.quiet.1;
-                early = let f = p.from in let m = in_time.moments in let y = p.stage.early in omega (arith, f, m, y);
                 soon = let b = bus_by in omega (arith, b, room);
                 from = omega arith;
               },
@@ -211,7 +210,7 @@ module _ (g : Talk) where
 
     -- it is still under way
     still_comes : (row : Row) (calm : CalmAnswer row) (known : KnownAnswer row) → SceneAnswer row calm known xs
-        → AskerThen g [] p.request None p.accepted xs [] traffic w p.scene p.asker at_ in_time row [] p.request None → AnswerGoal row
+        → AskerThen g [] p.request None traffic w p.asker at_ in_time row [] p.request None → AnswerGoal row
     still_comes row calm known scene asker = inl (
       i,
       omega (arith, one),
@@ -228,7 +227,6 @@ module _ (g : Talk) where
           right = p.right;
           quiet = p.quiet;
           long = p.long;
-          early = p.early;
           soon = p.soon;
           from = let f = p.from in let l = in_time.moments in omega (arith, f, l);
         },
@@ -238,7 +236,7 @@ module _ (g : Talk) where
     answer_reads : (ms word : ℕ) (calm : CalmAnswer (ATick g.a ms word)) (known : KnownAnswer (ATick g.a ms word)) → SceneAnswer (ATick g.a ms word) calm known xs
         → AnswerGoal (ATick g.a ms word)
     answer_reads ms word calm known scene = still_comes (ATick g.a ms word) calm known scene
-        (reads_on g [] p.request None p.accepted xs [] traffic w p.scene p.asker at_ in_time ms word calm.1 refl
+        (reads_on g [] p.request None traffic w p.asker at_ in_time ms word calm.1 refl
         (has_not_passed ms p.request (let b = answer_by in let q = p.quiet in let c = calm.1 in omega (arith, b, q, c)) (inr p.long)))
 
     -- it comes to the device
@@ -248,7 +246,7 @@ module _ (g : Talk) where
       now_is = calm.1
 
       older : p.asker.moment ≤ ms
-      older = let r = read_on g [] p.request None p.accepted xs [] traffic w p.scene p.asker at_ in_time in omega (arith, r, now_is)
+      older = let r = read_on g [] p.request None traffic w p.asker at_ in_time in omega (arith, r, now_is)
 
       here : Device
       here = device_as g.uid g.preferred [] p.asker.id p.asker.moment p.request None p.asker.sessions
@@ -256,18 +254,8 @@ module _ (g : Talk) where
       arrival : Arrival
       arrival = arrival_at (frame_at w.frames k) ms
 
-      some_device : (x y : Device) → ◌≡◌ {A = Option Device} (Some x) (Some y) → x ≡ y
-      some_device x y e = cc (e)
-
       gives_it : received setting p.asker.sessions (arrival_at (frame_at w.frames k) ms) ≡ Gives (transfer.delivery_of p.x.transfer)
-      gives_it =
-          let same : delivers.device ≡ device_as g.uid g.preferred [] p.asker.id p.asker.moment p.request None p.asker.sessions
-          = some_device delivers.device (device_as g.uid g.preferred [] p.asker.id p.asker.moment p.request None p.asker.sessions) (sym delivers.there ∙ p.asker.there) in
-          let same_k : delivers.k ≡ k = cc (delivers.comes) in
-          let same_ms : delivers.ms ≡ ms = cc (delivers.comes) in
-          let now : max p.asker.moment ms ≡ ms = (let o = older in omega (arith, o)) in
-          ap (λ (m : ℕ). received setting p.asker.sessions (arrival_at (frame_at w.frames k) m)) (sym now)
-          ∙ ((λ l. received setting (sym same l).sessions (arrival_at (frame_at w.frames (sym same_k l)) (max (sym same l).asking.moment (sym same_ms l)))) ∙ delivers.gives)
+      gives_it = delivers_it g [] p.request None traffic w p.asker at_ in_time k ms word now_is p.x.transfer delivers
 
       message : Allocation
       message = record { node = 0; first_part = false; uid = record { items = take (known_of i) g.uid } }
@@ -301,7 +289,6 @@ module _ (g : Talk) where
           accepted = p.accepted;
           scene = scene;
           stage = record {
-            early = let f = p.from in let l = in_time.moments in let y = p.early in omega (arith, f, l, y);
             soon = let b = answer_by in let s = p.soon in omega (arith, b, s);
             right = right_within g.uid g.whole g.preferred i p.accepted (p.x.at + ahead g) (p.x.at + ahead g + 500)
                 (at_ + follow_up_wait word + ahead g) (at_ + follow_up_wait word + g.pace.period + 2 * g.pace.delay + ahead g)
@@ -309,7 +296,7 @@ module _ (g : Talk) where
           };
           request = timer_from ms (request_wait word);
           follow_up = Some (record { timer = timer_from ms (follow_up_wait word); known = known_of i });
-          asker = asker_with g [] p.request None p.accepted xs [] traffic w p.scene p.asker at_ in_time (ARx g.a k ms word) [] (timer_from ms (request_wait word))
+          asker = asker_with g [] p.request None traffic w p.asker at_ in_time (ARx g.a k ms word) [] (timer_from ms (request_wait word))
               (Some (record { timer = timer_from ms (follow_up_wait word); known = known_of i })) p.asker.id ms
               (next_sessions setting p.asker.sessions (arrival_at (frame_at w.frames k) ms))
               (device_steps w g.a (device.Rx (arrival_at (frame_at w.frames k) ms) word) (device_as g.uid g.preferred [] p.asker.id p.asker.moment p.request None p.asker.sessions)

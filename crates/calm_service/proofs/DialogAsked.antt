@@ -31,9 +31,10 @@ use Rattle.cluster_calm.proofs.Counting.{is_one, is_to, is_to_true, ones}
 use Rattle.cluster_calm.proofs.DevicesHeard.{RequestsAreDelivered}
 use Rattle.calm_service.proofs.DialogFrames.{HasSource, has_source, is_asked, not_asked}
 use Rattle.calm_service.proofs.DialogScene.{FlyOn, Known, PairOf, Scene, SceneThen, Talk, bears_then, brought, fly_on, is_sent, next_pair, offered, one_comes, well_then}
-use Rattle.cluster_calm.proofs.Group.{sent_own}
+use Rattle.cluster_calm.proofs.Group.{AreWell, sent_own}
 use Rattle.cluster_calm.proofs.Pair.{in_ones, is_one_of, made_of, made_one, out_ones, same_event, same_server}
 use Rattle.cluster_calm.proofs.Pending.{Coming, Made}
+use Rattle.cluster_calm.proofs.Ways.{Flying}
 use Rattle.cluster_spec.specs.Cluster.{Cluster, after_row, arrival_at, frame_at, receipt_of, step_of}
 
 -- ---- the only Allocation of a step
@@ -70,47 +71,56 @@ only_one offers o apart i is same = by (ones Alloc 0 offers) refl
         absurd (differ.1 (ap (λ (z : Offer). z.id) (same x y in_x in_y)))
 
 module _ (g : Talk) where
-  -- ---- what a row does with requests
+  -- ---- what a row does with frames on their way to the leader
 
-  module _ (accepted : List Accepted) (xs : List Made) (cs : List Coming) (traffic : Traffic) (w : Cluster) (s : Scene g accepted xs cs traffic w) (at_ : ℕ) where
-    abbrev pub RequestsFly : Row → List Coming → Type 0
-    RequestsFly row ds = FlyOn g.group g.clocks g.pace (OfMember g.n) HasSource cs traffic w at_ s.requests row ds
+  module _ (cs : List Coming) (traffic : Traffic) (w : Cluster) (well : AreWell g.group w)
+      (flying : Flying HasSource g.pace.delay w.frames (traffic.to (OfMember g.n)) cs) (at_ : ℕ) where
+    abbrev pub FramesFly : Row → List Coming → Type 0
+    FramesFly row ds = FlyOn g.group g.clocks g.pace (OfMember g.n) HasSource cs traffic w at_ flying row ds
 
-    -- a request comes to the leader
-    abbrev pub IsOwn : Row → Type 0
-    IsOwn row = (k : ℕ) × (ms : ℕ) × (row ≡ Rx g.n k ms) × (c : Coming) × (more : List Coming) × (cs ≡ c ∷ more) × (frame_at w.frames k ≡ c.frame) × RequestsFly row more
+    -- the first of those on their way comes to the leader
+    abbrev pub OneComes : Row → Type 0
+    OneComes row = (k : ℕ) × (ms : ℕ) × (row ≡ Rx g.n k ms) × (c : Coming) × (more : List Coming) × (cs ≡ c ∷ more) × (frame_at w.frames k ≡ c.frame) × FramesFly row more
 
-    abbrev Out : Row → Type 0
-    Out row = (IsNotAsked g.n w row × RequestsFly row cs) ⊎ IsOwn row
+    abbrev pub Out : Row → Type 0
+    Out row = (IsNotAsked g.n w row × FramesFly row cs) ⊎ OneComes row
 
     flies : (row : Row) → IsCalmRow g.group g.clocks g.pace traffic w at_ row → receives row (OfMember g.n) ≡ false
-        → ((f : Queued) → brought w row ≡ Some f → HasSource f) → RequestsFly row cs
-    flies row calm none other = fly_on g.group g.clocks g.pace (OfMember g.n) HasSource cs traffic w at_ s.requests row calm none (λ f e own. other f e)
+        → ((f : Queued) → brought w row ≡ Some f → HasSource f) → FramesFly row cs
+    flies row calm none other = fly_on g.group g.clocks g.pace (OfMember g.n) HasSource cs traffic w at_ flying row calm none (λ f e own. other f e)
 
     -- no request comes, and those on their way fly on, or the first of them comes
-    pub requests_on : (row : Row) → IsCalmRow g.group g.clocks g.pace traffic w at_ row → row ≢ ASend g.a → Out row
-    requests_on (Tick p ms word) calm other = inl (λ message is. cc (is.comes.comes), flies (Tick p ms word) calm refl (λ f e. absurd (cc (e))))
-    requests_on (Rx p k ms) calm other = elim (eqb_tells p g.n) [
+    pub frames_on : (row : Row) → IsCalmRow g.group g.clocks g.pace traffic w at_ row → row ≢ ASend g.a → Out row
+    frames_on (Tick p ms word) calm other = inl (λ message is. cc (is.comes.comes), flies (Tick p ms word) calm refl (λ f e. absurd (cc (e))))
+    frames_on (Rx p k ms) calm other = elim (eqb_tells p g.n) [
       | inl z ↦ subst (λ (q : ℕ). IsCalmRow g.group g.clocks g.pace traffic w at_ (Rx q k ms) → (receives (Rx q k ms) (OfMember g.n) ≡ true) → Out (Rx q k ms)) (sym z.1)
-          (λ calm_ is. elim (one_comes g.group g.clocks g.pace (OfMember g.n) HasSource cs traffic w at_ s.requests (Rx g.n k ms) is refl k calm_.2) [
+          (λ calm_ is. elim (one_comes g.group g.clocks g.pace (OfMember g.n) HasSource cs traffic w at_ flying (Rx g.n k ms) is refl k calm_.2) [
             | inl source ↦ inl (not_asked g.laws.frame g.n w k ms source.0, source.1)
             | inr own ↦ inr (k, ms, refl, own.0, own.1, own.2, own.3, own.4)
           ]) calm z.0
       | inr z ↦ inl (λ message is. z.1 (cc (is.comes.comes)), flies (Rx p k ms) calm z.0 (λ f e. absurd (cc (e))))
     ]
-    requests_on (Send p) calm other = inl (
+    frames_on (Send p) calm other = inl (
       λ message is. cc (is.comes.comes),
-      flies (Send p) calm refl (λ f e. has_source g.laws.frame p f (g.nodes p calm.0) (sent_own g.laws p (w.member p) f (s.well.members p calm.0) e)),
+      flies (Send p) calm refl (λ f e. has_source g.laws.frame p f (g.nodes p calm.0) (sent_own g.laws p (w.member p) f (well.members p calm.0) e)),
     )
-    requests_on (ATick b ms word) calm other = inl (λ message is. cc (is.comes.comes), flies (ATick b ms word) calm refl (λ f e. absurd (cc (e))))
-    requests_on (ARx b k ms word) calm other = inl (λ message is. cc (is.comes.comes), flies (ARx b k ms word) calm refl (λ f e. absurd (cc (e))))
-    requests_on (ASend b) calm other = absurd (other (ap (λ (c : ℕ). ASend c) (g.alone b calm.0)))
-    requests_on (Open p told ms word) calm other = absurd calm
-    requests_on (Ext frame) calm other = absurd calm
-    requests_on (Crash p calls pattern) calm other = absurd calm
-    requests_on (Fault p call) calm other = absurd calm
-    requests_on (AOpen b uid pref ms word) calm other = absurd calm
-    requests_on (AEnd b) calm other = absurd calm
+    frames_on (ATick b ms word) calm other = inl (λ message is. cc (is.comes.comes), flies (ATick b ms word) calm refl (λ f e. absurd (cc (e))))
+    frames_on (ARx b k ms word) calm other = inl (λ message is. cc (is.comes.comes), flies (ARx b k ms word) calm refl (λ f e. absurd (cc (e))))
+    frames_on (ASend b) calm other = absurd (other (ap (λ (c : ℕ). ASend c) (g.alone b calm.0)))
+    frames_on (Open p told ms word) calm other = absurd calm
+    frames_on (Ext frame) calm other = absurd calm
+    frames_on (Crash p calls pattern) calm other = absurd calm
+    frames_on (Fault p call) calm other = absurd calm
+    frames_on (AOpen b uid pref ms word) calm other = absurd calm
+    frames_on (AEnd b) calm other = absurd calm
+
+  module _ (accepted : List Accepted) (xs : List Made) (cs : List Coming) (traffic : Traffic) (w : Cluster) (s : Scene g accepted xs cs traffic w) (at_ : ℕ) where
+    abbrev pub RequestsFly : Row → List Coming → Type 0
+    RequestsFly = FramesFly cs traffic w s.well s.requests at_
+
+    -- no request comes, and those on their way fly on, or the first of them comes
+    pub requests_on : (row : Row) → IsCalmRow g.group g.clocks g.pace traffic w at_ row → row ≢ ASend g.a → Out cs traffic w s.well s.requests at_ row
+    requests_on = frames_on cs traffic w s.well s.requests at_
 
   -- ---- a request comes
 

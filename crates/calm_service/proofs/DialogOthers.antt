@@ -3,9 +3,8 @@ use Rattle.std.proofs.Common.{◌≡◌, ◌≢◌, ℕ, ◌+◌, ◌≤◌, Boo
 use Rattle.std.specs.Prelude.{if◌then◌else◌, nat_eq, nat_lt}
 use Rattle.std.proofs.lemmas.Bool.Decides.{eqb_tells}
 use Rattle.alloc_exchange.specs.Exchange.{Accepted, last_moment, recent_requests}
-use Rattle.can_frame.specs.declared.identifier.Ident.{Ident}
 use Rattle.can_frame.specs.declared.step.What.TheVariants.{Alloc}
-use Rattle.can_frame.specs.Identifier.{identifier_number, identifier_of}
+use Rattle.can_frame.specs.Identifier.{identifier_number}
 use Rattle.raft_model.specs.Lists.{In, at_here, at_other}
 use Rattle.raft_model.specs.Server.Role.{Follower}
 use Rattle.replay_text.specs.declared.row.Row.{Row}
@@ -14,13 +13,9 @@ use Rattle.transfer_tx.specs.Queue.{Queued}
 use Rattle.transfer_tx.specs.Run.{of_identifier}
 use Rattle.alloc_spec.specs.AllocatorState.{AllocatorState}
 use Rattle.alloc_spec.specs.Step.{Event, after_pop, moment_of, step}
-use Rattle.alloc_spec.specs.Transfers.{Offer, ident_of, kind_of, number_of}
+use Rattle.alloc_spec.specs.Transfers.{Offer, ident_of}
 use Rattle.alloc_spec_laws.proofs.Choices.{either, lt_tells, tell}
 use Rattle.alloc_spec_laws.specs.Sound.{IsOnTheBus}
-use Rattle.alloc_spec_laws.specs.Waiting.{all_frames_put}
-use Rattle.cluster_agreement.proofs.Idents.{ident_ok, one_what}
-use Rattle.cluster_agreement.proofs.Lists.{in_append}
-use Rattle.cluster_agreement.proofs.MadeTransfers.{frame_put}
 use Rattle.cluster_agreement.proofs.RowsWithoutEvents.{left_in_queue, out_of_queue}
 use Rattle.cluster_progress.proofs.FollowUps.{same_number}
 use Rattle.cluster_recovery.specs.Calm.{Pace}
@@ -28,10 +23,10 @@ use Rattle.cluster_recovery.proofs.Members.{IsUp, steps_up}
 use Rattle.cluster_calm.specs.Calm.{IsCalmRow, Member as OfMember, Party, Traffic}
 use Rattle.calm_service.specs.Dialog.{HasNothingToSay}
 use Rattle.calm_leader.specs.LeadsOn.{FollowsWithin}
-use Rattle.calm_service.proofs.FollowersSay.{SaysNothing, says_nothing}
-use Rattle.cluster_calm.proofs.Frames.{has_its_id}
+use Rattle.calm_service.proofs.FramesPut.{waited_or_offered}
+use Rattle.calm_service.proofs.FollowersSay.{says_nothing}
+use Rattle.calm_service.proofs.SilentSteps.{follower_leaves}
 use Rattle.cluster_calm.proofs.Group.{AreWell, CalmLaws, IsServer, narrow_on_bus, server_sent, server_stepped, up_sent}
-use Rattle.cluster_calm.proofs.Others.{some_ident}
 use Rattle.cluster_calm.proofs.Pair.{same_server}
 use Rattle.cluster_spec.specs.Cluster.{Cluster, after_row, receipt_of, tick_of}
 use Rattle.cluster_spec.specs.Members.{after_sending, member_after_step, next_frame}
@@ -113,14 +108,11 @@ module _ (laws : CalmLaws) (group : List Party) (clocks : Party → ℕ) (pace :
       server = u;
       up = up_then;
       its = server_stepped laws m s.server (w.rows + 1) event bus s.its;
-      none = λ f i. elim (in_append f s.server.queue (all_frames_put (w.rows + 1) s.server.me offers) (subst (λ (l : List Queued). In f l) (laws.in_step.queue s.server (w.rows + 1) event) i)) [
-        | inl before ↦ s.none f before
-        | inr new ↦
-            let put = frame_put (w.rows + 1) s.server.me (step s.server (w.rows + 1) event).step_state.offers f new in
-            λ e. quiet.free put.0 put.1 (its_what put.0 put.1 (sym (has_its_id (record { step = w.rows + 1; by = s.server.me; offer = put.0 }) f put.3
-            ∙ ap (λ (p : ℕ). identifier_number (ident_of p put.0.what put.0.to)) s.its.me) ∙ e))
+      none = λ f i e. elim (waited_or_offered laws m node s.server (w.rows + 1) event bus s.its Alloc refl f i e) [
+        | inl before ↦ s.none f before e
+        | inr new ↦ quiet new.offer new.offered new.its_what
       ];
-      stale = λ moment after_it. elim quiet.accepted [
+      stale = λ moment after_it. elim (follower_leaves s.server (w.rows + 1) its_role event) [
         | inl kept ↦ ap (λ (l : List Accepted). recent_requests l moment) kept ∙ s.stale moment (let l = later in omega (arith, l, after_it))
         | inr empty ↦ ap (λ (l : List Accepted). recent_requests l moment) empty ∙ none_counts moment
       ];
@@ -129,9 +121,6 @@ module _ (laws : CalmLaws) (group : List Party) (clocks : Party → ℕ) (pace :
         u : AllocatorState
         u = (step s.server (w.rows + 1) event).step_state.allocator
 
-        offers : List Offer
-        offers = (step s.server (w.rows + 1) event).step_state.offers
-
         up_then : IsUp (step s.server (w.rows + 1) event).step_state.allocator ((after_row w row).member m)
         up_then = subst (IsUp (step s.server (w.rows + 1) event).step_state.allocator) (sym member) (steps_up (w.rows + 1) event s.server (w.member m) s.up)
 
@@ -139,15 +128,8 @@ module _ (laws : CalmLaws) (group : List Party) (clocks : Party → ℕ) (pace :
         role_then = ap (λ (x : AllocatorState). x.raft_server.memory.role)
             (same_server (step s.server (w.rows + 1) event).step_state.allocator then_follows.server (sym up_then.status ∙ then_follows.runs)) ∙ then_follows.follows
 
-        quiet : SaysNothing s.server (w.rows + 1) event
+        quiet : (o : Offer) → In o (step s.server (w.rows + 1) event).step_state.offers → o.what ≢ Alloc
         quiet = says_nothing s.server (w.rows + 1) its_role event role_then (s.stale (max s.server.now (moment_of event)) (let l = later in omega (arith, l, late)))
-
-        its_what : (o : Offer) → In o (step s.server (w.rows + 1) event).step_state.offers → identifier_number (ident_of m o.what o.to) ≡ number → o.what ≡ Alloc
-        its_what o i e =
-            let same : ident_of m o.what o.to ≡ ident_of m Alloc 0 = some_ident (ident_of m o.what o.to) (ident_of m Alloc 0)
-            (sym (laws.frame.ident_read (ident_of m o.what o.to) (ident_ok m o.what o.to node.0 node.1 (laws.more.ranges s.server (w.rows + 1) event s.its.sound bus o i).to))
-            ∙ (ap identifier_of e ∙ laws.frame.ident_read (ident_of m Alloc 0) (ident_ok m Alloc 0 node.0 node.1 refl))) in
-            one_what o.what Alloc (kind_of Alloc) (number_of Alloc) (ap (λ (x : Ident). x.kind) same) refl (ap (λ (x : Ident). x.number) same) refl
 
     -- a frame of it goes to the bus
     sends : Then (Send m)

@@ -70,7 +70,6 @@ module _ (g : Talk) where
 
   -- the request of this stage is due then, and will be taken as it should
   pub record IsStage (j due : ℕ) (accepted : List Accepted) : Type 0 where
-    pub early : g.start + 600 ≤ due
     pub soon : due ≤ latest j
     pub right : Right g.uid g.whole g.preferred j accepted (due + ahead) (due + g.pace.period + 2 * g.pace.delay + ahead)
 
@@ -140,7 +139,6 @@ module _ (g : Talk) where
     pub right : Right g.uid g.whole g.preferred i accepted (x.at + ahead) (x.at + ahead + 500)
     pub quiet : x.at + 2 * g.pace.delay + its_clock < request.since + request.length
     pub long : 1 ≤ request.length
-    pub early : g.start + 600 ≤ x.at
     pub soon : x.at + 2 * g.pace.delay + 400 ≤ latest i
     pub from : x.at ≤ traffic.at
 
@@ -190,7 +188,7 @@ module _ (g : Talk) where
     SceneOf row calm known = Then g [] p.request p.follow_up p.accepted [] [] traffic w p.scene p.asker at_ in_time row calm known p.accepted [] []
 
     abbrev AskerOf : Row → List Queued → Timer → Option FollowUp → Type 0
-    AskerOf row q r f = AskerThen g [] p.request p.follow_up p.accepted [] [] traffic w p.scene p.asker at_ in_time row q r f
+    AskerOf row q r f = AskerThen g [] p.request p.follow_up traffic w p.asker at_ in_time row q r f
 
     later : traffic.at + its_clock ≤ at_ + its_clock
     later = let l = in_time.moments in omega (arith, l)
@@ -238,7 +236,7 @@ module _ (g : Talk) where
             stage = p.stage;
             request = request;
             frame = made.0;
-            asker = asker_with g [] p.request p.follow_up p.accepted [] [] traffic w p.scene p.asker at_ in_time (ATick g.a ms word) (made.0 ∷ []) request None
+            asker = asker_with g [] p.request p.follow_up traffic w p.asker at_ in_time (ATick g.a ms word) (made.0 ∷ []) request None
                 ((p.asker.id + 1) % 32) ms p.asker.sessions
                 (there ∙ ap (λ (q : List Queued). Some (device_as g.uid g.preferred q ((p.asker.id + 1) % 32) ms request None p.asker.sessions)) made.1)
                 (omega arith) (omega (arith, now_is));
@@ -258,11 +256,11 @@ module _ (g : Talk) where
         now_is = calm.1
 
         older : p.asker.moment ≤ ms
-        older = let r = read_on g [] p.request p.follow_up p.accepted [] [] traffic w p.scene p.asker at_ in_time in omega (arith, r, now_is)
+        older = let r = read_on g [] p.request p.follow_up traffic w p.asker at_ in_time in omega (arith, r, now_is)
 
         quietly : is_due ms p.follow_up ≡ None → has_passed ms p.request ≡ false → at_ < p.due → WaitGoal (ATick g.a ms word)
         quietly none no_time before = still_waits (ATick g.a ms word) calm known scene
-            (reads_on g [] p.request p.follow_up p.accepted [] [] traffic w p.scene p.asker at_ in_time ms word now_is none no_time) (by (reads (ATick g.a ms word) (OfDevice g.a)))
+            (reads_on g [] p.request p.follow_up traffic w p.asker at_ in_time ms word now_is none no_time) (by (reads (ATick g.a ms word) (OfDevice g.a)))
           where
             by : (b : Bool) → (if b then at_ else traffic.ticked (OfDevice g.a)) ≤ p.due
             by true = omega (arith, before)
@@ -339,7 +337,7 @@ module _ (g : Talk) where
 
     -- it waits on
     still_asks : (row : Row) (calm : CalmAsked row) (known : KnownAsked row) → SceneAsked row calm known
-        → AskerThen g (p.frame ∷ []) p.request None p.accepted [] [] traffic w p.scene p.asker at_ in_time row (p.frame ∷ []) p.request None → AskGoal row
+        → AskerThen g (p.frame ∷ []) p.request None traffic w p.asker at_ in_time row (p.frame ∷ []) p.request None → AskGoal row
     still_asks row calm known scene asker = inl (
       j,
       two,
@@ -361,7 +359,7 @@ module _ (g : Talk) where
 
     ask_reads : (ms word : ℕ) (calm : CalmAsked (ATick g.a ms word)) (known : KnownAsked (ATick g.a ms word)) → SceneAsked (ATick g.a ms word) calm known → AskGoal (ATick g.a ms word)
     ask_reads ms word calm known scene = still_asks (ATick g.a ms word) calm known scene
-        (reads_on g (p.frame ∷ []) p.request None p.accepted [] [] traffic w p.scene p.asker at_ in_time ms word calm.1 refl
+        (reads_on g (p.frame ∷ []) p.request None traffic w p.asker at_ in_time ms word calm.1 refl
         (has_not_passed ms p.request (let b = asks_by in let q = p.quiet.0 in let k = g.quick in let c = calm.1 in omega (arith, b, q, k, c)) (inr p.quiet.1)))
 
     -- it goes to the bus
@@ -376,8 +374,8 @@ module _ (g : Talk) where
         scene = its_scene;
         stage = p.stage;
         request = p.request;
-        asker = asker_with g (p.frame ∷ []) p.request None p.accepted [] [] traffic w p.scene p.asker at_ in_time (ASend g.a) [] p.request None p.asker.id p.asker.moment
-            p.asker.sessions there_then p.asker.small (read_on g (p.frame ∷ []) p.request None p.accepted [] [] traffic w p.scene p.asker at_ in_time);
+        asker = asker_with g (p.frame ∷ []) p.request None traffic w p.asker at_ in_time (ASend g.a) [] p.request None p.asker.id p.asker.moment
+            p.asker.sessions there_then p.asker.small (read_on g (p.frame ∷ []) p.request None traffic w p.asker at_ in_time);
         quiet = p.quiet;
         asks = p.asks;
         from = let f = p.from in let l = in_time.moments in omega (arith, f, l);

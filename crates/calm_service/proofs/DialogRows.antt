@@ -1,6 +1,6 @@
 -- Each row of a dialog, by what it is to the device: a tick, a frame that it sends, an Allocation that it hears, or none of
 -- these.
-use Rattle.std.proofs.Common.{◌≡◌, ℕ, ◌+◌, ◌<◌, ◌≤◌, Bool, true, false, List, [], ◌∷◌, refl, sym, ◌∙◌, ap, subst, arith, inl, inr, Option, None, Some}
+use Rattle.std.proofs.Common.{◌≡◌, ℕ, ◌+◌, ◌<◌, ◌≤◌, Bool, true, false, List, [], ◌∷◌, max, refl, sym, ◌∙◌, ap, subst, arith, inl, inr, Option, None, Some}
 use Rattle.std.specs.Prelude.{is_some, if◌then◌else◌}
 use Rattle.alloc_exchange.specs.Exchange.{Accepted}
 use Rattle.replay_text.specs.declared.row.Row.{Row}
@@ -14,10 +14,12 @@ use Rattle.allocatee.specs.Allocatee as device
 use Rattle.allocatee.specs.Asking.{Asking, due as is_due, has_passed}
 use Rattle.allocatee.specs.declared.timer.FollowUp.{FollowUp}
 use Rattle.allocatee.specs.declared.timer.Timer.{Timer}
+use Rattle.alloc_spec.specs.Transfers.{SentTransfer}
 use Rattle.cluster_recovery.proofs.CalmDevice.{asking_as, device_as, receives as hears, ticks_quietly}
 use Rattle.cluster_recovery.proofs.CalmStages.{device_steps}
 use Rattle.cluster_recovery.proofs.Receiving.{GivesNone}
 use Rattle.cluster_calm.specs.Calm.{Device as OfDevice, IsCalmRow, IsInTime, Traffic, reads, traffic_after}
+use Rattle.cluster_calm.specs.Comes as transfer
 use Rattle.cluster_calm.specs.Devices.{DeliversTo}
 use Rattle.calm_service.specs.Settled.{IsNotAsked}
 use Rattle.calm_service.proofs.DialogAsked.{RequestsFly, requests_on}
@@ -55,20 +57,10 @@ module _ (g : Talk) where
       → is_some (next_from (w.allocatee g.a)) ≡ true → ⊥
   nothing_sent request follow_up traffic w d some = nothing_out (ap (λ (x : Option Device). is_some (next_from x)) (sym d.there) ∙ some)
 
-  module _ (queue : List Queued) (request : Timer) (follow_up : Option FollowUp) (accepted : List Accepted) (xs : List Made) (cs : List Coming)
-      (traffic : Traffic) (w : Cluster) (s : Scene g accepted xs cs traffic w) (d : Asker queue request follow_up traffic w) (at_ : ℕ)
+  module _ (queue : List Queued) (request : Timer) (follow_up : Option FollowUp) (traffic : Traffic) (w : Cluster) (d : Asker queue request follow_up traffic w) (at_ : ℕ)
       (in_time : IsInTime g.group g.clocks g.pace traffic w at_) where
     abbrev pub then_traffic : Row → Traffic
     then_traffic row = traffic_after traffic w (record { at = at_; row = row })
-
-    abbrev pub IsCalm : Row → Type 0
-    IsCalm row = IsCalmRow g.group g.clocks g.pace traffic w at_ row
-
-    abbrev pub IsKnown : Row → Type 0
-    IsKnown row = Known g traffic.at w (record { at = at_; row = row })
-
-    abbrev pub Then : (row : Row) → IsCalm row → IsKnown row → List Accepted → List Made → List Coming → Type 0
-    Then row calm known = SceneThen g accepted xs cs traffic w s at_ row in_time calm known
 
     abbrev pub AskerThen : Row → List Queued → Timer → Option FollowUp → Type 0
     AskerThen row q r f = Asker q r f (then_traffic row) (after_row w row)
@@ -95,7 +87,7 @@ module _ (g : Talk) where
         by false = let p = d.past in let l = in_time.moments in omega (arith, p, l)
 
     -- it is as it was
-    as_it_was : (row : Row) → (after_row w row).allocatee g.a ≡ w.allocatee g.a → AskerThen row queue request follow_up
+    pub as_it_was : (row : Row) → (after_row w row).allocatee g.a ≡ w.allocatee g.a → AskerThen row queue request follow_up
     as_it_was row same = asker_with row queue request follow_up d.id d.moment d.sessions (same ∙ d.there) d.small read_on
 
     -- it reads its clock, and nothing is due
@@ -107,8 +99,23 @@ module _ (g : Talk) where
         (ticks_quietly g.uid g.preferred d.id d.moment ms (let r = read_on in omega (arith, r, now_is)) request d.sessions (w.rows + 1) word queue follow_up none early))
         d.small (omega (arith, now_is))
 
+    some_device : (x y : Device) → ◌≡◌ {A = Option Device} (Some x) (Some y) → x ≡ y
+    some_device x y e = cc (e)
+
+    -- a transfer that is delivered to it is what its receiver gives
+    pub delivers_it : (k ms word : ℕ) → ms ≡ at_ + g.clocks (OfDevice g.a) → (x : SentTransfer) → DeliversTo g.a x w (ARx g.a k ms word)
+        → answer setting d.sessions (arrival_at (frame_at w.frames k) ms) ≡ Gives (transfer.delivery_of x)
+    delivers_it k ms word now_is x is =
+        let same : is.device ≡ device_as g.uid g.preferred queue d.id d.moment request follow_up d.sessions
+        = some_device is.device (device_as g.uid g.preferred queue d.id d.moment request follow_up d.sessions) (sym is.there ∙ d.there) in
+        let same_k : is.k ≡ k = cc (is.comes) in
+        let same_ms : is.ms ≡ ms = cc (is.comes) in
+        let now : max d.moment ms ≡ ms = (let r = read_on in omega (arith, r, now_is)) in
+        ap (λ (m : ℕ). answer setting d.sessions (arrival_at (frame_at w.frames k) m)) (sym now)
+        ∙ ((λ i. answer setting (sym same i).sessions (arrival_at (frame_at w.frames (sym same_k i)) (max (sym same i).asking.moment (sym same_ms i)))) ∙ is.gives)
+
     -- a frame comes that gives nothing
-    hears_nothing : (k ms word : ℕ) → ms ≡ at_ + g.clocks (OfDevice g.a) → GivesNone (answer setting d.sessions (arrival_at (frame_at w.frames k) ms))
+    pub hears_nothing : (k ms word : ℕ) → ms ≡ at_ + g.clocks (OfDevice g.a) → GivesNone (answer setting d.sessions (arrival_at (frame_at w.frames k) ms))
         → AskerThen (ARx g.a k ms word) queue request follow_up
     hears_nothing k ms word now_is none = asker_with (ARx g.a k ms word) queue request follow_up d.id ms (next setting d.sessions arrival)
         (device_steps w g.a (device.Rx arrival word) (device_as g.uid g.preferred queue d.id d.moment request follow_up d.sessions)
@@ -121,11 +128,26 @@ module _ (g : Talk) where
         arrival : Arrival
         arrival = arrival_at (frame_at w.frames k) ms
 
+  module _ (queue : List Queued) (request : Timer) (follow_up : Option FollowUp) (accepted : List Accepted) (xs : List Made) (cs : List Coming)
+      (traffic : Traffic) (w : Cluster) (s : Scene g accepted xs cs traffic w) (d : Asker queue request follow_up traffic w) (at_ : ℕ)
+      (in_time : IsInTime g.group g.clocks g.pace traffic w at_) where
+    abbrev pub IsCalm : Row → Type 0
+    IsCalm row = IsCalmRow g.group g.clocks g.pace traffic w at_ row
+
+    abbrev pub IsKnown : Row → Type 0
+    IsKnown row = Known g traffic.at w (record { at = at_; row = row })
+
+    abbrev pub Then : (row : Row) → IsCalm row → IsKnown row → List Accepted → List Made → List Coming → Type 0
+    Then row calm known = SceneThen g accepted xs cs traffic w s at_ row in_time calm known
+
+    abbrev Stays : Row → Type 0
+    Stays row = AskerThen queue request follow_up traffic w d at_ in_time row queue request follow_up
+
     -- ---- each row
 
     -- what is to show behind a row, from what is known of it
     module _ (Goal : Row → Type 0)
-        (keep : (row : Row) (calm : IsCalm row) (known : IsKnown row) → IsNotAsked g.n w row → Then row calm known accepted xs cs → AskerThen row queue request follow_up
+        (keep : (row : Row) (calm : IsCalm row) (known : IsKnown row) → IsNotAsked g.n w row → Then row calm known accepted xs cs → Stays row
         → reads row (OfDevice g.a) ≡ false → Goal row)
         (tick : (ms word : ℕ) (calm : IsCalm (ATick g.a ms word)) (known : IsKnown (ATick g.a ms word)) → IsNotAsked g.n w (ATick g.a ms word) → Then (ATick g.a ms word) calm known accepted xs cs
         → Goal (ATick g.a ms word))
@@ -138,7 +160,7 @@ module _ (g : Talk) where
       of_member : (row : Row) (calm : IsCalm row) (known : IsKnown row) → (after_row w row).allocatee g.a ≡ w.allocatee g.a → reads row (OfDevice g.a) ≡ false
           → ((x : Made) → DeliversTo g.a x.transfer w row → ⊥) → IsNotAsked g.n w row → RequestsFly g accepted xs cs traffic w s at_ row cs → Goal row
       of_member row calm known same quiet none not_asked fly = elim (scene_on g accepted xs cs traffic w s at_ row in_time calm known not_asked cs fly) [
-        | inl on ↦ keep row calm known not_asked on.0 (as_it_was row same) quiet
+        | inl on ↦ keep row calm known not_asked on.0 (as_it_was queue request follow_up traffic w d at_ in_time row same) quiet
         | inr ends ↦ absurd (none ends.0 ends.3)
       ]
 
@@ -154,7 +176,7 @@ module _ (g : Talk) where
       a_frame : (k ms word : ℕ) (calm : IsCalm (ARx g.a k ms word)) (known : IsKnown (ARx g.a k ms word)) → Goal (ARx g.a k ms word)
       a_frame k ms word calm known = elim (requests_on g accepted xs cs traffic w s at_ (ARx g.a k ms word) calm (λ e. cc (e))) [
         | inl out ↦ elim (scene_on g accepted xs cs traffic w s at_ (ARx g.a k ms word) in_time calm known out.0 cs out.1) [
-          | inl on ↦ keep (ARx g.a k ms word) calm known out.0 on.0 (hears_nothing k ms word calm.1 (on.1 k ms word refl d.sessions ms)) refl
+          | inl on ↦ keep (ARx g.a k ms word) calm known out.0 on.0 (hears_nothing queue request follow_up traffic w d at_ in_time k ms word calm.1 (on.1 k ms word refl d.sessions ms)) refl
           | inr ends ↦ gives k ms word calm known ends.0 ends.1 ends.2 out.0 ends.3 ends.4
         ]
         | inr no_one ↦ absurd (cc (no_one.2))

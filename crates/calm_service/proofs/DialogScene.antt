@@ -157,18 +157,17 @@ pub record Talk : Type 0 where
   pub preferred : ℕ
   pub few : preferred < 128
   pub log : List Entry
+  -- the moment from which the dialog is timed
   pub start : ℕ
+  -- what the clock of the device was when the calm began
+  pub base : ℕ
   pub quick : pace.period + 4 * pace.delay ≤ 100
 
 module _ (g : Talk) where
-  -- the clock of the device when the calm begins
-  abbrev pub base : ℕ
-  base = g.start + g.clocks (OfDevice g.a)
-
-  abbrev in_two : 2 * g.pace.delay ≤ 2000
+  abbrev pub in_two : 2 * g.pace.delay ≤ 2000
   in_two = let q = g.quick in omega (arith, q)
 
-  abbrev Begins : ℕ → Type 0
+  abbrev pub Begins : ℕ → Type 0
   Begins id = ⊤
 
   abbrev pub number : ℕ
@@ -176,7 +175,7 @@ module _ (g : Talk) where
 
   -- these Allocations of the leader are under way to the device
   abbrev pub PairOf : Traffic → Cluster → List Made → List Coming → Expected → Type 0
-  PairOf = Pair g.laws g.group g.clocks g.pace g.nodes g.n g.in_n (OfDevice g.a) g.in_a refl device_receiver Alloc 0 base in_two refl refl (inr refl) refl
+  PairOf = Pair g.laws g.group g.clocks g.pace g.nodes g.n g.in_n (OfDevice g.a) g.in_a refl device_receiver Alloc 0 g.base in_two refl refl (inr refl) refl
       (device_wants g.laws.frame g.n (g.nodes g.n g.in_n)) Begins (IsCounter Alloc 0) (λ t expected mode. mode)
       (IsListening g.a) (DeliversTo g.a) (DeviceHasMemory g.a) (device_hears g.session_laws g.group g.clocks g.pace g.n g.a)
 
@@ -193,7 +192,7 @@ module _ (g : Talk) where
   -- no Allocation that is under way was made more than two delays ago
   pub scene_late : (accepted : List Accepted) (xs : List Made) (cs : List Coming) (traffic : Traffic) (w : Cluster) → (s : Scene accepted xs cs traffic w) → (at_ : ℕ)
       → IsInTime g.group g.clocks g.pace traffic w at_ → (x : Made) → In x xs → at_ ≤ x.at + 2 * g.pace.delay
-  scene_late accepted xs cs traffic w s at_ in_time = not_late g.laws g.group g.clocks g.pace g.nodes g.n g.in_n (OfDevice g.a) g.in_a refl device_receiver Alloc 0 base in_two
+  scene_late accepted xs cs traffic w s at_ in_time = not_late g.laws g.group g.clocks g.pace g.nodes g.n g.in_n (OfDevice g.a) g.in_a refl device_receiver Alloc 0 g.base in_two
       refl refl (inr refl) refl (device_wants g.laws.frame g.n (g.nodes g.n g.in_n)) Begins (IsCounter Alloc 0) (λ t expected mode. mode)
       (IsListening g.a) (DeliversTo g.a) (DeviceHasMemory g.a) (device_hears g.session_laws g.group g.clocks g.pace g.n g.a) traffic w xs s.front s.expected s.pair at_ in_time
 
@@ -204,6 +203,72 @@ module _ (g : Talk) where
     pub memory : DeviceHasMemory g.a w
     pub room : HasRoomToTell g.n w
     pub others : BringsNone g.n w timed.row
+
+  -- ---- what comes to the device
+
+  module _ (traffic : Traffic) (w : Cluster) (well : AreWell g.group w) (at_ : ℕ) where
+    same_number : (p q : ℕ) → (p == q) ≡ true → p ≡ q
+    same_number p q e = elim (eqb_tells p q) [ inl z ↦ z.1 | inr z ↦ absurd (cc (e, z.0)) ]
+
+    pub yes_number : (p q : ℕ) → p ≡ q → (p == q) ≡ true
+    yes_number p q e = elim (eqb_tells p q) [ inl z ↦ z.0 | inr z ↦ absurd (z.1 e) ]
+
+    -- a frame that goes to the bus
+    pub brought_bears : (r : Row) → IsCalmRow g.group g.clocks g.pace traffic w at_ r → BringsNone g.n w r → (f : Queued) → brought w r ≡ Some f
+        → sends r (OfDevice g.a) ≡ false → IsBearable g.n f
+    brought_bears (Send p) c none f e other = is_bearable g.laws.frame g.n p f (g.nodes p c.0) (sent_own g.laws p (w.member p) f (well.members p c.0) e)
+        (λ differ. none differ f e)
+    brought_bears (ASend b) c none f e other = absurd (cc (other, yes_number b g.a (g.alone b c.0)))
+    brought_bears (Tick p ms word) c none f e other = absurd (cc (e))
+    brought_bears (Rx p k ms) c none f e other = absurd (cc (e))
+    brought_bears (ATick b ms word) c none f e other = absurd (cc (e))
+    brought_bears (ARx b k ms word) c none f e other = absurd (cc (e))
+    brought_bears (Open p told ms word) c none f e other = absurd c
+    brought_bears (Ext frame) c none f e other = absurd c
+    brought_bears (Crash p calls pattern) c none f e other = absurd c
+    brought_bears (Fault p call) c none f e other = absurd c
+    brought_bears (AOpen b uid pref ms word) c none f e other = absurd c
+    brought_bears (AEnd b) c none f e other = absurd c
+
+    -- the number of the frame that comes to the device
+    pub next_to : (r : Row) → IsCalmRow g.group g.clocks g.pace traffic w at_ r → receives r (OfDevice g.a) ≡ true
+        → (k : ℕ) × IsNext k (traffic.to (OfDevice g.a)) × ((after_row w r).frames ≡ w.frames)
+    next_to (ARx b k ms word) c e = (k, subst (λ (d : ℕ). IsNext k (traffic.to (OfDevice d))) (g.alone b c.0) c.2, refl)
+    next_to (Send p) c e = absurd (cc (e))
+    next_to (ASend b) c e = absurd (cc (e))
+    next_to (Tick p ms word) c e = absurd (cc (e))
+    next_to (Rx p k ms) c e = absurd (cc (e))
+    next_to (ATick b ms word) c e = absurd (cc (e))
+    next_to (Open p told ms word) c e = absurd c
+    next_to (Ext frame) c e = absurd c
+    next_to (Crash p calls pattern) c e = absurd c
+    next_to (Fault p call) c e = absurd c
+    next_to (AOpen b uid pref ms word) c e = absurd c
+    next_to (AEnd b) c e = absurd c
+
+  -- a bearable frame that comes to the device, and of which the Allocations under way are not the end, gives nothing
+  module _ (traffic : Traffic) (w : Cluster) (xs : List Made) (front : List Coming) (expected : Expected) (pair : PairOf traffic w xs front expected) (at_ : ℕ)
+      (in_time : IsInTime g.group g.clocks g.pace traffic w at_) (row : Row) where
+    gives_none_by : (x : Answer) → ((d : Delivery) → x ≡ Gives d → ⊥) → GivesNone x
+    gives_none_by (Gives d) f = f d refl
+    gives_none_by Continues f = tt
+    gives_none_by (Drops why) f = tt
+
+    pub none_ends : IsNotLast g.laws g.group g.clocks g.pace g.nodes g.n g.in_n (OfDevice g.a) g.in_a refl device_receiver Alloc 0 g.base in_two refl refl (inr refl) refl
+        (device_wants g.laws.frame g.n (g.nodes g.n g.in_n)) Begins (IsCounter Alloc 0) (λ t expected mode. mode)
+        (IsListening g.a) (DeliversTo g.a) (DeviceHasMemory g.a) (device_hears g.session_laws g.group g.clocks g.pace g.n g.a)
+        traffic w xs front expected pair at_ in_time row (λ e. ⊤) → (k : ℕ) → IsNext k (traffic.to (OfDevice g.a)) → receives row (OfDevice g.a) ≡ true
+        → IsBearable g.n (frame_at w.frames k) → (sessions : List Session) (moment : ℕ) → GivesNone (answer setting sessions (arrival_at (frame_at w.frames k) moment))
+    none_ends frames k next is_to bears sessions moment = elim (eqb_tells (frame_at w.frames k).id number) [
+      | inl own ↦ gives_none_by (answer setting sessions (arrival_at (frame_at w.frames k) moment))
+          (gives_none_yet g.laws.frame g.n (g.nodes g.n g.in_n) (frame_at w.frames k) sessions moment own.1
+          (elim (frames k next is_to) [
+            | inl other ↦ absurd (other.0 own.1)
+            | inr x ↦ ap (λ (f : Queued). (read f).tail.end) x.6
+                ∙ not_last g.laws.cutting x.0 (pair.ones_are x.0 (subst (λ (l : List Made). In x.0 l) (sym x.5) (inl refl))).id x.2 x.4 x.3 x.8 x.7
+          ]))
+      | inr other ↦ subst GivesNone (sym (drops_it g.n (frame_at w.frames k) sessions moment bears other.1)) tt
+    ]
 
   module _ (accepted : List Accepted) (xs : List Made) (cs : List Coming) (traffic : Traffic) (w : Cluster) (s : Scene accepted xs cs traffic w) (at_ : ℕ) (row : Row)
       (in_time : IsInTime g.group g.clocks g.pace traffic w at_) (calm : IsCalmRow g.group g.clocks g.pace traffic w at_ row)
@@ -221,45 +286,6 @@ module _ (g : Talk) where
     abbrev BearsThen : Type 0
     BearsThen = Flying (IsBearable g.n) g.pace.delay then_w.frames (then_traffic.to (OfDevice g.a)) []
 
-    same_number : (p q : ℕ) → (p == q) ≡ true → p ≡ q
-    same_number p q e = elim (eqb_tells p q) [ inl z ↦ z.1 | inr z ↦ absurd (cc (e, z.0)) ]
-
-    yes_number : (p q : ℕ) → p ≡ q → (p == q) ≡ true
-    yes_number p q e = elim (eqb_tells p q) [ inl z ↦ z.0 | inr z ↦ absurd (z.1 e) ]
-
-    -- a frame that goes to the bus
-    brought_bears : (r : Row) → IsCalmRow g.group g.clocks g.pace traffic w at_ r → BringsNone g.n w r → (f : Queued) → brought w r ≡ Some f
-        → sends r (OfDevice g.a) ≡ false → IsBearable g.n f
-    brought_bears (Send p) c none f e other = is_bearable g.laws.frame g.n p f (g.nodes p c.0) (sent_own g.laws p (w.member p) f (s.well.members p c.0) e)
-        (λ differ. none differ f e)
-    brought_bears (ASend b) c none f e other = absurd (cc (other, yes_number b g.a (g.alone b c.0)))
-    brought_bears (Tick p ms word) c none f e other = absurd (cc (e))
-    brought_bears (Rx p k ms) c none f e other = absurd (cc (e))
-    brought_bears (ATick b ms word) c none f e other = absurd (cc (e))
-    brought_bears (ARx b k ms word) c none f e other = absurd (cc (e))
-    brought_bears (Open p told ms word) c none f e other = absurd c
-    brought_bears (Ext frame) c none f e other = absurd c
-    brought_bears (Crash p calls pattern) c none f e other = absurd c
-    brought_bears (Fault p call) c none f e other = absurd c
-    brought_bears (AOpen b uid pref ms word) c none f e other = absurd c
-    brought_bears (AEnd b) c none f e other = absurd c
-
-    -- the number of the frame that comes to the device
-    next_to : (r : Row) → IsCalmRow g.group g.clocks g.pace traffic w at_ r → receives r (OfDevice g.a) ≡ true
-        → (k : ℕ) × IsNext k (traffic.to (OfDevice g.a)) × ((after_row w r).frames ≡ w.frames)
-    next_to (ARx b k ms word) c e = (k, subst (λ (d : ℕ). IsNext k (traffic.to (OfDevice d))) (g.alone b c.0) c.2, refl)
-    next_to (Send p) c e = absurd (cc (e))
-    next_to (ASend b) c e = absurd (cc (e))
-    next_to (Tick p ms word) c e = absurd (cc (e))
-    next_to (Rx p k ms) c e = absurd (cc (e))
-    next_to (ATick b ms word) c e = absurd (cc (e))
-    next_to (Open p told ms word) c e = absurd c
-    next_to (Ext frame) c e = absurd c
-    next_to (Crash p calls pattern) c e = absurd c
-    next_to (Fault p call) c e = absurd c
-    next_to (AOpen b uid pref ms word) c e = absurd c
-    next_to (AEnd b) c e = absurd c
-
     bears_comes : receives row (OfDevice g.a) ≡ true → (k : ℕ) → IsNext k (traffic.to (OfDevice g.a)) → (after_row w row).frames ≡ w.frames
         → IsBearable g.n (frame_at w.frames k) × BearsThen
     bears_comes is k next frames =
@@ -270,8 +296,8 @@ module _ (g : Talk) where
 
     pub bears_then : BearsThen
     bears_then = elim (tell (receives row (OfDevice g.a))) [
-      | inl is ↦ let x = next_to row calm is in (bears_comes is x.0 x.1 x.2).1
-      | inr none ↦ fly_on g.group g.clocks g.pace (OfDevice g.a) (IsBearable g.n) [] traffic w at_ s.bears row calm none (brought_bears row calm known.others)
+      | inl is ↦ let x = next_to traffic w s.well at_ row calm is in (bears_comes is x.0 x.1 x.2).1
+      | inr none ↦ fly_on g.group g.clocks g.pace (OfDevice g.a) (IsBearable g.n) [] traffic w at_ s.bears row calm none (brought_bears traffic w s.well at_ row calm known.others)
     ]
 
     -- the Allocations under way then
@@ -279,7 +305,7 @@ module _ (g : Talk) where
     Rest e = ⊤
 
     abbrev NextOf : Type 0
-    NextOf = Next g.laws g.group g.clocks g.pace g.nodes g.n g.in_n (OfDevice g.a) g.in_a refl device_receiver Alloc 0 base in_two refl refl (inr refl) refl
+    NextOf = Next g.laws g.group g.clocks g.pace g.nodes g.n g.in_n (OfDevice g.a) g.in_a refl device_receiver Alloc 0 g.base in_two refl refl (inr refl) refl
         (device_wants g.laws.frame g.n (g.nodes g.n g.in_n)) Begins (IsCounter Alloc 0) (λ t expected mode. mode)
         (IsListening g.a) (DeliversTo g.a) (DeviceHasMemory g.a) (device_hears g.session_laws g.group g.clocks g.pace g.n g.a)
         traffic w xs s.front s.expected s.pair at_ in_time row Rest
@@ -303,7 +329,7 @@ module _ (g : Talk) where
         )
 
     pub next_pair : ((event : Event) → step_of w row ≡ Some (g.n, event) → AreShort 19 (offered event)) → NextOf
-    next_pair short = next_row g.laws g.group g.clocks g.pace g.nodes g.n g.in_n (OfDevice g.a) g.in_a refl device_receiver Alloc 0 base in_two refl refl (inr refl) refl
+    next_pair short = next_row g.laws g.group g.clocks g.pace g.nodes g.n g.in_n (OfDevice g.a) g.in_a refl device_receiver Alloc 0 g.base in_two refl refl (inr refl) refl
         (device_wants g.laws.frame g.n (g.nodes g.n g.in_n)) Begins (IsCounter Alloc 0) (λ t expected mode. mode)
         (IsListening g.a) (DeliversTo g.a) (DeviceHasMemory g.a) (device_hears g.session_laws g.group g.clocks g.pace g.n g.a)
         traffic w xs s.front s.expected s.pair at_ in_time known.memory s.well Rest row calm
@@ -321,11 +347,6 @@ module _ (g : Talk) where
 
     abbrev pub SceneThen : List Accepted → List Made → List Coming → Type 0
     SceneThen then_accepted ys ds = Scene then_accepted ys ds then_traffic then_w
-
-    gives_none_by : (x : Answer) → ((d : Delivery) → x ≡ Gives d → ⊥) → GivesNone x
-    gives_none_by (Gives d) f = f d refl
-    gives_none_by Continues f = tt
-    gives_none_by (Drops why) f = tt
 
     module _ (not_asked : IsNotAsked g.n w row) (ds : List Coming) (requests : Flying HasSource g.pace.delay then_w.frames (then_traffic.to (OfMember g.n)) ds) where
       settled_then : IsSettled g.n g.log accepted (at_ + g.clocks (OfMember g.n)) then_w
@@ -368,7 +389,7 @@ module _ (g : Talk) where
           at_end [] = refl
           at_end (x ∷ l) = ap (λ (k : List Made). x ∷ k) (at_end l)
 
-          none_more : (more : List Made) → AreNews g.laws g.group g.clocks g.pace g.nodes g.n g.in_n (OfDevice g.a) g.in_a refl device_receiver Alloc 0 base in_two refl refl (inr refl) refl
+          none_more : (more : List Made) → AreNews g.laws g.group g.clocks g.pace g.nodes g.n g.in_n (OfDevice g.a) g.in_a refl device_receiver Alloc 0 g.base in_two refl refl (inr refl) refl
               (device_wants g.laws.frame g.n (g.nodes g.n g.in_n)) Begins (IsCounter Alloc 0) (λ t expected mode. mode)
               (IsListening g.a) (DeliversTo g.a) (DeviceHasMemory g.a) (device_hears g.session_laws g.group g.clocks g.pace g.n g.a)
               traffic w xs s.front s.expected s.pair at_ in_time row Rest more → more ≡ []
@@ -383,28 +404,17 @@ module _ (g : Talk) where
                 | inr other ↦ news.1 (λ its is_step. other.1 (same_stepper p g.n event its (sym e ∙ is_step)))
               ]
 
-          nothing : IsNotLast g.laws g.group g.clocks g.pace g.nodes g.n g.in_n (OfDevice g.a) g.in_a refl device_receiver Alloc 0 base in_two refl refl (inr refl) refl
+          nothing : IsNotLast g.laws g.group g.clocks g.pace g.nodes g.n g.in_n (OfDevice g.a) g.in_a refl device_receiver Alloc 0 g.base in_two refl refl (inr refl) refl
               (device_wants g.laws.frame g.n (g.nodes g.n g.in_n)) Begins (IsCounter Alloc 0) (λ t expected mode. mode)
               (IsListening g.a) (DeliversTo g.a) (DeviceHasMemory g.a) (device_hears g.session_laws g.group g.clocks g.pace g.n g.a)
               traffic w xs s.front s.expected s.pair at_ in_time row Rest → NothingGiven
-          nothing frames k ms word is sessions moment = elim (eqb_tells frame.id number) [
-            | inl own ↦ gives_none_by (answer setting sessions (arrival_at frame moment)) (gives_none_yet g.laws.frame g.n (g.nodes g.n g.in_n) frame sessions moment own.1
-                (elim (frames k next is_to) [
-                  | inl other ↦ absurd (other.0 own.1)
-                  | inr x ↦ ap (λ (f : Queued). (read f).tail.end) x.6
-                      ∙ not_last g.laws.cutting x.0 (s.pair.ones_are x.0 (subst (λ (l : List Made). In x.0 l) (sym x.5) (inl refl))).id x.2 x.4 x.3 x.8 x.7
-                ]))
-            | inr other ↦ subst GivesNone (sym (drops_it g.n frame sessions moment (bears_comes is_to k next same_frames).0 other.1)) tt
-          ]
+          nothing frames k ms word is sessions moment = none_ends traffic w xs s.front s.expected s.pair at_ in_time row frames k next is_to (bears_comes is_to k next same_frames).0 sessions moment
             where
-              frame : Queued
-              frame = frame_at w.frames k
-
               next : IsNext k (traffic.to (OfDevice g.a))
               next = (subst (λ (r : Row). IsCalmRow g.group g.clocks g.pace traffic w at_ r) is calm).2
 
               is_to : receives row (OfDevice g.a) ≡ true
-              is_to = ap (λ (r : Row). receives r (OfDevice g.a)) is ∙ yes_number g.a g.a refl
+              is_to = ap (λ (r : Row). receives r (OfDevice g.a)) is ∙ yes_number traffic w s.well at_ g.a g.a refl
 
               same_frames : (after_row w row).frames ≡ w.frames
               same_frames = ap (λ (r : Row). (after_row w r).frames) is

@@ -40,7 +40,7 @@ use Rattle.calm_service.proofs.DialogAgain.{again_first}
 use Rattle.calm_service.proofs.DialogAsked.{answered, goes_out, has_place, is_ready, its_asked}
 use Rattle.calm_service.proofs.DialogFrames.{HasSource}
 use Rattle.calm_service.proofs.DialogPhases.{IsOnBus, ahead, its_clock, last, on_way, request_at}
-use Rattle.calm_service.proofs.DialogRows.{AskerThen, Asker, IsCalm, IsKnown, Then, asker_with, each_row, nothing_sent, read_on, reads_on}
+use Rattle.calm_service.proofs.DialogRows.{AskerThen, Asker, IsCalm, IsKnown, Then, asker_with, delivers_it, each_row, nothing_sent, read_on, reads_on}
 use Rattle.calm_service.proofs.DialogScene.{Known, Scene, Talk, scene_late}
 use Rattle.cluster_calm.proofs.Pending.{Made}
 use Rattle.cluster_calm.proofs.Ways.{Flying, flying_late}
@@ -153,8 +153,8 @@ module _ (g : Talk) (node : ℕ) (stand : Stands g.log g.uid node) where
       scene = goes_out g delivered follow p.accepted (on_way g p.due p.frame ∷ []) traffic w p.scene at_ k ms in_time calm known message request node g.uid sixteen first
           (after p.accepted message (max leader.now ms) true) settled_then [] fly;
       request = p.request;
-      asker = asker_with g [] p.request None p.accepted [] (on_way g p.due p.frame ∷ []) traffic w p.scene p.asker at_ in_time (Rx g.n k ms) [] p.request None p.asker.id p.asker.moment
-          p.asker.sessions p.asker.there p.asker.small (read_on g [] p.request None p.accepted [] (on_way g p.due p.frame ∷ []) traffic w p.scene p.asker at_ in_time);
+      asker = asker_with g [] p.request None traffic w p.asker at_ in_time (Rx g.n k ms) [] p.request None p.asker.id p.asker.moment
+          p.asker.sessions p.asker.there p.asker.small (read_on g [] p.request None traffic w p.asker at_ in_time);
       what = refl;
       payload = refl;
       quiet = let b = bus_by in let q = p.quiet.0 in let v = g.quick in omega (arith, b, q, v);
@@ -190,7 +190,7 @@ module _ (g : Talk) (node : ℕ) (stand : Stands g.log g.uid node) where
 
     -- it is still under way
     still_comes : (row : Row) (calm : CalmTell row) (known : KnownTell row) → SceneTell row calm known xs
-        → AskerThen g [] p.request None p.accepted xs [] traffic w p.scene p.asker at_ in_time row [] p.request None → TellGoal row
+        → AskerThen g [] p.request None traffic w p.asker at_ in_time row [] p.request None → TellGoal row
     still_comes row calm known scene asker = inl (record {
       accepted = p.accepted;
       x = p.x;
@@ -206,27 +206,17 @@ module _ (g : Talk) (node : ℕ) (stand : Stands g.log g.uid node) where
 
     tell_reads : (ms word : ℕ) (calm : CalmTell (ATick g.a ms word)) (known : KnownTell (ATick g.a ms word)) → SceneTell (ATick g.a ms word) calm known xs → TellGoal (ATick g.a ms word)
     tell_reads ms word calm known scene = still_comes (ATick g.a ms word) calm known scene
-        (reads_on g [] p.request None p.accepted xs [] traffic w p.scene p.asker at_ in_time ms word calm.1 refl
+        (reads_on g [] p.request None traffic w p.asker at_ in_time ms word calm.1 refl
         (has_not_passed ms p.request (let b = tell_by in let q = p.quiet in let c = calm.1 in omega (arith, b, q, c)) (inr p.long)))
 
     -- the device takes it
     module _ (k ms word : ℕ) (calm : CalmTell (ARx g.a k ms word)) (known : KnownTell (ARx g.a k ms word)) (ys : List Made) (scene : SceneTell (ARx g.a k ms word) calm known ys)
         (delivers : DeliversTo g.a p.x.transfer w (ARx g.a k ms word)) where
       older : p.asker.moment ≤ ms
-      older = let r = read_on g [] p.request None p.accepted xs [] traffic w p.scene p.asker at_ in_time in let c = calm.1 in omega (arith, r, c)
-
-      some_device : (x y : Device) → ◌≡◌ {A = Option Device} (Some x) (Some y) → x ≡ y
-      some_device x y e = cc (e)
+      older = let r = read_on g [] p.request None traffic w p.asker at_ in_time in let c = calm.1 in omega (arith, r, c)
 
       gives_it : received setting p.asker.sessions (arrival_at (frame_at w.frames k) ms) ≡ Gives (transfer.delivery_of p.x.transfer)
-      gives_it =
-          let same : delivers.device ≡ device_as g.uid g.preferred [] p.asker.id p.asker.moment p.request None p.asker.sessions
-          = some_device delivers.device (device_as g.uid g.preferred [] p.asker.id p.asker.moment p.request None p.asker.sessions) (sym delivers.there ∙ p.asker.there) in
-          let same_k : delivers.k ≡ k = cc (delivers.comes) in
-          let same_ms : delivers.ms ≡ ms = cc (delivers.comes) in
-          let now : max p.asker.moment ms ≡ ms = (let o = older in omega (arith, o)) in
-          ap (λ (m : ℕ). received setting p.asker.sessions (arrival_at (frame_at w.frames k) m)) (sym now)
-          ∙ ((λ l. received setting (sym same l).sessions (arrival_at (frame_at w.frames (sym same_k l)) (max (sym same l).asking.moment (sym same_ms l)))) ∙ delivers.gives)
+      gives_it = delivers_it g [] p.request None traffic w p.asker at_ in_time k ms word calm.1 p.x.transfer delivers
 
       taken_as : after_receiver_answer word (received setting p.asker.sessions (arrival_at (frame_at w.frames k) ms)) (asking_as g.uid g.preferred [] p.asker.id ms p.request None)
           ≡ after_allocation word false (record { node = node; first_part = false; uid = record { items = g.uid } })

@@ -1,11 +1,12 @@
--- A follower that accepted no request lately offers no Allocation in a step, and accepts none for longer.
+-- A follower that accepted no request lately offers no Allocation in a step; and where no request comes, a step leaves
+-- what was accepted.
 use Rattle.std.proofs.Common.{◌≡◌, ◌≢◌, ◌⊎◌, ℕ, Bool, true, false, List, [], ◌∷◌, length, max, refl, sym, ◌∙◌, ap, subst, arith, inl, inr, Option, None, Some}
-use Rattle.std.specs.Prelude.{⊤, ◌-◌, ◌&&◌, not, if◌then◌else◌, nat_eq, nat_le}
+use Rattle.std.specs.Prelude.{⊤, ◌-◌, not, nat_eq, nat_le}
 use Rattle.alloc_exchange.specs.declared.heard.Heard.{Heard}
 use Rattle.alloc_exchange.specs.declared.heard.Heard.TheVariants.{Denied, FollowUp, Ignored, Whole}
 use Rattle.alloc_exchange.specs.declared.stage.Stage.{Stage}
 use Rattle.alloc_exchange.specs.declared.stage.Stage.TheVariants.{First, Second, Third}
-use Rattle.alloc_exchange.specs.Exchange.{Accepted, after, after_message, answer, answer_to, bytes_before, has_length, is_expected, is_whole, left_over, recent_requests, stage_length, stage_of, with_request as accepting}
+use Rattle.alloc_exchange.specs.Exchange.{Accepted, answer, answer_to, bytes_before, has_length, is_expected, is_whole, recent_requests, stage_length, stage_of, with_request as accepting}
 use Rattle.can_frame.specs.declared.identifier.Kind.{Kind}
 use Rattle.can_frame.specs.declared.identifier.Kind.TheVariants.{Anonymous, Message as Broadcast, Request as RequestKind, Response}
 use Rattle.can_frame.specs.declared.step.What.TheVariants.{Alloc}
@@ -220,29 +221,15 @@ module _ (message : Allocation) (now : ℕ) where
       (eq_true (length message.uid.items) 16 w)))
       (λ w. tt)))
 
-  none_left : after_message [] message now false ≡ []
-  none_left = either (λ (l : List Accepted). l ≡ []) (has_length message && is_expected [] message) (left_over (accepting [] message now) false) []
-      (λ e. either (λ (l : List Accepted). l ≡ []) (is_whole (accepting [] message now)) [] (if false then accepting [] message now else []) (λ w. refl) (λ w. refl)) (λ e. refl)
-
   pub is_denied : (accepted : List Accepted) → recent_requests accepted now ≡ [] → GivesNone (answer accepted message now false)
   unfolding answer
   is_denied accepted stale = subst (λ (l : List Accepted). GivesNone (answer_to l message now false)) (sym stale) denied
-
-  pub leaves_none : (accepted : List Accepted) → recent_requests accepted now ≡ [] → after accepted message now false ≡ []
-  unfolding after
-  leaves_none accepted stale = ap (λ (l : List Accepted). after_message l message now false) stale ∙ none_left
 
 none_offered : (number : ℕ) (heard : Heard) (g : StepState) → GivesNone heard → (answers_request number heard g).offers ≡ g.offers
 none_offered number (FollowUp bytes) g none = absurd none
 none_offered number (Whole uid preferred) g none = absurd none
 none_offered number (Ignored why) g none = refl
 none_offered number Denied g none = refl
-
-same_accepted : (number : ℕ) (heard : Heard) (g : StepState) → GivesNone heard → (answers_request number heard g).allocator.accepted ≡ g.allocator.accepted
-same_accepted number (FollowUp bytes) g none = absurd none
-same_accepted number (Whole uid preferred) g none = absurd none
-same_accepted number (Ignored why) g none = refl
-same_accepted number Denied g none = refl
 
 module _ (t : AllocatorState) (number : ℕ) (arrival : Arrival) (d : Delivery) (message : Allocation) (gives : comes_to t arrival ≡ Gives d) (kind : d.ident.kind ≡ Anonymous)
     (says : allocation_of d.payload ≡ Some message) (follows : t.raft_server.memory.role ≡ Follower) (stale : recent_requests t.accepted (max t.now arrival.moment) ≡ []) where
@@ -266,18 +253,15 @@ module _ (t : AllocatorState) (number : ℕ) (arrival : Arrival) (d : Delivery) 
       ∙ none_offered number (answer t.accepted message (max t.now arrival.moment) (may_follow (with_sessions arrival (begin_phase number arrival.moment t)).allocator))
       (with_request message (with_sessions arrival (begin_phase number arrival.moment t))) gives_none
 
-  pub asked_accepted : (step t number (Rx arrival)).step_state.allocator.accepted ≡ []
-  asked_accepted = ends_kept number [] t (Rx arrival) (ap (λ (g : StepState). g.allocator.accepted) (seen_is t number arrival d message gives kind says)
-      ∙ (same_accepted number (answer t.accepted message (max t.now arrival.moment) (may_follow (with_sessions arrival (begin_phase number arrival.moment t)).allocator))
-      (with_request message (with_sessions arrival (begin_phase number arrival.moment t))) gives_none
-      ∙ (ap (λ (b : Bool). after t.accepted message (max t.now arrival.moment) b) may_not ∙ leaves_none message (max t.now arrival.moment) t.accepted stale)))
+-- ---- whether a request comes
 
--- ---- a step of a follower
-
--- it offers no Allocation, and has accepted what it had, or nothing
-pub record SaysNothing (t : AllocatorState) (number : ℕ) (event : Event) : Type 0 where
-  pub free : (x : Offer) → In x (step t number event).step_state.offers → x.what ≢ Alloc
-  pub accepted : ((step t number event).step_state.allocator.accepted ≡ t.accepted) ⊎ ((step t number event).step_state.allocator.accepted ≡ [])
+-- a request comes to a server with this arrival
+pub record Asks (t : AllocatorState) (arrival : Arrival) : Type 0 where
+  pub delivery : Delivery
+  pub message : Allocation
+  pub gives : comes_to t arrival ≡ Gives delivery
+  pub anonymous : delivery.ident.kind ≡ Anonymous
+  pub says : allocation_of delivery.payload ≡ Some message
 
 one_delivery : (x y : Delivery) → Gives x ≡ Gives y → x ≡ y
 one_delivery x y e = cc (e)
@@ -285,40 +269,48 @@ one_delivery x y e = cc (e)
 one_arrival : (x y : Arrival) → Rx x ≡ Rx y → x ≡ y
 one_arrival x y e = cc (e)
 
-module _ (t : AllocatorState) (number : ℕ) (follows : t.raft_server.memory.role ≡ Follower) where
-  says_nothing_unasked : (event : Event) → (step t number event).step_state.allocator.raft_server.memory.role ≡ Follower → IsUnasked t event → SaysNothing t number event
-  says_nothing_unasked event then_follows none = record {
-    free = λ x i e. seen_free t number event none x (end_from t number event (follower_tells_none t number event then_follows) x i e) e;
-    accepted = inl (unasked_kept t number event none);
-  }
+module _ (t : AllocatorState) (arrival : Arrival) where
+  -- what comes with this arrival comes with each that is the same
+  comes_too : (a : Answer) → comes_to t arrival ≡ a → (other : Arrival) → Rx arrival ≡ Rx other → (d : Delivery) → comes_to t other ≡ Gives d → a ≡ Gives d
+  comes_too a e other is d gives = sym e ∙ (ap (comes_to t) (one_arrival arrival other is) ∙ gives)
 
-  by_answer : (arrival : Arrival) → (step t number (Rx arrival)).step_state.allocator.raft_server.memory.role ≡ Follower → recent_requests t.accepted (max t.now arrival.moment) ≡ []
-      → (a : Answer) → comes_to t arrival ≡ a → SaysNothing t number (Rx arrival)
-  by_answer arrival then_follows stale (Gives d) e = by_kind_ d.ident.kind refl
+  by_answer : (a : Answer) → comes_to t arrival ≡ a → Asks t arrival ⊎ IsUnasked t (Rx arrival)
+  by_answer (Gives d) e = by_kind_ d.ident.kind refl
     where
-      anonymous : d.ident.kind ≡ Anonymous → (o : Option Allocation) → allocation_of d.payload ≡ o → SaysNothing t number (Rx arrival)
-      anonymous kind None says = says_nothing_unasked (Rx arrival) then_follows (λ other is x message gives k s.
-          cc (says, ap (λ (y : Delivery). allocation_of y.payload) (one_delivery d x (sym e ∙ (ap (comes_to t) (one_arrival arrival other is) ∙ gives))) ∙ s))
-      anonymous kind (Some message) says = record {
-        free = λ x i f. absurd (subst (λ (l : List Offer). In x l) (asked_silent t number arrival d message e kind says follows stale)
-            (end_from t number (Rx arrival) (follower_tells_none t number (Rx arrival) then_follows) x i f));
-        accepted = inr (asked_accepted t number arrival d message e kind says follows stale);
-      }
+      same : (other : Arrival) → Rx arrival ≡ Rx other → (x : Delivery) → comes_to t other ≡ Gives x → d ≡ x
+      same other is x gives = one_delivery d x (comes_too (Gives d) e other is x gives)
 
-      by_kind_ : (kind : Kind) → d.ident.kind ≡ kind → SaysNothing t number (Rx arrival)
-      by_kind_ Anonymous k = anonymous k (allocation_of d.payload) refl
-      by_kind_ Broadcast k = says_nothing_unasked (Rx arrival) then_follows (λ other is x message gives kind s.
-          cc (k, ap (λ (y : Delivery). y.ident.kind) (one_delivery d x (sym e ∙ (ap (comes_to t) (one_arrival arrival other is) ∙ gives))) ∙ kind))
-      by_kind_ RequestKind k = says_nothing_unasked (Rx arrival) then_follows (λ other is x message gives kind s.
-          cc (k, ap (λ (y : Delivery). y.ident.kind) (one_delivery d x (sym e ∙ (ap (comes_to t) (one_arrival arrival other is) ∙ gives))) ∙ kind))
-      by_kind_ Response k = says_nothing_unasked (Rx arrival) then_follows (λ other is x message gives kind s.
-          cc (k, ap (λ (y : Delivery). y.ident.kind) (one_delivery d x (sym e ∙ (ap (comes_to t) (one_arrival arrival other is) ∙ gives))) ∙ kind))
-  by_answer arrival then_follows stale Continues e = says_nothing_unasked (Rx arrival) then_follows (λ other is x message gives kind s.
-      cc (sym e ∙ (ap (comes_to t) (one_arrival arrival other is) ∙ gives)))
-  by_answer arrival then_follows stale (Drops why) e = says_nothing_unasked (Rx arrival) then_follows (λ other is x message gives kind s.
-      cc (sym e ∙ (ap (comes_to t) (one_arrival arrival other is) ∙ gives)))
+      anonymous_ : d.ident.kind ≡ Anonymous → (o : Option Allocation) → allocation_of d.payload ≡ o → Asks t arrival ⊎ IsUnasked t (Rx arrival)
+      anonymous_ kind None says = inr (λ other is x message gives k s. cc (says, ap (λ (y : Delivery). allocation_of y.payload) (same other is x gives) ∙ s))
+      anonymous_ kind (Some message) says = inl (record { delivery = d; message = message; gives = e; anonymous = kind; says = says })
+
+      by_kind_ : (kind : Kind) → d.ident.kind ≡ kind → Asks t arrival ⊎ IsUnasked t (Rx arrival)
+      by_kind_ Anonymous k = anonymous_ k (allocation_of d.payload) refl
+      by_kind_ Broadcast k = inr (λ other is x message gives kind s. cc (k, ap (λ (y : Delivery). y.ident.kind) (same other is x gives) ∙ kind))
+      by_kind_ RequestKind k = inr (λ other is x message gives kind s. cc (k, ap (λ (y : Delivery). y.ident.kind) (same other is x gives) ∙ kind))
+      by_kind_ Response k = inr (λ other is x message gives kind s. cc (k, ap (λ (y : Delivery). y.ident.kind) (same other is x gives) ∙ kind))
+  by_answer Continues e = inr (λ other is x message gives kind s. cc (comes_too Continues e other is x gives))
+  by_answer (Drops why) e = inr (λ other is x message gives kind s. cc (comes_too (Drops why) e other is x gives))
+
+  pub asks_or_not : Asks t arrival ⊎ IsUnasked t (Rx arrival)
+  asks_or_not = by_answer (comes_to t arrival) refl
+
+-- ---- a step of a follower
+
+module _ (t : AllocatorState) (number : ℕ) (follows : t.raft_server.memory.role ≡ Follower) where
+  -- it offers no Allocation
+  abbrev OffersNone : Event → Type 0
+  OffersNone event = (x : Offer) → In x (step t number event).step_state.offers → x.what ≢ Alloc
+
+  unasked_says : (event : Event) → (step t number event).step_state.allocator.raft_server.memory.role ≡ Follower → IsUnasked t event → OffersNone event
+  unasked_says event then_follows none x i e = seen_free t number event none x (end_from t number event (follower_tells_none t number event then_follows) x i e) e
 
   pub says_nothing : (event : Event) → (step t number event).step_state.allocator.raft_server.memory.role ≡ Follower
-      → recent_requests t.accepted (max t.now (moment_of event)) ≡ [] → SaysNothing t number event
-  says_nothing (Tick now word) then_follows stale = says_nothing_unasked (Tick now word) then_follows (λ arrival is. absurd (cc (is)))
-  says_nothing (Rx arrival) then_follows stale = by_answer arrival then_follows stale (comes_to t arrival) refl
+      → recent_requests t.accepted (max t.now (moment_of event)) ≡ [] → (x : Offer) → In x (step t number event).step_state.offers → x.what ≢ Alloc
+  says_nothing (Tick now word) then_follows stale = unasked_says (Tick now word) then_follows (λ arrival is. absurd (cc (is)))
+  says_nothing (Rx arrival) then_follows stale = elim (asks_or_not t arrival) [
+    | inl a ↦ λ x i e. absurd (subst (λ (l : List Offer). In x l)
+        (asked_silent t number arrival a.delivery a.message a.gives a.anonymous a.says follows stale)
+        (end_from t number (Rx arrival) (follower_tells_none t number (Rx arrival) then_follows) x i e))
+    | inr none ↦ unasked_says (Rx arrival) then_follows none
+  ]

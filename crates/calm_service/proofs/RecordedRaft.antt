@@ -82,10 +82,10 @@ module _ (top : ℕ) (log : List Entry) where
   }
 
   -- with an entry more that it proposes
-  pub leads_longer : (members : List ℕ) (me number : ℕ) (server : RaftServer) (uid : List ℕ) (node : ℕ) → LeadsOnLog top log server
+  pub leads_longer : (members : List ℕ) (me number : ℕ) (server : RaftServer) (uid : List ℕ) (node : ℕ) → LeadsAt top server → server.store.log ≡ log
       → LeadsOnLog top (log ++ proposal top uid node ∷ []) (server_after members me number server (ProposeEntry (proposal server.store.term uid node)))
-  leads_longer members me number server uid node h = record {
-    leads = leads_through top members me number server (ProposeEntry (proposal server.store.term uid node)) tt h.leads;
-    log_is = λ i. h.log_is i ++ proposal (h.leads.1 i) uid node ∷ [];
+  leads_longer members me number server uid node leads log_is = record {
+    leads = leads_through top members me number server (ProposeEntry (proposal server.store.term uid node)) tt leads;
+    log_is = λ i. log_is i ++ proposal (leads.1 i) uid node ∷ [];
     no_blank = inr (ap (λ (e : Entry). e.term) (last_entry log (proposal top uid node)));
   }

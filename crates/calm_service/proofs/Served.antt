@@ -1,5 +1,5 @@
 -- A new device in a calm: the leader records its unique ID in the row in which it hears it whole.
-use Rattle.std.proofs.Common.{◌≡◌, ℕ, ◌+◌, ◌≤◌, Bool, false, List, [], ◌∷◌, ◌++◌, length, max, refl, sym, ◌∙◌, ap, subst, arith}
+use Rattle.std.proofs.Common.{◌≡◌, ℕ, ◌+◌, ◌≤◌, Bool, false, List, [], ◌∷◌, ◌++◌, length, append_assoc, max, refl, sym, ◌∙◌, ap, subst, arith}
 use Rattle.alloc_exchange.specs.Exchange.{answer}
 use Rattle.can_frame.specs.declared.entry.Entry.{Entry}
 use Rattle.id_selector.specs.Choice.{IsChoice, chosen}
@@ -23,13 +23,14 @@ use Rattle.cluster_progress.proofs.FollowUps.{may}
 use Rattle.cluster_recovery.specs.Calm.{HasSettled, Pace, Timed, end_of, rows_in}
 use Rattle.cluster_recovery.proofs.Choosing.{Chooses}
 use Rattle.cluster_recovery.proofs.Members.{steps_up}
-use Rattle.cluster_calm.specs.Calls.{ListsStay}
+use Rattle.cluster_calm.specs.Calls.{Lists, ListsStay}
 use Rattle.cluster_calm.specs.Calm.{AreCalm, Member as OfMember, Party, no_traffic}
 use Rattle.calm_service.specs.Dialog.{HearsWhole, HearsWholeBy}
 use Rattle.calm_leader.specs.LeadsOn.{LeadsIn}
 use Rattle.calm_service.specs.Served.{HasPlaceFor, IsLeft, IsRecordedBy, LeadsWithLog, ListsAll}
 use Rattle.calm_service.specs.Settled.{IsCalmUnder}
 use Rattle.cluster_calm.proofs.Pair.{same_server}
+use Rattle.calm_leader.proofs.Stretches.{world_both}
 use Rattle.calm_service.proofs.ServedChoice.{finds_one, gives_left, may_record}
 use Rattle.cluster_spec.specs.Cluster.{Cluster, after_row, after_rows, arrival_at, frame_at, receipt_of, world_of}
 use Rattle.cluster_spec.specs.Members.{Member, MemberStatus, member_after_step}
@@ -138,37 +139,56 @@ module _ (laws : ServedLaws) (ids : List ℕ) (n term ahead : ℕ) (log : List E
     its_log = records.log ∙ (λ i. done.log_is i ++ proposal (its_term i) uid choice.node ∷ []);
   }
 
--- in a calm
-module _ (laws : ServedLaws) (ids : List ℕ) (rows : List Row) (group : List Party) (clocks : Party → ℕ) (pace : Pace) (start n term : ℕ) (whole : List Timed)
-    (under : IsCalmUnder ids rows group clocks pace start n term [] whole)
-    (among : (front rest : List Timed) (t : AllocatorState) → whole ≡ front ++ rest → ((after_rows (world_of ids rows) (rows_in front)).member n).status ≡ Up t → (p : ℕ)
-    → In p (members_of t) → In p ids)
+-- in a calm, behind its first rows
+module _ (laws : ServedLaws) (ids : List ℕ) (rows : List Row) (group : List Party) (clocks : Party → ℕ) (pace : Pace) (start n term : ℕ) (first later : List Timed)
+    (under : IsCalmUnder ids rows group clocks pace start n term first later)
+    (among : (front rest : List Timed) (t : AllocatorState) → later ≡ front ++ rest
+    → ((after_rows (after_rows (world_of ids rows) (rows_in first)) (rows_in front)).member n).status ≡ Up t → (p : ℕ) → In p (members_of t) → In p ids)
     (log : List Entry) (uid : List ℕ) (preferred last : ℕ) (place : HasPlaceFor ids log uid) (lists : ListsAll n ids (world_of ids rows)) where
   abbrev w : Cluster
   w = world_of ids rows
 
-  pub is_recorded_by : {a wait : ℕ} → HearsWholeBy n a log (clocks (OfMember n)) wait uid preferred start last w whole → IsRecordedBy ids n term log (clocks (OfMember n)) uid start last w whole
-  is_recorded_by by = record {
-    front = by.front;
-    timed = by.timed;
-    rest = by.rest;
-    split = by.split;
-    soon = by.soon;
-    settled = by.settled;
-    node = (choice laws ids n term (clocks (OfMember n)) log uid preferred (end_of start by.front + clocks (OfMember n)) there by.timed by.settled led place listed among_there by.hears).node;
-    left = node_left laws ids n term (clocks (OfMember n)) log uid preferred (end_of start by.front + clocks (OfMember n)) there by.timed by.settled led place listed among_there by.hears;
-    recorded = recorded laws ids n term (clocks (OfMember n)) log uid preferred (end_of start by.front + clocks (OfMember n)) there by.timed by.settled led place listed among_there by.hears;
-  }
-    where
-      there : Cluster
-      there = after_rows w (rows_in by.front)
+  abbrev led_from : Cluster
+  led_from = after_rows w (rows_in first)
 
-      led : LeadsIn n term there
-      led = (under.led by.front (by.timed ∷ by.rest) by.split).leader
+  abbrev from : ℕ
+  from = end_of start first
 
-      listed : ListsAll n ids there
-      listed p i = laws.stay group clocks pace (no_traffic start) n p by.front (by.timed ∷ by.rest) w (under.running n under.member)
-          (subst (AreCalm group clocks pace (no_traffic start) w) by.split under.calm) (lists p i)
+  -- in the row in which it is heard
+  module _ (front rest : List Timed) (timed : Timed) (split : later ≡ front ++ timed ∷ rest) (soon : timed.at ≤ last)
+      (settled : HasSettled n log (end_of from front + clocks (OfMember n)) (after_rows led_from (rows_in front)))
+      (hears : HearsWhole n (clocks (OfMember n)) uid preferred (after_rows led_from (rows_in front)) timed) where
+    abbrev there : Cluster
+    there = after_rows led_from (rows_in front)
 
-      among_there : (t : AllocatorState) → (there.member n).status ≡ Up t → (p : ℕ) → In p (members_of t) → In p ids
-      among_there t = among by.front (by.timed ∷ by.rest) t by.split
+    led : LeadsIn n term there
+    led = (under.led front (timed ∷ rest) split).leader
+
+    whole : first ++ later ≡ (first ++ front) ++ timed ∷ rest
+    whole = ap (λ (l : List Timed). first ++ l) split ∙ sym (append_assoc first front (timed ∷ rest))
+
+    listed : ListsAll n ids there
+    listed p i = subst (Lists n p) (world_both w first front)
+        (laws.stay group clocks pace (no_traffic start) n p (first ++ front) (timed ∷ rest) w (under.running n under.member)
+        (subst (AreCalm group clocks pace (no_traffic start) w) whole under.calm) (lists p i))
+
+    among_there : (u : AllocatorState) → (there.member n).status ≡ Up u → (p : ℕ) → In p (members_of u) → In p ids
+    among_there u = among front (timed ∷ rest) u split
+
+    pub is_recorded_in : IsRecordedBy ids n term log (clocks (OfMember n)) uid from last led_from later
+    is_recorded_in = record {
+      front = front;
+      timed = timed;
+      rest = rest;
+      split = split;
+      soon = soon;
+      settled = settled;
+      node = (choice laws ids n term (clocks (OfMember n)) log uid preferred (end_of from front + clocks (OfMember n)) there timed settled led place listed among_there hears).node;
+      left = node_left laws ids n term (clocks (OfMember n)) log uid preferred (end_of from front + clocks (OfMember n)) there timed settled led place listed among_there hears;
+      recorded = recorded laws ids n term (clocks (OfMember n)) log uid preferred (end_of from front + clocks (OfMember n)) there timed settled led place listed among_there hears;
+    }
+
+  -- so it is recorded where the device waits to be told
+  pub is_recorded_by : {a wait : ℕ} → HearsWholeBy n a log (clocks (OfMember n)) wait uid preferred from last led_from later
+      → IsRecordedBy ids n term log (clocks (OfMember n)) uid from last led_from later
+  is_recorded_by by = is_recorded_in by.front by.rest by.timed by.split by.soon by.settled by.hears

@@ -1,5 +1,5 @@
 -- A device that holds a node ID holds the one that a leader has committed for its unique ID.
-use Rattle.std.proofs.Common.{◌≡◌, ◌≢◌, ℕ, ◌<◌, ◌≤◌, Bool, List, [], ◌∷◌, ◌++◌, length, take, sym, ◌∙◌, ap, subst, inl, arith}
+use Rattle.std.proofs.Common.{◌≡◌, ◌≢◌, ℕ, ◌<◌, ◌≤◌, Bool, List, [], ◌∷◌, ◌++◌, length, append_assoc, take, sym, ◌∙◌, ap, subst, inl, arith}
 use Rattle.std.specs.Prelude.{slice_index_or}
 use Rattle.std.proofs.Math.Seq.{get_or-append_seam, get_or-take}
 use Rattle.std.proofs.lemmas.List.{append-nil, length-take-le}
@@ -14,9 +14,15 @@ use Rattle.alloc_spec.specs.AllocatorState.{AllocatorState}
 use Rattle.cluster_agreement.specs.Allocatees.{Allocatees, HasAllocatees, Holds}
 use Rattle.cluster_agreement.specs.Headline.{HasHeadline, Headline, the_list}
 use Rattle.cluster_agreement.proofs.HeadlineOfRuns.{still_pair}
+use Rattle.cluster_recovery.specs.Calm.{Timed, rows_in}
 use Rattle.cluster_recovery.proofs.Choosing.{same_node}
+use Rattle.cluster_recovery.proofs.Goes.{after_both}
+use Rattle.calm_leader.proofs.Stretches.{rows_both}
+use Rattle.calm_service.specs.Served.{IsLeft, LeadsWithLog}
+use Rattle.calm_service.proofs.ServedBehind.{harmless_to, up_to}
 use Rattle.cluster_spec.specs.Choices.{AgreesWithDisk}
-use Rattle.cluster_spec.specs.Cluster.{cluster, world_of}
+use Rattle.cluster_spec.specs.Cluster.{Cluster, after_rows, cluster, world_of}
+use Rattle.cluster_spec.specs.Lawful.{DoNoHarm}
 use Rattle.cluster_spec.specs.Logs.{committed}
 use Rattle.cluster_spec.specs.Members.MemberStatus.{Up}
 
@@ -67,3 +73,44 @@ module _ (ids : List ℕ) (first more : List Row) (choice : ℕ → Bool) (fits 
   pub agreed : (a other : ℕ) → Holds (world_of ids (first ++ more)) a uid other → other ≡ node
   agreed a other holds = one_node (the_list choice (world_of ids (first ++ more))) uid other node there.injective pair.uid
       (subst (λ (l : List Row). HasPair (the_list choice (world_of ids l)) uid other) (append-nil (first ++ more)) (devices.held uid other (inl (a, holds)))) its_pair
+
+-- ---- in rows behind others
+
+-- What device a holds of this unique ID behind a front of these rows is the node ID that member n has committed for it behind an earlier front, at which it leads.
+abbrev pub AgreesBehind : (ids : List ℕ) (n a term : ℕ) (log : List Entry) (uid : List ℕ) (w : Cluster) → List Timed → Type 0
+AgreesBehind ids n a term log uid w whole = (front mid rest : List Timed) (node other : ℕ) (more : List Entry) → whole ≡ (front ++ mid) ++ rest
+    → (leads : LeadsWithLog n term (log ++ proposal term uid node ∷ more) (after_rows w (rows_in front))) → length log < leads.server.raft_server.store.commit
+    → IsLeft ids log node → Holds (after_rows w (rows_in (front ++ mid))) a uid other → other ≡ node
+
+module _ (ids : List ℕ) (n : ℕ)
+    (choices : (list : List Row) → DoNoHarm (cluster ids) list → (choice : ℕ → Bool) × AgreesWithDisk choice (cluster ids) list)
+    (headline : (list : List Row) → DoNoHarm (cluster ids) list → HasHeadline ids list)
+    (allocatees : (list : List Row) → DoNoHarm (cluster ids) list → HasAllocatees ids list) (listed : (list : List Row) → In n (world_of ids list).ids)
+    (inside : (list : List Row) → DoNoHarm (cluster ids) list → (t : AllocatorState) → ((world_of ids list).member n).status ≡ Up t
+    → t.raft_server.store.commit ≤ length t.raft_server.store.log)
+    (rows : List Row) (harmless : DoNoHarm (cluster ids) rows) (whole : List Timed) (fine : DoNoHarm (world_of ids rows) (rows_in whole)) where
+  fine_to : (front rest : List Timed) → whole ≡ front ++ rest → DoNoHarm (cluster ids) (rows ++ rows_in front)
+  fine_to = harmless_to ids rows whole harmless fine
+
+  pub agrees_behind : (a term : ℕ) (log : List Entry) (uid : List ℕ) → uid ≢ zeros → AgreesBehind ids n a term log uid (world_of ids rows) whole
+  agrees_behind a term log uid device front mid rest node other more cut leads low left holds =
+      agreed ids early (rows_in mid) chosen.0 chosen.1 (headline (early ++ rows_in mid) safe) (allocatees (early ++ rows_in mid) safe) n (listed early) leads.server up log
+      more term uid node leads.its_log low (inside early (fine_to front (mid ++ rest) (cut ∙ append_assoc front mid rest)) leads.server up)
+      (record { uid = device; least = left.least; most = left.most }) a other
+      (subst (λ (l : List Row). Holds (world_of ids l) a uid other) same
+      (subst (λ (v : Cluster). Holds v a uid other) (sym (after_both (cluster ids) rows (rows_in (front ++ mid)))) holds))
+    where
+      early : List Row
+      early = rows ++ rows_in front
+
+      same : rows ++ rows_in (front ++ mid) ≡ early ++ rows_in mid
+      same = ap (λ (l : List Row). rows ++ l) (rows_both front mid) ∙ sym (append_assoc rows (rows_in front) (rows_in mid))
+
+      safe : DoNoHarm (cluster ids) (early ++ rows_in mid)
+      safe = subst (DoNoHarm (cluster ids)) same (fine_to (front ++ mid) rest cut)
+
+      chosen : (choice : ℕ → Bool) × AgreesWithDisk choice (cluster ids) (early ++ rows_in mid)
+      chosen = choices (early ++ rows_in mid) safe
+
+      up : ((world_of ids early).member n).status ≡ Up leads.server
+      up = up_to ids rows n front leads.server leads.runs

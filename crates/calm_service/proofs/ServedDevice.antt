@@ -1,23 +1,26 @@
 -- A new device in a calm: from the row in which its pair is told to the one in which it holds its node ID.
-use Rattle.std.proofs.Common.{◌≡◌, ℕ, ◌+◌, ◌*◌, ◌<◌, ◌≤◌, List, [], ◌∷◌, ◌++◌, length, append_assoc, refl, sym, ◌∙◌, ap, subst, arith, Some}
+use Rattle.std.proofs.Common.{◌≡◌, ℕ, ◌+◌, ◌*◌, ◌<◌, ◌≤◌, List, [], ◌∷◌, ◌++◌, length, append_assoc, sym, ◌∙◌, ap, subst, arith, Some}
 use Rattle.can_frame.specs.declared.entry.Entry.{Entry}
+use Rattle.can_frame.specs.Timing.{call_timeout}
 use Rattle.dsdl_codec.specs.declared.allocation.Allocation.{Allocation}
 use Rattle.dsdl_codec.specs.Allocation.{IsAllocation, allocation_bytes, allocation_of}
 use Rattle.raft_core.specs.Taken.{proposal}
 use Rattle.replay_text.specs.declared.row.Row.{Row}
 use Rattle.allocatee.specs.Allocatee.{Device, Event, opening, step}
-use Rattle.alloc_spec.specs.Transfers.{SentTransfer}
 use Rattle.cluster_agreement.specs.Allocatees.{Holds}
 use Rattle.cluster_recovery.specs.Calm.{Pace, Timed, end_of, rows_in}
-use Rattle.cluster_calm.specs.Calm.{AreCalm, Device as OfDevice, Party, no_traffic}
+use Rattle.cluster_calm.specs.Calm.{Device as OfDevice, Party}
 use Rattle.cluster_calm.specs.Comes.{Sends, Throughout, sent_by}
 use Rattle.cluster_calm.specs.Devices.{AllocationsComeInCalm, ComesToBy, DeviceHasMemory, SendsShortAllocations}
+use Rattle.calm_service.specs.AskingServed.{CanBeTold}
 use Rattle.calm_service.specs.Dialog.{HasJustCome}
 use Rattle.calm_service.specs.Served.{IsServedBy, IsToldBy, LeadsWithLog, PairsFit}
 use Rattle.calm_service.specs.Settled.{IsCalmUnder}
-use Rattle.calm_service.proofs.ServedHolds.{IsDevice, holds_one, is_there}
+use Rattle.calm_service.proofs.DevicePaired.{PairComes, pair_comes}
+use Rattle.calm_service.proofs.ServedAgree.{AgreesBehind}
+use Rattle.calm_service.proofs.ServedHolds.{IsDevice}
 use Rattle.calm_service.proofs.ServedInTime.{heads}
-use Rattle.calm_leader.proofs.Stretches.{end_both, end_last, world_both}
+use Rattle.calm_leader.proofs.Stretches.{end_last, world_both}
 use Rattle.cluster_spec.specs.Cluster.{Cluster, after_row, after_rows, world_of}
 use Rattle.cluster_spec.specs.Members.MemberStatus.{Up}
 
@@ -30,19 +33,24 @@ fits_at n node uid (first ∷ front) rest timed w fits = fits_at n node uid fron
 module _ (ids : List ℕ) (rows : List Row) (come_in : AllocationsComeInCalm ids rows)
     (stays : (d : Device) (number : ℕ) (event : Event) → (step d number event).device.asking.uid ≡ d.asking.uid)
     (read : (value : Allocation) → IsAllocation value → allocation_of (allocation_bytes value) ≡ Some value)
-    (group : List Party) (clocks : Party → ℕ) (pace : Pace) (start n a term : ℕ) (whole : List Timed)
-    (under : IsCalmUnder ids rows group clocks pace start n term [] whole) (uid : List ℕ) (preferred : ℕ) (log : List Entry)
-    (come : HasJustCome group clocks start n a uid preferred log (world_of ids rows)) (memory : Throughout (DeviceHasMemory a) (world_of ids rows) whole)
-    (fits : PairsFit n (world_of ids rows) whole) (short : SendsShortAllocations n (world_of ids rows) whole) (quick : pace.period + 4 * pace.delay ≤ 100) (last : ℕ)
-    (told : IsToldBy ids n term log uid start last (world_of ids rows) whole) (long : last + 2 * pace.delay < end_of start whole)
-    (agree : (front mid rest : List Timed) (other : ℕ) → whole ≡ (front ++ mid) ++ rest
-    → (leads : LeadsWithLog n term (log ++ proposal term uid told.node ∷ told.more) (after_rows (world_of ids rows) (rows_in front)))
-    → length log < leads.server.raft_server.store.commit → Holds (after_rows (world_of ids rows) (rows_in (front ++ mid))) a uid other → other ≡ told.node) where
+    (group : List Party) (clocks : Party → ℕ) (pace : Pace) (start n a term : ℕ) (first later : List Timed)
+    (under : IsCalmUnder ids rows group clocks pace start n term first later) (uid : List ℕ) (size : length uid ≡ 16) (log : List Entry)
+    (is_its : IsDevice uid ((world_of ids rows).allocatee a)) (can : CanBeTold group n a (world_of ids rows) (first ++ later))
+    (fits : PairsFit n (after_rows (world_of ids rows) (rows_in first)) later) (quick : 4 * pace.delay < call_timeout) (last : ℕ)
+    (told : IsToldBy ids n term log uid (end_of start first) last (after_rows (world_of ids rows) (rows_in first)) later)
+    (long : last + 2 * pace.delay < end_of (end_of start first) later)
+    (agree : AgreesBehind ids n a term log uid (world_of ids rows) (first ++ later)) where
   abbrev w : Cluster
   w = world_of ids rows
 
+  abbrev led_from : Cluster
+  led_from = after_rows w (rows_in first)
+
+  abbrev from : ℕ
+  from = end_of start first
+
   abbrev there : Cluster
-  there = after_rows w (rows_in told.front)
+  there = after_rows led_from (rows_in told.front)
 
   sends : Sends n there told.timed.row told.tells.offer
   sends = record {
@@ -51,41 +59,19 @@ module _ (ids : List ℕ) (rows : List Row) (come_in : AllocationsComeInCalm ids
     event = told.tells.event;
     in_step = told.tells.in_step;
     offered = told.tells.offered;
-    fitted = (fits_at n told.node uid told.front told.rest told.timed w (subst (PairsFit n w) told.split fits)).0 told.node uid told.tells;
+    fitted = (fits_at n told.node uid told.front told.rest told.timed led_from (subst (PairsFit n led_from) told.split fits)).0 told.node uid told.tells;
   }
 
-  abbrev x : SentTransfer
-  x = sent_by n there told.tells.offer
+  -- the device holds a node ID when it has come
+  paired : PairComes a uid (sent_by n there told.tells.offer) (told.timed.at + 2 * pace.delay) led_from told.front told.rest later told.timed
+  paired = pair_comes ids rows come_in stays read group clocks pace start n a term first later under uid size is_its can (omega (arith, quick)) told.front told.rest told.timed
+      told.split told.node told.left.least told.left.most told.tells.offer told.tells.what told.tells.payload sends last told.soon long
 
-  comes : ComesToBy a x (told.timed.at + 2 * pace.delay) there (told.timed ∷ told.rest)
-  comes = come_in group clocks pace start n a told.front told.rest told.timed told.tells.offer under.listed under.running under.member come.of_group
-      (omega (arith, quick))
-      (record {
-        sender = come.settled.server;
-        sends = come.settled.runs;
-        none_waits = come.none_waits;
-        device = opening uid preferred (start + clocks (OfDevice a)) come.word;
-        there = come.there;
-      })
-      tt (subst (AreCalm group clocks pace (no_traffic start) w) told.split under.calm) (subst (Throughout (DeviceHasMemory a) w) told.split memory)
-      (subst (SendsShortAllocations n w) told.split short) sends told.tells.what
-      (let s = told.soon in omega (arith, s, long, ap (λ (l : List Timed). end_of start l) told.split, end_both start told.front (told.timed ∷ told.rest)))
+  abbrev comes : ComesToBy a (sent_by n there told.tells.offer) (told.timed.at + 2 * pace.delay) there (told.timed ∷ told.rest)
+  comes = paired.comes
 
   abbrev before : List Timed
   before = told.front ++ comes.front
-
-  split_there : whole ≡ before ++ comes.timed ∷ comes.rest
-  split_there = told.split ∙ (ap (λ (l : List Timed). told.front ++ l) comes.split ∙ sym (append_assoc told.front comes.front (comes.timed ∷ comes.rest)))
-
-  is_device : IsDevice uid ((after_rows there (rows_in comes.front)).allocatee a)
-  is_device = subst (λ (v : Cluster). IsDevice uid (v.allocatee a)) (world_both w told.front comes.front)
-      (is_there stays group clocks pace a uid before (comes.timed ∷ comes.rest) (no_traffic start) w
-      (subst (AreCalm group clocks pace (no_traffic start) w) split_there under.calm)
-      (opening uid preferred (start + clocks (OfDevice a)) come.word, come.there, refl))
-
-  held : (other : ℕ) × Holds (after_row (after_rows there (rows_in comes.front)) comes.timed.row) a uid other
-  held = holds_one stays read a uid come.whole told.node told.left.least told.left.most (after_rows there (rows_in comes.front)) comes.timed.row is_device x
-      told.tells.what told.tells.payload comes.delivers
 
   -- the row of the pair is the first of these
   parts : (more : List Timed) × (comes.front ++ comes.timed ∷ [] ≡ told.timed ∷ more) × (told.rest ≡ more ++ ([] ++ comes.rest))
@@ -98,19 +84,11 @@ module _ (ids : List ℕ) (rows : List Row) (come_in : AllocationsComeInCalm ids
   front_is = append_assoc told.front comes.front (comes.timed ∷ [])
       ∙ (ap (λ (l : List Timed). told.front ++ l) parts.1 ∙ sym (append_assoc told.front (told.timed ∷ []) parts.0))
 
-  same_world : after_rows w (rows_in (before ++ comes.timed ∷ [])) ≡ after_row (after_rows there (rows_in comes.front)) comes.timed.row
-  same_world = world_both w before (comes.timed ∷ []) ∙ ap (λ (v : Cluster). after_row v comes.timed.row) (world_both w told.front comes.front)
+  then_world : after_rows w (rows_in (first ++ early)) ≡ after_row there told.timed.row
+  then_world = world_both w first early ∙ world_both led_from told.front (told.timed ∷ [])
 
-  cut : whole ≡ (before ++ comes.timed ∷ []) ++ comes.rest
-  cut = split_there ∙ sym (append_assoc before (comes.timed ∷ []) comes.rest)
-
-  it_holds : Holds (after_rows w (rows_in (before ++ comes.timed ∷ []))) a uid held.0
-  it_holds = subst (λ (v : Cluster). Holds v a uid held.0) (sym same_world) held.1
-
-  then_world : after_rows w (rows_in early) ≡ after_row there told.timed.row
-  then_world = world_both w told.front (told.timed ∷ [])
-
-  leads_then : (leads : LeadsWithLog n term (log ++ proposal term uid told.node ∷ told.more) (after_rows w (rows_in early))) × (length log < leads.server.raft_server.store.commit)
+  leads_then : (leads : LeadsWithLog n term (log ++ proposal term uid told.node ∷ told.more) (after_rows w (rows_in (first ++ early))))
+      × (length log < leads.server.raft_server.store.commit)
   leads_then = (
     record {
       server = told.leads.server;
@@ -122,18 +100,44 @@ module _ (ids : List ℕ) (rows : List Row) (come_in : AllocationsComeInCalm ids
     told.committed,
   )
 
-  is_node : held.0 ≡ told.node
-  is_node = agree early parts.0 comes.rest held.0 (cut ∙ ap (λ (l : List Timed). l ++ comes.rest) front_is) leads_then.0 leads_then.1
-      (subst (λ (l : List Timed). Holds (after_rows w (rows_in l)) a uid held.0) front_is it_holds)
+  -- all rows up to the one in which the Allocation comes
+  all_is : first ++ (before ++ comes.timed ∷ []) ≡ (first ++ early) ++ parts.0
+  all_is = ap (λ (l : List Timed). first ++ l) front_is ∙ sym (append_assoc first early parts.0)
+
+  cut_all : first ++ later ≡ ((first ++ early) ++ parts.0) ++ comes.rest
+  cut_all = ap (λ (l : List Timed). first ++ l) paired.split ∙ (sym (append_assoc first (before ++ comes.timed ∷ []) comes.rest) ∙ ap (λ (l : List Timed). l ++ comes.rest) all_is)
+
+  is_node : paired.node ≡ told.node
+  is_node = agree (first ++ early) parts.0 comes.rest told.node paired.node told.more cut_all leads_then.0 leads_then.1 told.left
+      (subst (λ (l : List Timed). Holds (after_rows w (rows_in l)) a uid paired.node) all_is
+      (subst (λ (v : Cluster). Holds v a uid paired.node) (sym (world_both w first (before ++ comes.timed ∷ []))) paired.holds))
 
   -- the device is served
-  pub is_served : (limit : ℕ) → last + 2 * pace.delay ≤ limit → IsServedBy ids a log uid start limit w whole
+  pub is_served : (limit : ℕ) → last + 2 * pace.delay ≤ limit → IsServedBy ids a log uid from limit led_from later
   is_served limit within = record {
     front = before ++ comes.timed ∷ [];
     rest = comes.rest;
-    split = cut;
-    soon = let s = told.soon in let c = comes.soon in omega (arith, s, c, within, end_last start before comes.timed);
+    split = paired.split;
+    soon = let s = told.soon in let c = comes.soon in omega (arith, s, c, within, end_last from before comes.timed);
     node = told.node;
     left = told.left;
-    holds = subst (λ (k : ℕ). Holds (after_rows w (rows_in (before ++ comes.timed ∷ []))) a uid k) is_node it_holds;
+    holds = subst (λ (k : ℕ). Holds (after_rows led_from (rows_in (before ++ comes.timed ∷ []))) a uid k) is_node paired.holds;
   }
+
+-- who has just come has heard no Allocation
+pub can_be_told : (group : List Party) (clocks : Party → ℕ) (start n a : ℕ) (uid : List ℕ) (preferred : ℕ) (log : List Entry) (w : Cluster) (whole : List Timed)
+    → HasJustCome group clocks start n a uid preferred log w → Throughout (DeviceHasMemory a) w whole → SendsShortAllocations n w whole
+    → CanBeTold group n a w whole
+can_be_told group clocks start n a uid preferred log w whole come memory short = record {
+  of_group = come.of_group;
+  ready = record {
+    sender = come.settled.server;
+    sends = come.settled.runs;
+    none_waits = come.none_waits;
+    device = opening uid preferred (start + clocks (OfDevice a)) come.word;
+    there = come.there;
+  };
+  begins = tt;
+  memory = memory;
+  short = short;
+}

@@ -19,7 +19,7 @@ use Rattle.alloc_spec.specs.Transfers.{SentTransfer, kind_of}
 use Rattle.cluster_agreement.specs.Allocatees.{Holds}
 use Rattle.cluster_recovery.specs.Calm.{Pace, Timed, rows_in}
 use Rattle.cluster_recovery.proofs.CalmStages.{device_steps}
-use Rattle.cluster_calm.specs.Calm.{AreCalm, IsCalmRow, Party, Traffic, traffic_after}
+use Rattle.cluster_calm.specs.Calm.{AreCalm, IsCalmRow, Party, Traffic, no_traffic, traffic_after}
 use Rattle.cluster_calm.specs.Devices.{DeliversTo}
 use Rattle.cluster_spec.specs.Allocatees.{after_sending_from, device_after_step}
 use Rattle.cluster_spec.specs.Cluster.{Cluster, after_row, after_rows, arrival_at, frame_at, receipt_at}
@@ -63,6 +63,19 @@ module _ (stays : (d : Device) (number : ℕ) (event : Event) → (step d number
   is_there [] rest traffic w calm is = is
   is_there (timed ∷ front) rest traffic w calm is = is_there front rest (traffic_after traffic w timed) (after_row w timed.row) calm.2
       (stays_on traffic w timed.at timed.row calm.1 is)
+
+-- one device stands at a place
+same_device : (x y : Device) (o : Option Device) → o ≡ Some x → o ≡ Some y → x ≡ y
+same_device x y o e f = cc (e, f)
+
+-- in rows that begin in a world, and are cut somewhere, a device has the unique ID at the beginning that it has behind the first rows
+pub its_uid_then : (stays : (d : Device) (number : ℕ) (event : Event) → (step d number event).device.asking.uid ≡ d.asking.uid) (group : List Party) (clocks : Party → ℕ)
+    (pace : Pace) (start a : ℕ) (w : Cluster) (front rest : List Timed) → AreCalm group clocks pace (no_traffic start) w (front ++ rest) → (x y : Device)
+    → w.allocatee a ≡ Some x → (after_rows w (rows_in front)).allocatee a ≡ Some y → IsDevice y.asking.uid (w.allocatee a)
+its_uid_then stays group clocks pace start a w front rest calm x y is is_now =
+    let kept = is_there stays group clocks pace a x.asking.uid front rest (no_traffic start) w calm (x, is, refl) in
+    let same : y ≡ kept.0 = same_device y kept.0 ((after_rows w (rows_in front)).allocatee a) is_now kept.1 in
+    (x, is, sym (ap (λ (d : Device). d.asking.uid) same ∙ kept.2))
 
 -- ---- it takes its pair
 

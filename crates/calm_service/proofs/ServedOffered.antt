@@ -1,6 +1,5 @@
 -- The pair of a new device is told in the row in which it is committed.
 use Rattle.std.proofs.Common.{◌≡◌, ◌≢◌, ◌⊎◌, ℕ, ◌+◌, ◌<◌, ◌≤◌, List, [], ◌∷◌, ◌++◌, length, append_assoc, refl, sym, ◌∙◌, ap, subst, inl, inr, arith, Option, None, Some}
-use Rattle.std.specs.Prelude.{⊤}
 use Rattle.std.proofs.lemmas.Bool.Decides.{eqb_tells}
 use Rattle.std.proofs.lemmas.List.{append-nil}
 use Rattle.can_frame.specs.declared.entry.Entry.{Entry}
@@ -13,16 +12,17 @@ use Rattle.alloc_spec.specs.Ending.{call_phase}
 use Rattle.alloc_spec.specs.Step.{Event, step}
 use Rattle.alloc_spec_laws.specs.Phases.{TellsDuly, when_committed, when_told}
 use Rattle.cluster_recovery.specs.Calm.{Pace, Timed, rows_in}
-use Rattle.cluster_calm.specs.Calm.{AreCalm, Party, no_traffic}
+use Rattle.cluster_calm.specs.Calm.{Party}
 use Rattle.calm_leader.specs.LeadsOn.{LeadsIn}
 use Rattle.calm_service.specs.Served.{LeadsWithLog, Tells}
 use Rattle.calm_service.specs.Settled.{IsCalmUnder}
 use Rattle.cluster_calm.proofs.Calls.{Always}
-use Rattle.cluster_calm.proofs.CallsKept.{GoesOn, IsKept, further}
+use Rattle.cluster_calm.proofs.CallsKept.{GoesOn, IsKept}
 use Rattle.cluster_calm.proofs.Pair.{same_server, same_stepper}
 use Rattle.calm_leader.proofs.RowsOfOne.{IsLeft, left_up, stepped_up}
 use Rattle.calm_service.proofs.ServedEvents.{Leads}
 use Rattle.calm_service.proofs.ServedTells.{tells_or_waits}
+use Rattle.calm_service.proofs.SettlesFrom.{Any, goes_behind, runs_at}
 use Rattle.calm_leader.proofs.Stretches.{world_both}
 use Rattle.cluster_spec.specs.Cluster.{Cluster, after_row, after_rows, step_of, world_of}
 use Rattle.cluster_spec.specs.Members.MemberStatus.{Up}
@@ -47,17 +47,20 @@ pub record TellingLaws : Type 0 where
   pub phases : (t : AllocatorState) (number : ℕ) (event : Event) → (step t number event).step_state ≡ call_phase number (when_told t number event)
 
 -- nothing is asked of the member but that it runs
-runs_kept : IsKept Always (λ t. ⊤)
+runs_kept : IsKept Always Any
 runs_kept = record { stepped = λ t number event may h. tt; popped = λ t h. tt }
 
-module _ (laws : TellingLaws) (ids : List ℕ) (rows : List Row) (group : List Party) (clocks : Party → ℕ) (pace : Pace) (start n term : ℕ) (whole : List Timed)
-    (under : IsCalmUnder ids rows group clocks pace start n term [] whole) (log : List Entry) (uid : List ℕ) (node : ℕ) (device : uid ≢ zeros) where
+module _ (laws : TellingLaws) (ids : List ℕ) (rows : List Row) (group : List Party) (clocks : Party → ℕ) (pace : Pace) (start n term : ℕ) (first later : List Timed)
+    (under : IsCalmUnder ids rows group clocks pace start n term first later) (log : List Entry) (uid : List ℕ) (node : ℕ) (device : uid ≢ zeros) where
   abbrev w : Cluster
   w = world_of ids rows
 
-  -- the world behind a front
+  -- the world behind the first rows, and the one behind a front of the later ones
+  abbrev led_from : Cluster
+  led_from = after_rows w (rows_in first)
+
   abbrev pub here : List Timed → Cluster
-  here front = after_rows w (rows_in front)
+  here front = after_rows led_from (rows_in front)
 
   -- the leader has told all before the pair, and has committed no more
   abbrev pub Waits : List Timed → Type 0
@@ -74,29 +77,26 @@ module _ (laws : TellingLaws) (ids : List ℕ) (rows : List Row) (group : List P
     pub leads : LeadsWithLog n term (log ++ proposal term uid node ∷ more) (after_row (here a) x.row)
     pub committed : length log < leads.server.raft_server.store.commit
 
-  goes_at : (a b : List Timed) → whole ≡ a ++ b → GoesOn Always (λ t. ⊤) runs_kept group clocks pace n (here a) b
-  goes_at a b cut = further Always (λ t. ⊤) runs_kept group clocks pace n a b w (λ timed i. tt) (record {
-    traffic = no_traffic start;
-    calm = subst (AreCalm group clocks pace (no_traffic start) w) cut under.calm;
-    runs = record {
-      server = (under.running n under.member).server;
-      up = record { status = (under.running n under.member).runs; quiet = record { faults = (under.running n under.member).faults; calls = (under.running n under.member).disk } };
-      holds = tt;
-    };
-  })
+  goes_at : (a b : List Timed) → later ≡ a ++ b → GoesOn Always Any runs_kept group clocks pace n (here a) b
+  goes_at a b cut =
+      let from = goes_behind w group clocks pace start n first later under.calm (under.running n under.member) a b cut in record {
+        traffic = from.traffic;
+        calm = from.calm;
+        runs = runs_at w group clocks pace start n first later under.calm (under.running n under.member) a b cut;
+      }
 
   -- one row
-  pub one_row : (a b : List Timed) (x : Timed) → whole ≡ a ++ x ∷ b → Waits a → HasPairIn (a ++ x ∷ []) → IsToldIn a x ⊎ Waits (a ++ x ∷ [])
+  pub one_row : (a b : List Timed) (x : Timed) → later ≡ a ++ x ∷ b → Waits a → HasPairIn (a ++ x ∷ []) → IsToldIn a x ⊎ Waits (a ++ x ∷ [])
   one_row a b x cut waits has = elim (step_or_not_here) [ inl s ↦ stepped s.0 s.1 | inr none ↦ inr (left none) ]
     where
-      goes : GoesOn Always (λ t. ⊤) runs_kept group clocks pace n (here a) (x ∷ b)
+      goes : GoesOn Always Any runs_kept group clocks pace n (here a) (x ∷ b)
       goes = goes_at a (x ∷ b) cut
 
       t : AllocatorState
       t = goes.runs.server
 
       here_then : here (a ++ x ∷ []) ≡ after_row (here a) x.row
-      here_then = world_both w a (x ∷ [])
+      here_then = world_both led_from a (x ∷ [])
 
       step_or_not_here : ((event : Event) × (step_of (here a) x.row ≡ Some (n, event))) ⊎ ((event : Event) → step_of (here a) x.row ≡ Some (n, event) → ⊥)
       step_or_not_here = step_or_not (here a) x.row n
@@ -180,7 +180,7 @@ module _ (laws : TellingLaws) (ids : List ℕ) (rows : List Row) (group : List P
     told = subst (λ (l : List Timed). IsToldIn l told.timed) (append_assoc a (x ∷ []) told.front) told.told;
   }
 
-  pub walk : (mid a b : List Timed) → whole ≡ a ++ (mid ++ b) → Waits a
+  pub walk : (mid a b : List Timed) → later ≡ a ++ (mid ++ b) → Waits a
       → ((c d : List Timed) (x : Timed) → mid ≡ c ++ x ∷ d → HasPairIn (a ++ (c ++ x ∷ [])))
       → ((t : AllocatorState) → ((here (a ++ mid)).member n).status ≡ Up t → length log < t.raft_server.store.commit) → IsToldAmong a mid b
   walk [] a b cut waits has committed =

@@ -55,7 +55,7 @@ use Rattle.calm_service.proofs.SettledRaft.{IsOffice}
 use Rattle.calm_service.proofs.SettledServers.{Settles, after_ends, later_on, not_own, rested}
 
 -- whoever waits with its blank goes on to wait as it gives up calls
-begins_waiting : (members : List ℕ) (me number : ℕ) (given : HandedIn) (nodes : List ℕ) (server : RaftServer) (times : Times)
+pub begins_waiting : (members : List ℕ) (me number : ℕ) (given : HandedIn) (nodes : List ℕ) (server : RaftServer) (times : Times)
     → (times_after_all members me number given server (moves_of_expire nodes) times).waits ≡ times.waits
 begins_waiting members me number given [] server times = refl
 begins_waiting members me number given (node ∷ nodes) server times =

@@ -1,9 +1,10 @@
--- In time a quorum has the log of a leader that waits with its blank: so the blank has come by then.
+-- In time a quorum has the log of a leader that waits with its blank: so the blank has come by then, or a request of a
+-- device makes the log grow.
 use Rattle.std.proofs.Common.{◌≡◌, ℕ, ◌+◌, ◌*◌, ◌<◌, ◌≤◌, Bool, true, List, [], ◌∷◌, ◌++◌, length, append_assoc, refl, sym, ◌∙◌, ap, subst, arith, inl, inr}
-use Rattle.std.specs.Prelude.{◌==◌, ◌||◌, if◌then◌else◌, nat_le}
+use Rattle.std.specs.Prelude.{◌⊎◌, ◌==◌, ◌||◌, if◌then◌else◌, nat_le}
 use Rattle.std.proofs.lemmas.Bool.Decides.{eqb_tells, leb_tells}
 use Rattle.can_frame.specs.declared.entry.Entry.{Entry}
-use Rattle.can_frame.specs.Log.{blank, last_term}
+use Rattle.can_frame.specs.Log.{last_term}
 use Rattle.can_frame.specs.Timing.{call_timeout}
 use Rattle.raft_model.specs.Lists.{In, any, how_many}
 use Rattle.raft_model.specs.Moves.Elections.{has_quorum}
@@ -18,16 +19,14 @@ use Rattle.cluster_agreement.specs.LawsBelow.{CodecLaws}
 use Rattle.cluster_recovery.specs.Calm.{Pace, Timed, end_of, rows_in}
 use Rattle.cluster_calm.specs.Calm.{AreRunning, Member as OfMember, Party}
 use Rattle.cluster_calm.specs.Calls.{ListsStay}
-use Rattle.calm_leader.specs.CallsComeBack.{LeadsOn}
 use Rattle.calm_leader.specs.Entries.{HasComeBy, come_within, is_one_of}
 use Rattle.calm_leader.specs.NoElection.{CallsFit}
 use Rattle.calm_leader.specs.Entries.{EntriesComeInTime}
-use Rattle.calm_service.specs.Recorded.{LeadsWith}
 use Rattle.calm_service.specs.Settled.{IsCalmUnder}
-use Rattle.calm_service.specs.Settles.{CanCatchUp, HasComeToLead, WaitsWithBlank}
+use Rattle.calm_service.specs.Settles.{CanCatchUp, GrowsBy, HasComeToLead, WaitsWithBlank}
 use Rattle.cluster_calm.proofs.Group.{AreWell, CalmLaws}
 use Rattle.calm_leader.proofs.LeadsOn.{DeliversOne}
-use Rattle.calm_leader.proofs.Stretches.{end_both}
+use Rattle.calm_leader.proofs.Stretches.{end_both, end_last}
 use Rattle.calm_leader.proofs.TermsHeard.{IsOfRun}
 use Rattle.calm_leader.proofs.TermsRoles.{LeadsAt}
 use Rattle.calm_service.proofs.SettledLaw as from_start
@@ -36,7 +35,8 @@ use Rattle.calm_service.proofs.SettlesFrom.{CutAt, carry, cut_at, front_in, lead
 use Rattle.calm_service.proofs.SettlesKnown.{HasPlaces, Knows, known_kept, places_stay}
 use Rattle.calm_service.proofs.SettledServers.{Settles}
 use Rattle.calm_service.proofs.SettlesOffice.{IsAtBlank, IsWaiting}
-use Rattle.calm_service.proofs.SettlesWaits.{BlankComes, Waits, waits_on}
+use Rattle.calm_service.proofs.SettlesRows.{HasBlank}
+use Rattle.calm_service.proofs.SettlesWaits.{BlankComes, LogGrows, Waits, waits_on}
 use Rattle.cluster_spec.specs.Cluster.{AreMembers, Cluster, after_row, after_rows, cluster, world_of}
 use Rattle.cluster_spec.specs.Lawful.{DoNoHarm, DoesNoHarm}
 use Rattle.cluster_spec.specs.Members.MemberStatus.{Up}
@@ -77,9 +77,9 @@ module _ (laws : CalmLaws) (codec : CodecLaws) (one_transfer : DeliversOne) (sta
     (group : List Party) (clocks : Party → ℕ) (pace : Pace) (start n term : ℕ) (first later : List Timed)
     (under : IsCalmUnder ids rows group clocks pace start n term first later) (come : EntriesComeInTime ids rows) (log : List Entry) (more one : ℕ) (next : List ℕ)
     (new : HasComeToLead ids n log (end_of start first + clocks (OfMember n)) (after_rows (world_of ids rows) (rows_in first)))
-    (leads_on : LeadsOn n term (world_of ids rows) (first ++ later)) (fits : CallsFit n (world_of ids rows) (first ++ later))
+    (fits : CallsFit n (world_of ids rows) (first ++ later))
     (short : 4 * pace.delay < call_timeout)
-    (others : CanCatchUp ids group n more (one ∷ next) new.server (after_rows (world_of ids rows) (rows_in first)) (world_of ids rows) (first ++ later))
+    (others : CanCatchUp ids group n more pace.delay (one ∷ next) new.server (world_of ids rows) first later)
     (long : end_of start first + come_within pace more < end_of start (first ++ later)) where
   abbrev w : Cluster
   w = world_of ids rows
@@ -118,7 +118,7 @@ module _ (laws : CalmLaws) (codec : CodecLaws) (one_transfer : DeliversOne) (sta
     where
       by : HasComeBy n m (length new.server.raft_server.store.log) by_then from led_from later
       by = come group clocks pace start n m term more first [] later new.server under.listed under.running under.member (others.apart m i).0 (others.apart m i).1
-          short under.calm under.harmless leads_on under.led fits (others.exchange m i) (others.pends m i) (others.goes_on m i) new.runs (others.few m i) long
+          short under.calm under.harmless under.led fits (others.calling m i) new.runs (others.few m i) long
 
       inside : (tail : List Timed) × (F ≡ by.front ++ tail)
       inside = front_in w group clocks pace start n first later under.calm (under.running n under.member) by_then heard_rows by.front by.rest by.split by.soon
@@ -145,7 +145,7 @@ module _ (laws : CalmLaws) (codec : CodecLaws) (one_transfer : DeliversOne) (sta
     pub rest : List Timed
     pub split : later ≡ front ++ rest
     pub soon : end_of from front ≤ last
-    pub leads : LeadsWith n (log ++ blank term ∷ []) [] (end_of from front + clocks (OfMember n)) (at front)
+    pub has : HasBlank ids n term log (end_of from front + clocks (OfMember n)) (at front)
 
   module _ (some : new.server.raft_server.store.commit < length log) (waiting : WaitsWithBlank ids n log new.server) where
     its_term : new.server.raft_server.store.term ≡ term
@@ -160,7 +160,7 @@ module _ (laws : CalmLaws) (codec : CodecLaws) (one_transfer : DeliversOne) (sta
 
     at_first : WaitsIn from led_from
     at_first = record {
-      is = record { server = new.server; its = settles; waits = unheard };
+      is = record { server = new.server; accepted = new.server.accepted; its = settles; waits = unheard };
       told = waiting.waits;
     }
       where
@@ -178,14 +178,14 @@ module _ (laws : CalmLaws) (codec : CodecLaws) (one_transfer : DeliversOne) (sta
           ];
         }
 
-        settles : Settles (IsAtBlank ids n term log) log [] (from + clocks (OfMember n)) (led_from.member n) new.server
+        settles : Settles (IsAtBlank ids n term log) log new.server.accepted (from + clocks (OfMember n)) (led_from.member n) new.server
         settles = record {
           up = record { status = new.runs; quiet = record { faults = new.faults; calls = new.disk } };
           done = record { leads = (new.leads, its_term); which = inl unheard };
           clock = new.clock;
           status = new.status;
-          accepts = new.requests;
-          requests = omega arith;
+          accepts = refl;
+          requests = new.requests;
           offline = λ other e. new.known other (ap (λ (l : List Entry). is_on_list (members_of new.server) other || is_recorded l other) new.log_is ∙ e);
           discovery = new.discovery;
         }
@@ -214,15 +214,47 @@ module _ (laws : CalmLaws) (codec : CodecLaws) (one_transfer : DeliversOne) (sta
           let ends = ap (λ (l : List Timed). end_of from l) comes.split in
           let soon = heard_rows.soon in
           omega (arith, up, ends, soon);
-      leads = comes.leads;
+      has = comes.has;
     }
       where
         whole : later ≡ comes.early ++ (comes.late ++ (heard_rows.next ∷ heard_rows.rest))
         whole = cut ∙ (ap (λ (l : List Timed). l ++ (heard_rows.next ∷ heard_rows.rest)) comes.split
             ∙ append_assoc comes.early comes.late (heard_rows.next ∷ heard_rows.rest))
 
-    -- so the blank has come
-    pub blank_by : HasBlankBy by_then
+    abbrev LogGrew : Type 0
+    LogGrew = LogGrows group laws codec one_transfer stay clocks pace ids members under_cut.listed of_run same_members grown grown_harmless n term log under_cut.member
+        earlier waiting.room from led_from F
+
+    abbrev Growth : Type 0
+    Growth = GrowsBy n term log (clocks (OfMember n)) from by_then led_from later
+
+    -- the log grows in these rows
+    as_growth : LogGrew → Growth
+    as_growth g = record {
+      front = g.early;
+      timed = g.row;
+      rest = g.late ++ (heard_rows.next ∷ heard_rows.rest);
+      split = whole;
+      soon = let up = no_earlier w group clocks pace start n first later under.calm (under.running n under.member) (g.early ++ g.row ∷ []) g.late
+          (heard_rows.next ∷ heard_rows.rest) (whole ∙ sym (append_assoc g.early (g.row ∷ []) (g.late ++ (heard_rows.next ∷ heard_rows.rest)))) in
+          let its = end_last from g.early g.row in
+          let all = ap (λ (l : List Timed). end_of from l) (append_assoc g.early (g.row ∷ []) g.late) in
+          let ends = ap (λ (l : List Timed). end_of from l) g.split in
+          let soon = heard_rows.soon in
+          omega (arith, up, its, all, ends, soon);
+      log_then = log;
+      its_log = inl refl;
+      message = g.grows.message;
+      asked = g.grows.asked;
+      grows = g.grows.grows;
+    }
+      where
+        whole : later ≡ g.early ++ g.row ∷ (g.late ++ (heard_rows.next ∷ heard_rows.rest))
+        whole = cut ∙ (ap (λ (l : List Timed). l ++ (heard_rows.next ∷ heard_rows.rest)) g.split
+            ∙ append_assoc g.early (g.row ∷ g.late) (heard_rows.next ∷ heard_rows.rest))
+
+    -- so the blank has come, or the log grows
+    pub blank_by : HasBlankBy by_then ⊎ Growth
     blank_by = elim (waits_on group laws codec one_transfer stay clocks pace ids members under_cut.listed of_run same_members grown grown_harmless n term log under_cut.member
         earlier waiting.room F (heard_rows.next ∷ heard_rows.rest) from led_from
         (from_start.reached laws codec one_transfer stay ids members of_run same_members grown grown_harmless rows harmless well
@@ -238,5 +270,5 @@ module _ (laws : CalmLaws) (codec : CodecLaws) (one_transfer : DeliversOne) (sta
         group clocks pace start n term first [] F (heard_rows.next ∷ heard_rows.rest) under_cut)
         at_first) [
           | inl is ↦ absurd (waits_not is)
-          | inr comes ↦ as_by comes
+          | inr ends ↦ elim ends [ inl comes ↦ inl (as_by comes) | inr g ↦ inr (as_growth g) ]
         ]

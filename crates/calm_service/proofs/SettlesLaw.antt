@@ -1,7 +1,6 @@
--- A leader that has just come to lead settles in time: from where it leads to the law.
+-- A leader settles in time: from where it leads to the law.
 use Rattle.std.proofs.Common.{◌≡◌, ℕ, ◌+◌, ◌*◌, ◌<◌, ◌≤◌, Bool, List, [], ◌∷◌, ◌++◌, length, append_assoc, refl, sym, ◌∙◌, ap, subst, arith, inl, inr}
 use Rattle.std.specs.Prelude.{◌⊎◌}
-use Rattle.alloc_exchange.specs.Exchange.{Accepted, last_moment}
 use Rattle.can_frame.specs.declared.entry.Entry.{Entry}
 use Rattle.can_frame.specs.Log.{blank, last_term, log_limit}
 use Rattle.can_frame.specs.Timing.{call_timeout}
@@ -12,6 +11,7 @@ use Rattle.raft_model.specs.Log.{term_at}
 use Rattle.raft_model.specs.Runs as raft
 use Rattle.raft_model.specs.Server.{RaftServer}
 use Rattle.raft_model.specs.Server.Role.{Leader}
+use Rattle.raft_model.proofs.Stored.{last_below}
 use Rattle.replay_text.specs.declared.row.Row.{Row}
 use Rattle.alloc_spec.specs.AllocatorState.{AllocatorState}
 use Rattle.alloc_spec.specs.Step.{Event}
@@ -21,11 +21,10 @@ use Rattle.alloc_spec_laws.proofs.Choices.{lt_tells}
 use Rattle.cluster_agreement.specs.LawsBelow.{CodecLaws}
 use Rattle.cluster_agreement.specs.Shows.{Shows, ShowsMember, ShowsUp}
 use Rattle.cluster_progress.proofs.Alone.{last_entry, one_longer}
-use Rattle.cluster_recovery.specs.Calm.{HasSettled, Pace, Timed, end_of, rows_in}
+use Rattle.cluster_recovery.specs.Calm.{Pace, Timed, end_of, rows_in}
 use Rattle.cluster_calm.specs.Calm.{AreCalm, AreRunning, Member as OfMember, Party, no_traffic}
 use Rattle.cluster_calm.specs.Calls.{ListsStay}
-use Rattle.calm_leader.specs.CallsComeBack.{LeadsOn}
-use Rattle.calm_leader.specs.Entries.{CanExchange, IsCommittedBy, come_within}
+use Rattle.calm_leader.specs.Entries.{IsCommittedBy, KeepsCalling, come_within}
 use Rattle.calm_leader.specs.NoElection.{CallsFit}
 use Rattle.calm_leader.specs.Entries.{EntriesAreCommittedInTime, EntriesComeInTime, calls_left}
 use Rattle.calm_service.specs.Recorded.{EachRowKeepsTheLog, LeaderSettles, LeadsWith}
@@ -39,7 +38,7 @@ use Rattle.calm_leader.proofs.TermsHeard.{IsOfRun}
 use Rattle.calm_service.proofs.AllocationsTold.{VerdictsAre}
 use Rattle.calm_service.proofs.Served.{commits_inside}
 use Rattle.calm_service.proofs.ServedTold.{HasReached}
-use Rattle.calm_service.proofs.SettlesCommits.{OnBlank, on_blank}
+use Rattle.calm_service.proofs.SettlesCommits.{StillLeads, still_leads}
 use Rattle.calm_service.proofs.SettlesFrom.{CutAt, carry, cut_at, front_in, leads_at}
 use Rattle.calm_service.proofs.SettlesHeard.{HasBlankBy, blank_by, heard_rows, known_then}
 use Rattle.calm_service.proofs.SettlesKnown.{HasCommitted, IsCalledBy, Knows, calls_stay, commit_kept, known_kept}
@@ -70,6 +69,7 @@ pub record IsFitting (t : AllocatorState) : Type 0 where
   pub commit : t.raft_server.store.commit ≤ length t.raft_server.store.log
   pub told : t.raft_server.memory.told ≤ t.raft_server.store.commit
   pub last : length t.raft_server.store.log ≤ log_limit
+  pub terms : last_term t.raft_server.store.log ≤ t.raft_server.store.term
   pub next : t.raft_server.memory.role ≡ Leader → (peer : ℕ) → t.raft_server.memory.next peer ≤ length t.raft_server.store.log + 1
 
 -- so it is of a server of a world that rows show
@@ -79,6 +79,8 @@ is_fitting choice made w run shows invariants fit n t listed up = record {
   commit = commits_inside choice made w run shows invariants n t listed up;
   told = its.told;
   last = subst (λ (s : RaftServer). length s.store.log ≤ log_limit) shown.runs.raft_server (invariants.stores n).last;
+  terms = subst (λ (s : RaftServer). last_term s.store.log ≤ s.store.term) shown.runs.raft_server
+      (last_below (run.server n).store.log (run.server n).store.term (invariants.stores n).rising);
   next = λ leads peer. (its.peers leads peer).most;
 }
   where
@@ -98,16 +100,16 @@ module _ (laws : CalmLaws) (codec : CodecLaws) (one_transfer : DeliversOne) (sta
     (well : (group : List Party) → ((p : ℕ) → In (OfMember p) group → In p ids) → AreRunning group (world_of ids rows) → AreWell group (world_of ids rows))
     (come : EntriesComeInTime ids rows) (commit : EntriesAreCommittedInTime ids rows) (keeps_row : EachRowKeepsTheLog ids rows) (settles : LeaderSettles)
     (judged : VerdictsAre) (duly : (t : AllocatorState) (number : ℕ) (event : Event) → TellsDuly number (when_committed t number event) (when_told t number event))
-    (group : List Party) (clocks : Party → ℕ) (pace : Pace) (start n term : ℕ) (log : List Entry) (more uncommitted one : ℕ) (next : List ℕ) (first later : List Timed)
+    (group : List Party) (clocks : Party → ℕ) (pace : Pace) (start n term : ℕ) (log : List Entry) (more untold one : ℕ) (next : List ℕ) (first later : List Timed)
     (under : IsCalmUnder ids rows group clocks pace start n term first later)
     (fitting : (front rest : List Timed) (t : AllocatorState) → first ++ later ≡ front ++ rest
     → ((after_rows (world_of ids rows) (rows_in front)).member n).status ≡ Up t → IsFitting t)
     (new : HasComeToLead ids n log (end_of start first + clocks (OfMember n)) (after_rows (world_of ids rows) (rows_in first)))
-    (few : length log ≤ new.server.raft_server.store.commit + uncommitted) (leads_on : LeadsOn n term (world_of ids rows) (first ++ later))
+    (few : length log ≤ new.server.raft_server.memory.told + untold)
     (fits : CallsFit n (world_of ids rows) (first ++ later)) (room : HasRoomInSteps n (after_rows (world_of ids rows) (rows_in first)) later)
     (short : 4 * pace.delay < call_timeout)
-    (others : CanCatchUp ids group n more (one ∷ next) new.server (after_rows (world_of ids rows) (rows_in first)) (world_of ids rows) (first ++ later))
-    (long : end_of start first + settle_within pace more uncommitted < end_of start (first ++ later)) where
+    (others : CanCatchUp ids group n more pace.delay (one ∷ next) new.server (world_of ids rows) first later)
+    (long : end_of start first + settle_within pace more untold < end_of start (first ++ later)) where
   abbrev w : Cluster
   w = world_of ids rows
 
@@ -121,7 +123,7 @@ module _ (laws : CalmLaws) (codec : CodecLaws) (one_transfer : DeliversOne) (sta
   at a = after_rows led_from (rows_in a)
 
   abbrev last : ℕ
-  last = from + settle_within pace more uncommitted
+  last = from + settle_within pace more untold
 
   -- until the followers have the log, and until the blank is committed
   abbrev by_heard : ℕ
@@ -140,30 +142,49 @@ module _ (laws : CalmLaws) (codec : CodecLaws) (one_transfer : DeliversOne) (sta
   fitting_at a b t cut up = fitting (first ++ a) b t (ap (λ (l : List Timed). first ++ l) cut ∙ sym (append_assoc first a b))
       (subst (λ (v : Cluster). (v.member n).status ≡ Up t) (sym (world_both w first a)) up)
 
-  -- ---- where the whole log is committed
+  sane : (a b : List Timed) (t : AllocatorState) → later ≡ a ++ b → ((at a).member n).status ≡ Up t → t.raft_server.store.commit ≤ length t.raft_server.store.log
+  sane a b t cut up = (fitting_at a b t cut up).commit
 
-  settled_at_once : new.server.raft_server.store.commit ≡ length log → HasSettled n log (from + clocks (OfMember n)) led_from
-  settled_at_once all = record {
+  fit : (a b : List Timed) (t : AllocatorState) → later ≡ a ++ b → ((at a).member n).status ≡ Up t → t.raft_server.memory.told ≤ t.raft_server.store.commit
+  fit a b t cut up = (fitting_at a b t cut up).told
+
+  -- what was told at first is told
+  told_at : (a b : List Timed) → later ≡ a ++ b → (t : AllocatorState) → ((at a).member n).status ≡ Up t → HasReached new.server.raft_server.memory.told t.raft_server
+  told_at a b cut t up = carry w group clocks pace start n first later under.calm (under.running n under.member)
+      (λ (s : AllocatorState). HasReached new.server.raft_server.memory.told s.raft_server) (told_kept judged new.server.raft_server.memory.told) [] a b
+      cut new.server new.runs
+      (record {
+        sane = sane [] later new.server refl new.runs;
+        told = omega arith;
+        committed = new.told;
+      }) t up
+
+  -- it leads with this log, and adds no blank
+  at_first : (new.server.raft_server.store.commit ≡ length log) ⊎ (last_term log ≡ new.server.raft_server.store.term)
+      → LeadsWith n log new.server.accepted (from + clocks (OfMember n)) led_from
+  at_first no_blank = record {
     server = new.server;
     runs = new.runs;
     faults = new.faults;
     disk = new.disk;
     leads = new.leads;
     log_is = new.log_is;
-    committed = all;
-    told = new.told ∙ all;
+    no_blank = no_blank;
+    requests = refl;
     clock = new.clock;
     status = new.status;
-    requests = let e = ap (λ (l : List Accepted). last_moment l) new.requests in omega (arith, e);
+    last_request = new.requests;
     known = new.known;
     discovery = new.discovery;
   }
 
-  sane : (a b : List Timed) (t : AllocatorState) → later ≡ a ++ b → ((at a).member n).status ≡ Up t → t.raft_server.store.commit ≤ length t.raft_server.store.log
-  sane a b t cut up = (fitting_at a b t cut up).commit
+  -- ---- where the whole log is committed
 
-  fit : (a b : List Timed) (t : AllocatorState) → later ≡ a ++ b → ((at a).member n).status ≡ Up t → t.raft_server.memory.told ≤ t.raft_server.store.commit
-  fit a b t cut up = (fitting_at a b t cut up).told
+  settles_committed : new.server.raft_server.store.commit ≡ length log → Ends
+  unfolding at_first
+  settles_committed all = tells_all ids rows group clocks pace start n term first later under keeps_row judged log log (inl refl) sane fit duly settles room
+      last long_later untold new.server.raft_server.memory.told [] later refl (omega arith)
+      (record { accepted = new.server.accepted; leads = at_first (inl all) }) all (told_at [] later refl) few
 
   -- ---- where the last entry is of its own term
 
@@ -179,14 +200,14 @@ module _ (laws : CalmLaws) (codec : CodecLaws) (one_transfer : DeliversOne) (sta
   abbrev Growth : Type 0
   Growth = GrowsBy n term log (clocks (OfMember n)) from last led_from later
 
-  module _ (longer : List Entry) (its_log : MayHaveBlank log term longer) (within : length longer ≤ log_limit) (own_last : last_term longer ≡ term) where
+  module _ (longer : List Entry) (its_log : MayHaveBlank log term longer) (own_last : last_term longer ≡ term) where
     abbrev On : List Timed → Type 0
-    On = OnBlank ids rows group clocks pace start n term first later under keeps_row judged log longer its_log within sane
+    On = StillLeads ids rows group clocks pace start n term first later under keeps_row judged log longer its_log sane
 
     -- it goes on so behind more rows, or a request makes the log grow
     goes_on : (F G tail H : List Timed) → G ≡ F ++ tail → later ≡ G ++ H → end_of from G ≤ last → On F → On G ⊎ Growth
     goes_on F G tail H joined cut soon on = subst (λ (l : List Timed). On l ⊎ Growth) (sym joined)
-        (on_blank ids rows group clocks pace start n term first later under keeps_row judged log longer its_log within sane last tail F H
+        (still_leads ids rows group clocks pace start n term first later under keeps_row judged log longer its_log sane last tail F H
         (cut ∙ (ap (λ (l : List Timed). l ++ H) joined ∙ append_assoc F tail H))
         (let e = ap (λ (l : List Timed). end_of from l) joined in omega (arith, soon, e)) on)
 
@@ -205,10 +226,9 @@ module _ (laws : CalmLaws) (codec : CodecLaws) (one_transfer : DeliversOne) (sta
       committed = commit group clocks pace start n term k one next first F R u under.listed under.running under.member others.apart others.many short
           (subst (AreCalm group clocks pace (no_traffic start) w) whole under.calm)
           (subst (λ (l : List Timed). DoNoHarm w (rows_in l)) whole under.harmless)
-          (subst (LeadsOn n term w) whole leads_on)
           (λ a b e. under.led a b (cut ∙ e))
           (subst (CallsFit n w) whole fits)
-          (λ m i. (subst (CanExchange n m w) whole (others.exchange m i), others.pends m i, others.goes_on m i)) on.leads.runs left own
+          (λ m i. subst (KeepsCalling n m pace.delay w first) cut (others.calling m i)) on.leads.runs left own
           (let l = long in let e = ap (λ (l : List Timed). end_of start l) whole in omega (arith, soon, l, e))
 
       -- so all is committed behind the rows that end by then
@@ -243,17 +263,6 @@ module _ (laws : CalmLaws) (codec : CodecLaws) (one_transfer : DeliversOne) (sta
           let s = kept.sane in
           let l = ap (λ (l : List Entry). length l) then_.leads.log_is in omega (arith, c, s, l)
 
-      -- what was told at first is told
-      told_then : (t : AllocatorState) → ((at C).member n).status ≡ Up t → HasReached new.server.raft_server.store.commit t.raft_server
-      told_then t up = carry w group clocks pace start n first later under.calm (under.running n under.member)
-          (λ (s : AllocatorState). HasReached new.server.raft_server.store.commit s.raft_server) (told_kept judged new.server.raft_server.store.commit) [] C D
-          cut_commit.split new.server new.runs
-          (record {
-            sane = sane [] later new.server refl new.runs;
-            told = let t = new.told in omega (arith, t);
-            committed = omega arith;
-          }) t up
-
       a_blank_more : length longer ≤ length log + 1
       a_blank_more = elim its_log [
         | inl same ↦ let l = ap (λ (l : List Entry). length l) same in omega (arith, l)
@@ -266,36 +275,20 @@ module _ (laws : CalmLaws) (codec : CodecLaws) (one_transfer : DeliversOne) (sta
           (omega (arith, soon)) in
           elim (goes_on F C inside.0 D inside.1 cut_commit.split (let s = cut_commit.soon in omega (arith, s)) on) [
             | inr growth ↦ inr growth
-            | inl then_ ↦ tells_all ids rows group clocks pace start n term first later under keeps_row judged log longer its_log within sane fit duly settles room
-                last long_later (uncommitted + 1) new.server.raft_server.store.commit C D cut_commit.split
-                (let s = cut_commit.soon in omega (arith, s)) then_ (all_committed then_) told_then
+            | inl then_ ↦ tells_all ids rows group clocks pace start n term first later under keeps_row judged log longer its_log sane fit duly settles room
+                last long_later (untold + 1) new.server.raft_server.memory.told C D cut_commit.split
+                (let s = cut_commit.soon in omega (arith, s)) then_ (all_committed then_) (told_at C D cut_commit.split)
                 (let e = a_blank_more in let f = few in omega (arith, e, f))
           ]
 
   -- so it is where it leads, if it has an entry of its own term already
   settles_with_own : last_term log ≡ new.server.raft_server.store.term → Ends
-  settles_with_own own = ends log (inl refl) (let k = (fitting_at [] later new.server refl new.runs).last in let l = ap (λ (l : List Entry). length l) new.log_is in omega (arith, k, l))
-      (own ∙ its_term) [] later refl more (omega arith) (record { accepted = []; leads = leads; quiet = inl refl }) others.few
+  unfolding at_first
+  settles_with_own own = ends log (inl refl) (own ∙ its_term) [] later refl more (omega arith)
+      (record { accepted = new.server.accepted; leads = at_first (inr own) }) others.few
     where
       its_term : new.server.raft_server.store.term ≡ term
       its_term = (leads_at ids rows group clocks pace start n term first later under [] later refl new.server new.runs).1
-
-      leads : LeadsWith n log [] (from + clocks (OfMember n)) led_from
-      leads = record {
-        server = new.server;
-        runs = new.runs;
-        faults = new.faults;
-        disk = new.disk;
-        leads = new.leads;
-        log_is = new.log_is;
-        no_blank = inr own;
-        requests = new.requests;
-        clock = new.clock;
-        status = new.status;
-        last_request = omega arith;
-        known = new.known;
-        discovery = new.discovery;
-      }
 
   -- ---- where it waits with its blank
 
@@ -303,15 +296,12 @@ module _ (laws : CalmLaws) (codec : CodecLaws) (one_transfer : DeliversOne) (sta
     abbrev longer : List Entry
     longer = log ++ blank term ∷ []
 
-    within : length longer ≤ log_limit
-    within = let e = one_longer log (blank term) in let r = waiting.room in omega (arith, e, r)
-
     long_heard : from + come_within pace more < end_of start (first ++ later)
     long_heard = let l = long in omega (arith, l)
 
     heard : CutAt from by_heard later
     heard = heard_rows laws codec one_transfer stay ids members of_run same_members grown grown_harmless rows harmless well group clocks pace start n term first later
-        under come log more one next new leads_on fits short others long_heard
+        under come log more one next new fits short others long_heard
 
     abbrev F : List Timed
     F = heard.front
@@ -319,23 +309,43 @@ module _ (laws : CalmLaws) (codec : CodecLaws) (one_transfer : DeliversOne) (sta
     abbrev R : List Timed
     R = heard.next ∷ heard.rest
 
-    come_blank : HasBlankBy laws codec one_transfer stay ids members of_run same_members grown grown_harmless rows harmless well group clocks pace start n term first later
-        under come log more one next new leads_on fits short others long_heard by_heard
-    come_blank = blank_by laws codec one_transfer stay ids members of_run same_members grown grown_harmless rows harmless well group clocks pace start n term first later
-        under come log more one next new leads_on fits short others long_heard some waiting
-
     own_last : last_term longer ≡ term
     own_last = ap (λ (e : Entry). e.term) (last_entry log (blank term))
 
-    -- it has the blank behind these rows, or a request made the log grow
-    on_heard : On longer (inr refl) within own_last F ⊎ Growth
-    on_heard =
-        let inside = front_in w group clocks pace start n first later under.calm (under.running n under.member) by_heard heard come_blank.front come_blank.rest come_blank.split
-        come_blank.soon in
-        goes_on longer (inr refl) within own_last come_blank.front F inside.0 R inside.1 heard.split (let s = heard.soon in omega (arith, s))
-        (record { accepted = []; leads = come_blank.leads; quiet = inl refl })
+    abbrev OnBlank : List Timed → Type 0
+    OnBlank = StillLeads ids rows group clocks pace start n term first later under keeps_row judged log longer (inr refl) sane
 
-    module _ (on : On longer (inr refl) within own_last F) where
+    abbrev Comes : Type 0
+    Comes = HasBlankBy laws codec one_transfer stay ids members of_run same_members grown grown_harmless rows harmless well group clocks pace start n term first later
+        under come log more one next new fits short others long_heard by_heard
+
+    -- it has the blank behind these rows, or a request made the log grow
+    with_blank : Comes → OnBlank F ⊎ Growth
+    with_blank comes =
+        let inside = front_in w group clocks pace start n first later under.calm (under.running n under.member) by_heard heard comes.front comes.rest comes.split
+        comes.soon in
+        goes_on longer (inr refl) own_last comes.front F inside.0 R inside.1 heard.split (let s = heard.soon in omega (arith, s))
+        (record { accepted = comes.has.accepted; leads = comes.has.leads })
+
+    on_heard : OnBlank F ⊎ Growth
+    on_heard = elim (blank_by laws codec one_transfer stay ids members of_run same_members grown grown_harmless rows harmless well group clocks pace start n term first later
+        under come log more one next new fits short others long_heard some waiting) [
+          | inl comes ↦ with_blank comes
+          | inr g ↦ inr (record {
+            front = g.front;
+            timed = g.timed;
+            rest = g.rest;
+            split = g.split;
+            soon = let s = g.soon in omega (arith, s);
+            log_then = g.log_then;
+            its_log = g.its_log;
+            message = g.message;
+            asked = g.asked;
+            grows = g.grows;
+          })
+        ]
+
+    module _ (on : OnBlank F) where
       abbrev v : AllocatorState
       v = on.leads.server
 
@@ -363,12 +373,12 @@ module _ (laws : CalmLaws) (codec : CodecLaws) (one_transfer : DeliversOne) (sta
       unfolding heard
       one_left m i =
           let known = known_then laws codec one_transfer stay ids members of_run same_members grown grown_harmless rows harmless well group clocks pace start n term first
-          later under come log more one next new leads_on fits short others long_heard m i v on.leads.runs in
+          later under come log more one next new fits short others long_heard m i v on.leads.runs in
           let most = called m in
           let s = size in omega (arith, known, most, s)
 
       ends_then : Ends
-      ends_then = ends longer (inr refl) within own_last F R heard.split 1 (let s = heard.soon in omega (arith, s)) on one_left
+      ends_then = ends longer (inr refl) own_last F R heard.split 1 (let s = heard.soon in omega (arith, s)) on one_left
 
     settles_later : Ends
     settles_later = elim on_heard [ inr growth ↦ inr growth | inl on ↦ ends_then on ]
@@ -382,13 +392,5 @@ module _ (laws : CalmLaws) (codec : CodecLaws) (one_transfer : DeliversOne) (sta
         let inside = (fitting_at [] later new.server refl new.runs).commit in
         let h = z.1 in
         let l = ap (λ (l : List Entry). length l) new.log_is in
-        inl (record {
-          front = [];
-          rest = later;
-          split = refl;
-          soon = omega arith;
-          log_then = log;
-          its_log = inl refl;
-          settled = settled_at_once (omega (arith, inside, h, l));
-        })
+        settles_committed (omega (arith, inside, h, l))
   ]

@@ -1,5 +1,6 @@
--- What a calm row leaves of a leader that waits with its blank: it waits on, or the blank has come behind its log.
-use Rattle.std.proofs.Common.{◌≡◌, ◌≢◌, ℕ, ◌+◌, ◌≤◌, ◌<◌, Bool, true, false, List, [], ◌∷◌, ◌++◌, length, refl, sym, ◌∙◌, ap, subst, arith, inl, inr, max}
+-- What a calm row leaves of a leader that waits with its blank: it waits on, the blank has come behind its log, or a
+-- request of a device makes the log grow.
+use Rattle.std.proofs.Common.{◌≡◌, ◌≢◌, ℕ, ◌+◌, ◌≤◌, ◌<◌, Bool, true, List, [], ◌∷◌, ◌++◌, length, refl, sym, ◌∙◌, ap, subst, arith, inl, inr, max}
 use Rattle.std.specs.Prelude.{◌⊎◌}
 use Rattle.alloc_exchange.specs.Exchange.{Accepted, after}
 use Rattle.can_frame.specs.declared.entry.Entry.{Entry}
@@ -27,13 +28,12 @@ use Rattle.cluster_agreement.proofs.Lists.{equal, none_twice}
 use Rattle.cluster_recovery.specs.Calm.{Pace}
 use Rattle.cluster_calm.specs.Calm.{IsCalmRow, Member as OfMember, Party, Traffic}
 use Rattle.cluster_calm.specs.Calls.{Lists}
-use Rattle.calm_service.specs.Recorded.{LeadsWith}
+use Rattle.calm_service.specs.Recorded.{Grows, LeadsWith}
 use Rattle.calm_service.specs.Settled.{IsAsked, MissesNobody}
 use Rattle.calm_leader.proofs.LeadsOnWays.{AreOfGroup}
 use Rattle.cluster_calm.proofs.Pair.{same_server}
 use Rattle.cluster_progress.proofs.Alone.{last_entry}
-use Rattle.calm_service.proofs.RecordedRows.{accepts_none, gives_none, makes_none_whole}
-use Rattle.calm_service.proofs.RecordedStays.{leads_with}
+use Rattle.calm_service.proofs.RecordedStays.{grows_by, leads_with}
 use Rattle.calm_service.proofs.RecordedSteps.{no_stranger_longer}
 use Rattle.calm_service.proofs.SettledRows.{asked_row, unasked_in}
 use Rattle.calm_service.proofs.SettledServers.{Settles}
@@ -47,6 +47,12 @@ use Rattle.cluster_spec.specs.Members.MemberStatus.{Up}
 
 -- ---- the list of a leader
 
+-- what the server of a member is, in a world that rows reach
+pub its_server : (w : Cluster) (shown : IsOfRun w) (n : ℕ) (t : AllocatorState) → In n w.ids → (w.member n).status ≡ Up t
+    → ShowsUp shown.made w.ids w.frames shown.run n t (w.member n).disk
+its_server w shown n t listed up =
+    subst (λ (status : MemberStatus). ShowsMember shown.choice shown.made w.ids w.frames shown.run n status (w.member n).disk) up (shown.shows.lives n listed)
+
 -- whoever leads lists all members, each once
 pub lists_all : MoreLaws → (w : Cluster) → IsOfRun w → AreMembers w.ids → (n : ℕ) (t : AllocatorState) → In n w.ids → (w.member n).status ≡ Up t
     → t.raft_server.memory.role ≡ Leader → IsAll (members_of t) w.ids
@@ -57,7 +63,7 @@ lists_all more w shown members n t listed up leads = record {
 }
   where
     its : ShowsUp shown.made w.ids w.frames shown.run n t (w.member n).disk
-    its = subst (λ (status : MemberStatus). ShowsMember shown.choice shown.made w.ids w.frames shown.run n status (w.member n).disk) up (shown.shows.lives n listed)
+    its = its_server w shown n t listed up
 
     its_list : IsMemberList t.me t.size (members_of t)
     its_list = more.list (start_of t) t.heard (record {
@@ -79,15 +85,23 @@ waits_over a b me log t same w = record {
 -- ---- who waits in a world
 
 module _ (ids : List ℕ) (n top : ℕ) (log : List Entry) where
-  -- member n leads in this term, and waits with its blank behind this log; it has accepted no request
+  -- member n leads in this term, and waits with its blank behind this log
   pub record IsInWait (now : ℕ) (w : Cluster) : Type 0 where
     pub server : AllocatorState
-    pub its : Settles (IsAtBlank ids n top log) log [] now (w.member n) server
+    pub accepted : List Accepted
+    pub its : Settles (IsAtBlank ids n top log) log accepted now (w.member n) server
     pub waits : IsWaiting ids n log server.raft_server
 
-  -- or the blank has come
-  abbrev pub WaitsOrAdds : ℕ → Cluster → Type 0
-  WaitsOrAdds now w = IsInWait now w ⊎ LeadsWith n (log ++ blank top ∷ []) [] now w
+  -- it leads with the blank behind this log
+  pub record HasBlank (now : ℕ) (w : Cluster) : Type 0 where
+    pub accepted : List Accepted
+    pub leads : LeadsWith n (log ++ blank top ∷ []) accepted now w
+
+  -- a request that comes in this row makes this log grow
+  pub record GrowsIn (now : ℕ) (w : Cluster) (row : Row) : Type 0 where
+    pub message : Allocation
+    pub asked : IsAsked n message w row
+    pub grows : Grows n log now message w row asked
 
 -- ---- a row
 
@@ -108,7 +122,7 @@ module _ (frame : FrameLaws) (group : List Party) (clocks : Party → ℕ) (pace
   Holds = IsAtBlank list n top log
 
   abbrev Left : Type 0
-  Left = (u : AllocatorState) × Settles Holds log [] now ((after_row w row).member n) u
+  Left = (taken : List Accepted) × (u : AllocatorState) × Settles Holds log taken now ((after_row w row).member n) u
 
   same_list : (votes : ℕ → Bool) → has_quorum list votes ≡ has_quorum ids votes
   same_list votes = same_quorum list ids votes all
@@ -116,7 +130,7 @@ module _ (frame : FrameLaws) (group : List Party) (clocks : Party → ℕ) (pace
   waits_here : IsWaiting list n log h.server.raft_server
   waits_here = waits_over ids list n log h.server (λ votes. sym (same_list votes)) h.waits
 
-  its : Settles Holds log [] before (w.member n) h.server
+  its : Settles Holds log h.accepted before (w.member n) h.server
   its = record {
     up = h.its.up;
     done = record { leads = h.its.done.leads; which = inl waits_here };
@@ -134,56 +148,65 @@ module _ (frame : FrameLaws) (group : List Party) (clocks : Party → ℕ) (pace
   module _ (within : (k ms : ℕ) → row ≡ Rx n k ms → (d : Delivery)
       → received (setting_for h.server.me) h.server.sessions (arrival_at (frame_at w.frames k) (max h.server.now ms)) ≡ Gives d → TellsWithin top d)
       (missed : MissesNobody n w row) where
-    -- a request is not accepted, and makes nothing whole
-    asked_left : (message : Allocation) → IsAsked n message w row → Left
-    asked_left message is = elim (asked_row frame group clocks pace n top log Holds (WaitsOver list n) (blank_office list n top log earlier room) [] before moment
+    -- a request is taken, or makes the log grow
+    asked_left : (message : Allocation) → IsAsked n message w row → Left ⊎ GrowsIn ids n top log now w row
+    asked_left message is = elim (asked_row frame group clocks pace n top log Holds (WaitsOver list n) (blank_office list n top log earlier room) h.accepted before moment
         traffic w nodes member flies lists later h.server its me row calm message is) [
-          | inl g ↦ absurd (makes_none_whole message now (may_follow is.comes.server) g.growth.uid g.growth.preferred g.growth.whole)
-          | inr leaves ↦ subst (λ (l : List Accepted). (u : AllocatorState) × Settles Holds log l now ((after_row w row).member n) u)
-              (ap (λ b. after [] message (max is.comes.server.now is.comes.ms) b) follows_not ∙ accepts_none message (max is.comes.server.now is.comes.ms)) leaves
+          | inl g ↦ inr (record {
+            message = message;
+            asked = is;
+            grows = grows_by frame group clocks pace n top log Holds (WaitsOver list n) (blank_office list n top log earlier room) h.accepted before moment traffic w nodes
+                member flies lists later row message is g
+                (ap (λ (t : AllocatorState). t.raft_server.store.log) (sym (same_server h.server is.comes.server (sym h.its.up.status ∙ is.comes.runs))) ∙ h.waits.log_is);
+          })
+          | inr leaves ↦ inl (after h.accepted message (max is.comes.server.now is.comes.ms) (may_follow is.comes.server), leaves.0, leaves.1)
         ]
-      where
-        same : h.server ≡ is.comes.server
-        same = same_server h.server is.comes.server (sym h.its.up.status ∙ is.comes.runs)
 
-        follows_not : may_follow is.comes.server ≡ false
-        follows_not = subst (λ (t : AllocatorState). may_follow t ≡ false) same
-            (gives_none h.server (let s = h.waits.some in let l = ap (λ (l : List Entry). length l) h.waits.log_is in omega (arith, s, l))
-            (let l = ap (λ (l : List Entry). length l) h.waits.log_is in omega (arith, room, l)))
-
-    left : Left
+    left : Left ⊎ GrowsIn ids n top log now w row
     left = by (asked_or_not n w h.server h.its.up.status row)
       where
-        by : AsksOrNot n w row → Left
+        by : AsksOrNot n w row → Left ⊎ GrowsIn ids n top log now w row
         by (inl (message, is)) = asked_left message is
-        by (inr not_asked) = unasked_in frame group clocks pace n top log Holds (WaitsOver list n) (blank_office list n top log earlier room) [] before moment
-            traffic w nodes member flies lists later h.server its me row sees calm within missed not_asked
+        by (inr not_asked) =
+            let leaves = unasked_in frame group clocks pace n top log Holds (WaitsOver list n) (blank_office list n top log earlier room) h.accepted before moment traffic w
+            nodes member flies lists later h.server its me row sees calm within missed not_asked in
+            inl (h.accepted, leaves.0, leaves.1)
 
-    -- it waits on, or the blank has come
-    pub waits_or_adds : WaitsOrAdds ids n top log now (after_row w row)
-    waits_or_adds = elim left.1.done.which [
+    abbrev Behind : Type 0
+    Behind = IsInWait ids n top log now (after_row w row) ⊎ HasBlank ids n top log now (after_row w row)
+
+    left_so : (taken : List Accepted) (u : AllocatorState) → Settles Holds log taken now ((after_row w row).member n) u → Behind
+    left_so taken u s = elim s.done.which [
       | inl waits ↦ inl (record {
-        server = left.0;
+        server = u;
+        accepted = taken;
         its = record {
-          up = left.1.up;
-          done = record { leads = left.1.done.leads; which = inl (waits_over list ids n log left.0 same_list waits) };
-          clock = left.1.clock;
-          status = left.1.status;
-          accepts = left.1.accepts;
-          requests = left.1.requests;
-          offline = left.1.offline;
-          discovery = left.1.discovery;
+          up = s.up;
+          done = record { leads = s.done.leads; which = inl (waits_over list ids n log u same_list waits) };
+          clock = s.clock;
+          status = s.status;
+          accepts = s.accepts;
+          requests = s.requests;
+          offline = s.offline;
+          discovery = s.discovery;
         };
-        waits = waits_over list ids n log left.0 same_list waits;
+        waits = waits_over list ids n log u same_list waits;
       })
-      | inr added ↦ inr (leads_with n top (log ++ blank top ∷ []) [] now (after_row w row) left.0 (record {
-        up = left.1.up;
-        done = record { leads = left.1.done.leads; log_is = added; no_blank = inr (ap (λ (e : Entry). e.term) (last_entry log (blank top))) };
-        clock = left.1.clock;
-        status = left.1.status;
-        accepts = left.1.accepts;
-        requests = left.1.requests;
-        offline = no_stranger_longer log (blank top ∷ []) (members_of left.0) left.0.watch left.0.now left.1.offline;
-        discovery = left.1.discovery;
-      }))
+      | inr added ↦ inr (record {
+        accepted = taken;
+        leads = leads_with n top (log ++ blank top ∷ []) taken now (after_row w row) u (record {
+          up = s.up;
+          done = record { leads = s.done.leads; log_is = added; no_blank = inr (ap (λ (e : Entry). e.term) (last_entry log (blank top))) };
+          clock = s.clock;
+          status = s.status;
+          accepts = s.accepts;
+          requests = s.requests;
+          offline = no_stranger_longer log (blank top ∷ []) (members_of u) u.watch u.now s.offline;
+          discovery = s.discovery;
+        });
+      })
     ]
+
+    -- it waits on, or the blank has come, or a request makes the log grow
+    pub waits_or_adds : Behind ⊎ GrowsIn ids n top log now w row
+    waits_or_adds = elim left [ inl l ↦ inl (left_so l.0 l.1 l.2) | inr g ↦ inr g ]

@@ -2,7 +2,6 @@
 use Rattle.std.proofs.Common.{zero, suc, ◌≡◌, ℕ, ◌+◌, ◌*◌, ◌<◌, ◌≤◌, List, [], ◌∷◌, ◌++◌, length, append_assoc, sym, ◌∙◌, ap, subst, arith, inl, inr, Some}
 use Rattle.std.specs.Prelude.{◌⊎◌}
 use Rattle.can_frame.specs.declared.entry.Entry.{Entry}
-use Rattle.can_frame.specs.Log.{log_limit}
 use Rattle.replay_text.specs.declared.row.Row.{Row}
 use Rattle.alloc_spec.specs.AllocatorState.{AllocatorState}
 use Rattle.alloc_spec.specs.Step.{Event, step}
@@ -23,7 +22,7 @@ use Rattle.calm_service.specs.Settles.{GrowsBy, HasSettledBy, MayHaveBlank}
 use Rattle.calm_service.proofs.AllocationsTold.{VerdictsAre}
 use Rattle.calm_service.proofs.ServedTold.{HasReached, reached_on, tells_next_one}
 use Rattle.calm_service.proofs.ServedToldRows.{room_at}
-use Rattle.calm_service.proofs.SettlesCommits.{OnBlank, committed_on, on_blank}
+use Rattle.calm_service.proofs.SettlesCommits.{StillLeads, committed_on, still_leads}
 use Rattle.calm_service.proofs.SettlesFrom.{Any, carry, cut_more, goes_behind, leads_at, runs_at}
 use Rattle.cluster_spec.specs.Cluster.{Cluster, after_rows, step_of, world_of}
 use Rattle.cluster_spec.specs.Members.MemberStatus.{Up}
@@ -34,7 +33,7 @@ told_kept judged least = record { stepped = λ t number event may h. reached_on 
 
 module _ (ids : List ℕ) (rows : List Row) (group : List Party) (clocks : Party → ℕ) (pace : Pace) (start n term : ℕ) (first later : List Timed)
     (under : IsCalmUnder ids rows group clocks pace start n term first later) (keeps_row : EachRowKeepsTheLog ids rows) (judged : VerdictsAre)
-    (log longer : List Entry) (its_log : MayHaveBlank log term longer) (within : length longer ≤ log_limit)
+    (log longer : List Entry) (its_log : MayHaveBlank log term longer)
     (sane : (a b : List Timed) (t : AllocatorState) → later ≡ a ++ b
     → ((after_rows (after_rows (world_of ids rows) (rows_in first)) (rows_in a)).member n).status ≡ Up t → t.raft_server.store.commit ≤ length t.raft_server.store.log)
     (fit : (a b : List Timed) (t : AllocatorState) → later ≡ a ++ b
@@ -54,7 +53,7 @@ module _ (ids : List ℕ) (rows : List Row) (group : List Party) (clocks : Party
   at a = after_rows led_from (rows_in a)
 
   abbrev On : List Timed → Type 0
-  On = OnBlank ids rows group clocks pace start n term first later under keeps_row judged log longer its_log within sane
+  On = StillLeads ids rows group clocks pace start n term first later under keeps_row judged log longer its_log sane
 
   -- so much is told
   abbrev Told : ℕ → List Timed → Type 0
@@ -175,7 +174,7 @@ module _ (ids : List ℕ) (rows : List Row) (group : List Party) (clocks : Party
           let s = tick.soon in omega (arith, e, f, s, soon)
 
       all : (then_ : On ticked) → then_.leads.server.raft_server.store.commit ≡ length longer
-      all then_ = committed_on ids rows group clocks pace start n term first later under keeps_row judged log longer its_log within sane a passed tick.more whole
+      all then_ = committed_on ids rows group clocks pace start n term first later under keeps_row judged log longer its_log sane a passed tick.more whole
           on.leads.server on.leads.runs (omega (arith, committed)) then_.leads.server then_.leads.runs then_.leads.log_is
 
       told_then : On ticked → Told (least + 1) ticked
@@ -186,7 +185,7 @@ module _ (ids : List ℕ) (rows : List Row) (group : List Party) (clocks : Party
           let c = ap (λ (s : AllocatorState). s.raft_server.store.commit) same in let e = all then_ in omega (arith, c, e, low))
 
       one_more : Ends
-      one_more = elim (on_blank ids rows group clocks pace start n term first later under keeps_row judged log longer its_log within sane last passed a tick.more whole
+      one_more = elim (still_leads ids rows group clocks pace start n term first later under keeps_row judged log longer its_log sane last passed a tick.more whole
           (let l = by_last in omega (arith, l)) on) [
             | inr growth ↦ inr growth
             | inl then_ ↦ goes_on ticked tick.more (whole ∙ sym (append_assoc a passed tick.more)) by_last then_ (all then_) (told_then then_)

@@ -1,8 +1,9 @@
--- A leader that waits with its blank, in all rows of a calm: it waits on, or in one of them the blank has come.
+-- A leader that waits with its blank, in all rows of a calm: it waits on, or in one of them the blank has come, or a
+-- request of a device makes its log grow.
 use Rattle.std.proofs.Common.{◌≡◌, ℕ, ◌+◌, ◌<◌, true, List, [], ◌∷◌, ◌++◌, length, refl, sym, ◌∙◌, ap, subst, arith, inl, inr}
 use Rattle.std.specs.Prelude.{◌⊎◌}
 use Rattle.can_frame.specs.declared.entry.Entry.{Entry}
-use Rattle.can_frame.specs.Log.{blank, last_term, log_limit}
+use Rattle.can_frame.specs.Log.{last_term, log_limit}
 use Rattle.raft_model.specs.Lists.{In}
 use Rattle.raft_model.specs.Members.{IsAll}
 use Rattle.replay_text.specs.declared.row.Row.{Row}
@@ -13,7 +14,6 @@ use Rattle.cluster_recovery.specs.Calm.{Pace, Timed, end_of, rows_in}
 use Rattle.cluster_calm.specs.Calm.{Member as OfMember, Party}
 use Rattle.cluster_calm.specs.Calls.{ListsStay}
 use Rattle.calm_leader.specs.LeadsOn.{IsLed}
-use Rattle.calm_service.specs.Recorded.{LeadsWith}
 use Rattle.calm_service.specs.Settled.{MissesNobody, NobodyIsMissed}
 use Rattle.cluster_calm.proofs.Calls.{Always}
 use Rattle.cluster_calm.proofs.CallsKept.{IsKept, further}
@@ -22,7 +22,7 @@ use Rattle.cluster_calm.proofs.Pair.{same_server}
 use Rattle.calm_leader.proofs.LeadsOn.{DeliversOne}
 use Rattle.calm_leader.proofs.TermsHeard.{IsOfRun}
 use Rattle.calm_service.proofs.SettledStays.{IsReached, LedIn, ListsAll, after_one, its_me, led_after, lists_after, nodes, tells_low}
-use Rattle.calm_service.proofs.SettlesRows.{IsInWait, WaitsOrAdds, lists_all, waits_or_adds}
+use Rattle.calm_service.proofs.SettlesRows.{GrowsIn, HasBlank, IsInWait, lists_all, waits_or_adds}
 use Rattle.cluster_spec.specs.Cluster.{AreMembers, Cluster, after_row, after_rows, cluster, world_of}
 use Rattle.cluster_spec.specs.Lawful.{DoNoHarm, DoesNoHarm}
 use Rattle.cluster_spec.specs.Members.MemberStatus.{Up}
@@ -54,9 +54,6 @@ module _ (group : List Party) (laws : CalmLaws) (codec : CodecLaws) (one_transfe
   abbrev clock : ℕ → ℕ
   clock moment = moment + clocks (OfMember n)
 
-  abbrev longer : List Entry
-  longer = log ++ blank term ∷ []
-
   -- it waits, and was told its list
   pub record Waits (moment : ℕ) (w : Cluster) : Type 0 where
     pub is : IsInWait ids n term log (clock moment) w
@@ -67,7 +64,19 @@ module _ (group : List Party) (laws : CalmLaws) (codec : CodecLaws) (one_transfe
     pub early : List Timed
     pub late : List Timed
     pub split : rows ≡ early ++ late
-    pub leads : LeadsWith n longer [] (clock (end_of moment early)) (after_rows w (rows_in early))
+    pub has : HasBlank ids n term log (clock (end_of moment early)) (after_rows w (rows_in early))
+
+  -- a request makes the log grow in one of these rows
+  pub record LogGrows (moment : ℕ) (w : Cluster) (rows : List Timed) : Type 0 where
+    pub early : List Timed
+    pub row : Timed
+    pub late : List Timed
+    pub split : rows ≡ early ++ row ∷ late
+    pub grows : GrowsIn ids n term log (clock row.at) (after_rows w (rows_in early)) row.row
+
+  -- it waits no more behind these rows
+  abbrev pub EndsIn : ℕ → Cluster → List Timed → Type 0
+  EndsIn moment w rows = BlankComes moment w rows ⊎ LogGrows moment w rows
 
   module _ (moment : ℕ) (w : Cluster) (timed : Timed) (rest : List Timed) (h : Reached moment w (timed ∷ rest)) (harm : DoesNoHarm w timed.row)
       (led : IsLed group n term w) (lists : Lists w) (missed : MissesNobody n w timed.row) (waits : Waits moment w) where
@@ -87,7 +96,8 @@ module _ (group : List Party) (laws : CalmLaws) (codec : CodecLaws) (one_transfe
         (record { traffic = h.traffic; calm = h.calm; runs = record { server = t; up = waits.is.its.up; holds = waits.told } }) in
         subst IsTold (same_server goes.runs.server u (sym goes.runs.up.status ∙ up)) goes.runs.holds
 
-    one : WaitsOrAdds ids n term log (clock timed.at) (after_row w timed.row)
+    one : (IsInWait ids n term log (clock timed.at) (after_row w timed.row) ⊎ HasBlank ids n term log (clock timed.at) (after_row w timed.row))
+        ⊎ GrowsIn ids n term log (clock timed.at) w timed.row
     one = waits_or_adds laws.frame group clocks pace n term log earlier room (clock moment) timed.at h.traffic w
         (nodes group laws codec one_transfer stay clocks pace ids members listed of_run same_members grown grown_harmless) member h.flies lists
         (let m = h.calm.0.moments in let e = h.at_end in omega (arith, m, e)) ids waits.is
@@ -97,26 +107,34 @@ module _ (group : List Party) (laws : CalmLaws) (codec : CodecLaws) (one_transfe
         t waits.is.its.up.status led) missed
 
     -- so it is behind the row
-    one_on : Waits timed.at (after_row w timed.row) ⊎ LeadsWith n longer [] (clock timed.at) (after_row w timed.row)
-    one_on = elim one [ inl is ↦ inl (record { is = is; told = told_then is.server is.its.up.status }) | inr leads ↦ inr leads ]
+    one_on : (more : List Timed) → Waits timed.at (after_row w timed.row) ⊎ EndsIn moment w (timed ∷ more)
+    one_on more = elim one [
+      | inl left ↦ elim left [
+        | inl is ↦ inl (record { is = is; told = told_then is.server is.its.up.status })
+        | inr has ↦ inr (inl (record { early = timed ∷ []; late = more; split = refl; has = has }))
+      ]
+      | inr grows ↦ inr (inr (record { early = []; row = timed; late = more; split = refl; grows = grows }))
+    ]
 
   -- and behind any number of rows
   pub waits_on : (front rest : List Timed) (moment : ℕ) (w : Cluster) → Reached moment w (front ++ rest) → DoNoHarm w (rows_in front) → Led w front → Lists w
-      → NobodyIsMissed n w front → Waits moment w → Waits (end_of moment front) (after_rows w (rows_in front)) ⊎ BlankComes moment w front
+      → NobodyIsMissed n w front → Waits moment w → Waits (end_of moment front) (after_rows w (rows_in front)) ⊎ EndsIn moment w front
   waits_on [] rest moment w h harm led lists missed waits = inl waits
   waits_on (timed ∷ front) rest moment w h harm led lists missed waits =
-      elim (one_on moment w timed (front ++ rest) h harm.0 (led [] (timed ∷ front) refl) lists missed.0 waits) [
+      elim (one_on moment w timed (front ++ rest) h harm.0 (led [] (timed ∷ front) refl) lists missed.0 waits front) [
         | inl next ↦ behind (waits_on front rest timed.at (after_row w timed.row)
             (after_one group laws codec one_transfer stay clocks pace ids members listed of_run same_members grown grown_harmless moment w timed (front ++ rest) h harm.0)
             harm.1
             (led_after group laws codec one_transfer stay clocks pace ids members listed of_run same_members grown grown_harmless n term log member w timed front led)
             (lists_after group laws codec one_transfer stay clocks pace ids members listed of_run same_members grown grown_harmless n term log member moment w timed
             (front ++ rest) h harm.0 lists) missed.1 next)
-        | inr leads ↦ inr (record { early = timed ∷ []; late = front; split = refl; leads = leads })
+        | inr ends ↦ inr ends
       ]
     where
-      behind : Waits (end_of timed.at front) (after_rows (after_row w timed.row) (rows_in front)) ⊎ BlankComes timed.at (after_row w timed.row) front
-          → Waits (end_of timed.at front) (after_rows (after_row w timed.row) (rows_in front)) ⊎ BlankComes moment w (timed ∷ front)
+      behind : Waits (end_of timed.at front) (after_rows (after_row w timed.row) (rows_in front)) ⊎ EndsIn timed.at (after_row w timed.row) front
+          → Waits (end_of timed.at front) (after_rows (after_row w timed.row) (rows_in front)) ⊎ EndsIn moment w (timed ∷ front)
       behind (inl later) = inl later
-      behind (inr comes) =
-          inr (record { early = timed ∷ comes.early; late = comes.late; split = ap (λ (l : List Timed). timed ∷ l) comes.split; leads = comes.leads })
+      behind (inr (inl comes)) =
+          inr (inl (record { early = timed ∷ comes.early; late = comes.late; split = ap (λ (l : List Timed). timed ∷ l) comes.split; has = comes.has }))
+      behind (inr (inr g)) =
+          inr (inr (record { early = timed ∷ g.early; row = g.row; late = g.late; split = ap (λ (l : List Timed). timed ∷ l) g.split; grows = g.grows }))

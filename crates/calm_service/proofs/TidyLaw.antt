@@ -1,25 +1,44 @@
 -- Members that are tidy, and Discoveries that miss nobody: from where a calm begins.
-use Rattle.std.proofs.Common.{◌≡◌, ℕ, ◌+◌, ◌≤◌, Bool, false, List, [], refl, sym, ◌∙◌, subst}
+use Rattle.std.proofs.Common.{◌≡◌, ◌≢◌, ℕ, ◌+◌, ◌≤◌, Bool, false, List, [], ◌++◌, refl, sym, ◌∙◌, subst, arith}
 use Rattle.std.specs.Prelude.{◌||◌}
+use Rattle.alloc_exchange.specs.Exchange.{Accepted, last_moment}
 use Rattle.cluster_discovery.specs.Members.{is_on_list}
 use Rattle.raft_model.specs.Lists.{In}
 use Rattle.replay_text.specs.declared.row.Row.{Row}
 use Rattle.alloc_spec.specs.AllocatorState.{AllocatorState, is_recorded, members_of}
+use Rattle.cluster_recovery.specs.Calm.{Pace, Timed, end_of, rows_in}
 use Rattle.cluster_recovery.proofs.Choosing.{left_false}
-use Rattle.cluster_calm.specs.Calm.{AreRunning, Member as OfMember, Party, no_traffic}
+use Rattle.cluster_calm.specs.Calm.{AreCalm, AreRunning, Member as OfMember, Party, no_traffic}
+use Rattle.cluster_calm.specs.Calls.{Lists}
 use Rattle.cluster_recovery.proofs.Members.{IsUp}
 use Rattle.cluster_calm.proofs.Group.{AreWell, CalmLaws, IsServer, IsWell}
 use Rattle.cluster_calm.proofs.Pair.{same_server}
-use Rattle.calm_service.specs.Tidy.{DiscoveriesMissNobody, IsTidy, MembersStayTidy, NeedsNoDiscovery, NoDiscoveryWaits, TidyMembersMissNobody}
+use Rattle.calm_service.specs.Tidy.{DiscoveriesMissNobody, IsFit, MembersStayFit, MembersStayTidy, NeedsNoDiscovery, NoDiscoveryWaits, TidyMembersAreFit, TidyMembersMissNobody}
 use Rattle.calm_service.proofs.DialogOthers.{none_in}
+use Rattle.calm_service.proofs.SettledServers.{after_ends}
 use Rattle.calm_service.proofs.TidyCalm.{nobody_missed}
-use Rattle.calm_service.proofs.TidyMembers.{rested_on}
+use Rattle.calm_service.proofs.TidyMembers.{AreKept, IsRested, rested_on}
 use Rattle.calm_service.proofs.TidyRows.{IsQuiet, number_from}
-use Rattle.cluster_spec.specs.Cluster.{AreMembers, Cluster, world_of}
+use Rattle.cluster_spec.specs.Cluster.{AreMembers, Cluster, after_rows, world_of}
 
--- a tidy member needs no Discovery
-pub tidy_needs_none : (n now : ℕ) (w : Cluster) → IsTidy n now w → NeedsNoDiscovery n w
-tidy_needs_none n now w h = record {
+-- a tidy member is fit
+unfoldable pub tidy_is_fit : TidyMembersAreFit
+tidy_is_fit n now w h = record {
+  server = h.server;
+  runs = h.runs;
+  faults = h.faults;
+  disk = h.disk;
+  clock = h.clock;
+  status = h.status;
+  last_request = let e = h.requests in rw (e) (omega arith);
+  listed = h.listed;
+  discovery = h.discovery;
+  complete = h.complete;
+}
+
+-- a member that is fit needs no Discovery
+pub fit_needs_none : (n now : ℕ) (w : Cluster) → IsFit n now w → NeedsNoDiscovery n w
+fit_needs_none n now w h = record {
   running = record { server = h.server; runs = h.runs; faults = h.faults; disk = h.disk };
   complete = h.complete;
   discovery = h.discovery;
@@ -67,27 +86,38 @@ module _ (laws : CalmLaws) (ids : List ℕ) (members : AreMembers ids) (rows : L
 
   pub tidy_miss_nobody : TidyMembersMissNobody ids rows
   tidy_miss_nobody group clocks pace start m front rest listed calm tidy none =
-      miss_nobody group clocks pace start m front rest listed calm (λ p i. tidy_needs_none p (start + clocks (OfMember p)) w (tidy p i)) none
+      miss_nobody group clocks pace start m front rest listed calm (λ p i. fit_needs_none p (start + clocks (OfMember p)) w (tidy_is_fit p (start + clocks (OfMember p)) w (tidy p i))) none
 
-  pub stay_tidy : MembersStayTidy ids rows
-  unfolding tidy_needs_none
-  stay_tidy group clocks pace start m front rest listed only calm tidy lists none i =
-      let needs : (p : ℕ) → In (OfMember p) group → NeedsNoDiscovery p w = λ p j. tidy_needs_none p (start + clocks (OfMember p)) w (tidy p j) in
-      let later = rested_on laws group (nodes group listed needs none) only clocks pace m i front rest (no_traffic start) w calm (record {
-        well = all_well group listed needs none;
-        flies = λ party. refl;
-        rested = λ p j. (
-          (tidy p j).server,
-          record {
-            quiet = begins_quiet group listed needs none p j;
-            clock = (tidy p j).clock;
-            status = (tidy p j).status;
-            requests = (tidy p j).requests;
-            offline = λ other e. (tidy p j).listed other (left_false (is_on_list (members_of (tidy p j).server) other) (is_recorded [] other) e);
-            lists = λ q k apart. lists p q j k apart (tidy p j).server (tidy p j).runs;
-          },
-        );
-      }) in
+  -- where this holds of the requests that each has accepted, and is kept, it does behind each front
+  module _ (group : List Party) (clocks : Party → ℕ) (pace : Pace) (start m : ℕ) (front rest : List Timed) (listed : (p : ℕ) → In (OfMember p) group → In p ids)
+      (calm : AreCalm group clocks pace (no_traffic start) w (front ++ rest)) (fit : (p : ℕ) → In (OfMember p) group → IsFit p (start + clocks (OfMember p)) w)
+      (lists : (p q : ℕ) → In (OfMember p) group → In (OfMember q) group → p ≢ q → Lists p q w) (none : NoDiscoveryWaits group w) (i : In (OfMember m) group)
+      (Fits : ℕ → List Accepted → Type 0) (kept : AreKept group Fits)
+      (fits : (p : ℕ) (j : In (OfMember p) group) → Fits (start + clocks (OfMember p)) (fit p j).server.accepted) where
+    needs : (p : ℕ) → In (OfMember p) group → NeedsNoDiscovery p w
+    needs p j = fit_needs_none p (start + clocks (OfMember p)) w (fit p j)
+
+    rests_later : (t : AllocatorState) × IsRested laws group (nodes group listed needs none) clocks pace Fits kept m (end_of start front + clocks (OfMember m)) t
+        (after_rows w (rows_in front))
+    unfolding fit_needs_none needs
+    rests_later = rested_on laws group (nodes group listed needs none) clocks pace Fits kept m i front rest (no_traffic start) w calm (record {
+      well = all_well group listed needs none;
+      flies = λ party. refl;
+      rested = λ p j. (
+        (fit p j).server,
+        record {
+          quiet = begins_quiet group listed needs none p j;
+          clock = (fit p j).clock;
+          status = (fit p j).status;
+          requests = fits p j;
+          offline = λ other e. (fit p j).listed other (left_false (is_on_list (members_of (fit p j).server) other) (is_recorded [] other) e);
+          lists = λ q k apart. lists p q j k apart (fit p j).server (fit p j).runs;
+        },
+      );
+    })
+
+    fit_later : (h : IsFit m (end_of start front + clocks (OfMember m)) (after_rows w (rows_in front))) × Fits (end_of start front + clocks (OfMember m)) h.server.accepted
+    fit_later = let later = rests_later in (
       record {
         server = later.0;
         runs = later.1.quiet.up.status;
@@ -95,8 +125,42 @@ module _ (laws : CalmLaws) (ids : List ℕ) (members : AreMembers ids) (rows : L
         disk = later.1.quiet.up.quiet.calls;
         clock = later.1.clock;
         status = later.1.status;
-        requests = later.1.requests;
+        last_request = kept.ends (end_of start front + clocks (OfMember m)) later.0.accepted later.1.requests;
         listed = λ other e. later.1.offline other (or_none (is_on_list (members_of later.0) other) e);
         discovery = later.1.quiet.discovery;
         complete = later.1.quiet.complete;
+      },
+      later.1.requests,
+    )
+
+  -- the last request of each is not after the moment
+  pub stay_fit : MembersStayFit ids rows
+  stay_fit group clocks pace start m front rest listed calm fit lists none i =
+      (fit_later group clocks pace start m front rest listed calm fit lists none i (λ now accepted. last_moment accepted ≤ now) (record {
+        later = λ now later accepted after_it e. omega (arith, after_it, e);
+        behind = λ a j now message accepted follows e. after_ends accepted message now now follows e (omega arith);
+        ends = λ now accepted e. e;
+      }) (λ p j. (fit p j).last_request)).0
+
+  -- each has accepted none, where none comes
+  pub stay_tidy : MembersStayTidy ids rows
+  unfolding tidy_is_fit
+  stay_tidy group clocks pace start m front rest listed only calm tidy lists none i =
+      let later = fit_later group clocks pace start m front rest listed calm (λ p j. tidy_is_fit p (start + clocks (OfMember p)) w (tidy p j)) lists none i
+      (λ now accepted. accepted ≡ []) (record {
+        later = λ now later accepted after_it e. e;
+        behind = λ a j now message accepted follows e. absurd (only a j);
+        ends = λ now accepted e. rw (e) (omega arith);
+      }) (λ p j. (tidy p j).requests) in
+      record {
+        server = later.0.server;
+        runs = later.0.runs;
+        faults = later.0.faults;
+        disk = later.0.disk;
+        clock = later.0.clock;
+        status = later.0.status;
+        requests = later.1;
+        listed = later.0.listed;
+        discovery = later.0.discovery;
+        complete = later.0.complete;
       }

@@ -1,8 +1,10 @@
--- A calm of members only, row by row: each member stays tidy.
-use Rattle.std.proofs.Common.{◌≡◌, ◌≢◌, ℕ, ◌+◌, ◌≤◌, true, List, [], ◌∷◌, ◌++◌, max, sym, ◌∙◌, ap, subst, arith, inl, inr}
+-- A calm in which no Discovery is due, row by row: each member stays fit, and so do the requests that it has accepted.
+use Rattle.std.proofs.Common.{◌≡◌, ◌≢◌, ℕ, ◌+◌, ◌≤◌, Bool, true, List, [], ◌∷◌, ◌++◌, max, sym, ◌∙◌, ap, subst, arith, inl, inr}
+use Rattle.alloc_exchange.specs.Exchange.{Accepted, after, last_moment}
 use Rattle.can_frame.specs.declared.identifier.Ident.{Ident}
-use Rattle.can_frame.specs.declared.identifier.Kind.TheVariants.{Message as Broadcast}
+use Rattle.can_frame.specs.declared.identifier.Kind.TheVariants.{Anonymous, Message as Broadcast}
 use Rattle.cluster_discovery.specs.Members.{is_on_list}
+use Rattle.dsdl_codec.specs.declared.allocation.Allocation.{Allocation}
 use Rattle.raft_model.specs.Lists.{In}
 use Rattle.replay_text.specs.declared.row.Row.TheVariants.{Rx}
 use Rattle.transfer_rx.specs.Reassembly.{Arrival, Delivery, Gives}
@@ -11,13 +13,11 @@ use Rattle.alloc_spec.specs.Step.{Event, after_pop, moment_of, step}
 use Rattle.alloc_spec.specs.Step as server
 use Rattle.alloc_spec_laws.specs.Sound.{IsOnTheBus}
 use Rattle.cluster_recovery.specs.Calm.{Pace, Timed, end_of, rows_in}
-use Rattle.cluster_calm.specs.Calm.{AreCalm, IsCalmRow, IsInTime, Member as OfMember, Party, Traffic, traffic_after}
+use Rattle.cluster_calm.specs.Calm.{AreCalm, Device as OfDevice, IsCalmRow, IsInTime, Member as OfMember, Party, Traffic, traffic_after}
 use Rattle.cluster_calm.proofs.Calls.{on_list}
 use Rattle.cluster_calm.proofs.Group.{AreWell, CalmLaws, narrow_on_bus}
-use Rattle.calm_service.specs.Tidy.{AreMembersOnly}
-use Rattle.calm_service.proofs.AllocationsOffered.{IsUnasked, comes_to}
+use Rattle.calm_service.proofs.AllocationsOffered.{comes_to}
 use Rattle.calm_service.proofs.DialogFrames.{has_source}
-use Rattle.calm_service.proofs.FollowersSay.{unasked_kept}
 use Rattle.calm_service.proofs.SettledServers.{not_own}
 use Rattle.calm_service.proofs.SettledSteps.{NoStranger}
 use Rattle.calm_service.proofs.TidyCalm.{IsSteady, comes_with, none_comes, plain_comes, steady_after}
@@ -28,15 +28,23 @@ use Rattle.calm_service.proofs.TidyWays.{AllAre}
 use Rattle.cluster_spec.specs.Cluster.{Cluster, after_row, after_rows, frame_at, receipt_of, tick_of}
 use Rattle.cluster_spec.specs.Members.{member_after_step}
 
-module _ (laws : CalmLaws) (group : List Party) (nodes : (p : ℕ) → In (OfMember p) group → (1 ≤ p) × (p ≤ 125)) (only : AreMembersOnly group) (clocks : Party → ℕ)
-    (pace : Pace) where
-  -- Member p needs no Discovery, its clock has not fallen, it has accepted no request, no node is online that it does not
+-- What holds of accepted requests at a moment holds of them later, and behind a request of a device of the group. The last
+-- one is not after the moment.
+pub record AreKept (group : List Party) (Fits : ℕ → List Accepted → Type 0) : Type 0 where
+  pub later : (now later : ℕ) (accepted : List Accepted) → now ≤ later → Fits now accepted → Fits later accepted
+  pub behind : (a : ℕ) → In (OfDevice a) group → (now : ℕ) (message : Allocation) (accepted : List Accepted) (follows : Bool) → Fits now accepted
+      → Fits now (after accepted message now follows)
+  pub ends : (now : ℕ) (accepted : List Accepted) → Fits now accepted → last_moment accepted ≤ now
+
+module _ (laws : CalmLaws) (group : List Party) (nodes : (p : ℕ) → In (OfMember p) group → (1 ≤ p) × (p ≤ 125)) (clocks : Party → ℕ) (pace : Pace)
+    (Fits : ℕ → List Accepted → Type 0) (kept : AreKept group Fits) where
+  -- Member p needs no Discovery, its clock has not fallen, it has accepted requests that fit, no node is online that it does not
   -- list, and it lists each other member.
   pub record IsRested (p now : ℕ) (t : AllocatorState) (w : Cluster) : Type 0 where
     pub quiet : IsQuiet p t w
     pub clock : t.now ≤ now
     pub status : t.status_at ≤ now
-    pub requests : t.accepted ≡ []
+    pub requests : Fits now t.accepted
     pub offline : NoStranger [] (members_of t) t.watch t.now
     pub lists : (q : ℕ) → In (OfMember q) group → p ≢ q → In q (members_of t)
 
@@ -55,7 +63,7 @@ module _ (laws : CalmLaws) (group : List Party) (nodes : (p : ℕ) → In (OfMem
     quiet = quiet_same p t w v same h.quiet;
     clock = omega (arith, h.clock, after_it);
     status = omega (arith, h.status, after_it);
-    requests = h.requests;
+    requests = kept.later now later t.accepted after_it h.requests;
     offline = h.offline;
     lists = h.lists;
   }
@@ -68,14 +76,15 @@ module _ (laws : CalmLaws) (group : List Party) (nodes : (p : ℕ) → In (OfMem
       plain : IsPlain group (frame_at w.frames k)
       plain = plain_comes laws group nodes clocks pace traffic w timed calm (steady traffic w s) p k ms is
 
-      -- no request of a device
-      unasked : IsUnasked t (receipt_of w k ms)
-      unasked arrival same d message gives kind says = by plain
+      -- a request is of a device
+      of_device : (arrival : Arrival) → receipt_of w k ms ≡ server.Rx arrival → (d : Delivery) → comes_to t arrival ≡ Gives d → d.ident.kind ≡ Anonymous
+          → (a : ℕ) × In (OfDevice a) group
+      of_device arrival same d gives kind = by plain
         where
-          by : IsPlain group (frame_at w.frames k) → ⊥
-          by (inl of) = has_source laws.frame of.n (frame_at w.frames k) (nodes of.n of.member) of.is d.ident
-              (wanted_here laws.frame group nodes t.me t.sessions (frame_at w.frames k) (max t.now ms) plain d (comes_with t w k ms arrival same d gives)).read kind
-          by (inr of) = only of.0 of.1
+          by : IsPlain group (frame_at w.frames k) → (a : ℕ) × In (OfDevice a) group
+          by (inl of) = absurd (has_source laws.frame of.n (frame_at w.frames k) (nodes of.n of.member) of.is d.ident
+              (wanted_here laws.frame group nodes t.me t.sessions (frame_at w.frames k) (max t.now ms) plain d (comes_with t w k ms arrival same d gives)).read kind)
+          by (inr of) = (of.0, of.1)
 
       -- a message is of a member that it lists
       listed : (arrival : Arrival) → receipt_of w k ms ≡ server.Rx arrival → (d : Delivery) → comes_to t arrival ≡ Gives d → d.ident.kind ≡ Broadcast
@@ -93,15 +102,16 @@ module _ (laws : CalmLaws) (group : List Party) (nodes : (p : ℕ) → In (OfMem
     -- a step
     stepped : (p : ℕ) (i : In (OfMember p) group) (t : AllocatorState) (h : IsRested p (traffic.at + clocks (OfMember p)) t w) (event : Event) → IsOnTheBus event
         → (after_row w timed.row).member p ≡ member_after_step (w.rows + 1) event (w.member p).status (w.member p) → moment_of event ≡ timed.at + clocks (OfMember p)
-        → NoneComes (w.rows + 1) t h.quiet.complete h.quiet.discovery event → IsUnasked t event
+        → NoneComes (w.rows + 1) t h.quiet.complete h.quiet.discovery event
+        → ((arrival : Arrival) → event ≡ server.Rx arrival → (d : Delivery) → comes_to t arrival ≡ Gives d → d.ident.kind ≡ Anonymous → (a : ℕ) × In (OfDevice a) group)
         → ((arrival : Arrival) → event ≡ server.Rx arrival → (d : Delivery) → comes_to t arrival ≡ Gives d → d.ident.kind ≡ Broadcast
         → is_on_list (members_of t) d.ident.source ≡ true)
         → IsRested p (timed.at + clocks (OfMember p)) (step t (w.rows + 1) event).step_state.allocator (after_row w timed.row)
-    stepped p i t h event bus same reads none not_asked from_listed = record {
+    stepped p i t h event bus same reads none from_device from_listed = record {
       quiet = quiet_stepped laws p (nodes p i) t w h.quiet (w.rows + 1) (after_row w timed.row) event bus same none;
       clock = let c = r.clock in omega (arith, c, now_is);
       status = let c = r.status_at in omega (arith, c, now_is);
-      requests = unasked_kept t (w.rows + 1) event not_asked ∙ h.requests;
+      requests = subst (λ (moment : ℕ). Fits moment u.accepted) now_is r.requests;
       offline = subst (λ (list : List ℕ). NoStranger [] list u.watch u.now) (sym list_is) (subst (NoStranger [] (members_of t) u.watch) (sym r.clock) r.offline);
       lists = λ q j apart. subst (λ (list : List ℕ). In q list) (sym list_is) (h.lists q j apart);
     }
@@ -112,9 +122,15 @@ module _ (laws : CalmLaws) (group : List Party) (nodes : (p : ℕ) → In (OfMem
         now_is : max t.now (moment_of event) ≡ timed.at + clocks (OfMember p)
         now_is = let m = in_time.moments in let c = h.clock in omega (arith, reads, m, c)
 
-        r : Rests (w.rows + 1) t h.quiet.complete h.quiet.discovery (max t.now (moment_of event)) (step t (w.rows + 1) event).step_state
-        r = rests_on (w.rows + 1) t h.quiet.complete h.quiet.discovery event none from_listed
+        later : traffic.at + clocks (OfMember p) ≤ max t.now (moment_of event)
+        later = let m = in_time.moments in omega (arith, m, reads)
+
+        r : Rests (w.rows + 1) t h.quiet.complete h.quiet.discovery (Fits (max t.now (moment_of event))) (max t.now (moment_of event))
+            (step t (w.rows + 1) event).step_state
+        r = rests_on (w.rows + 1) t h.quiet.complete h.quiet.discovery (Fits (max t.now (moment_of event))) event none from_listed
+            (λ arrival is d gives kind message says. let of = from_device arrival is d gives kind in kept.behind of.0 of.1 (max t.now (moment_of event)) message)
             (let m = in_time.moments in let c = h.status in omega (arith, reads, m, c)) h.offline
+            (kept.later (traffic.at + clocks (OfMember p)) (max t.now (moment_of event)) t.accepted later h.requests)
 
         list_is : members_of (step t (w.rows + 1) event).step_state.allocator ≡ members_of t
         list_is = same_list t (step t (w.rows + 1) event).step_state.allocator r.silent.start r.silent.heard
@@ -139,7 +155,7 @@ module _ (laws : CalmLaws) (group : List Party) (nodes : (p : ℕ) → In (OfMem
             quiet = quiet_sent laws p (nodes p i) t w h.quiet (after_row w timed.row) same;
             clock = let m = in_time.moments in let c = h.clock in omega (arith, m, c);
             status = let m = in_time.moments in let c = h.status in omega (arith, m, c);
-            requests = h.requests;
+            requests = kept.later (traffic.at + clocks (OfMember p)) (timed.at + clocks (OfMember p)) t.accepted (let m = in_time.moments in omega (arith, m)) h.requests;
             offline = h.offline;
             lists = h.lists;
           },
@@ -152,7 +168,7 @@ module _ (laws : CalmLaws) (group : List Party) (nodes : (p : ℕ) → In (OfMem
           (step t (w.rows + 1) (receipt_of w k ms)).step_state.allocator,
           stepped p i t h (receipt_of w k ms) (narrow_on_bus w.frames s.well.narrow k) same reads
               (none_comes laws group nodes clocks pace traffic w timed calm (steady traffic w s) p t h.quiet k ms is)
-              (unasked p i (traffic.at + clocks (OfMember p)) t h k ms is) (listed p i (traffic.at + clocks (OfMember p)) t h k ms is),
+              (of_device p i (traffic.at + clocks (OfMember p)) t h k ms is) (listed p i (traffic.at + clocks (OfMember p)) t h k ms is),
         )
 
     -- so it is behind the row

@@ -2,6 +2,7 @@
 use Rattle.std.proofs.Common.{◌≡◌, ◌⊎◌, ℕ, ◌≤◌, Bool, true, false, List, [], ◌∷◌, length, refl, sym, ◌∙◌, ap, subst, arith, inl, inr}
 use Rattle.std.specs.Prelude.{◌&&◌, ◌||◌, nat_lt}
 use Rattle.std.proofs.lemmas.Bool.{le-ltb}
+use Rattle.alloc_exchange.specs.Exchange.{Accepted, last_moment}
 use Rattle.can_frame.specs.declared.step.What.TheVariants.{Disc}
 use Rattle.can_frame.specs.Identifier.{identifier_number}
 use Rattle.cluster_discovery.specs.Members.{counts, is_on_list, owes}
@@ -16,7 +17,8 @@ use Rattle.alloc_spec_laws.proofs.Choices.{eq_true}
 use Rattle.alloc_spec_laws.proofs.Peers.{covers, members_list}
 use Rattle.cluster_recovery.proofs.Choosing.{left_false}
 use Rattle.cluster_calm.proofs.Pair.{same_server}
-use Rattle.calm_service.specs.Tidy.{OpenedMembersAreReady, TidyMembersComeToLead, TidyMembersLead}
+use Rattle.calm_service.specs.Tidy.{FitMembersLead, OpenedMembersAreReady, TidyMembersComeToLead, TidyMembersLead}
+use Rattle.calm_service.proofs.TidyLaw.{tidy_is_fit}
 use Rattle.cluster_spec.specs.Cluster.{AreMembers, rules_of}
 
 -- ---- openings
@@ -81,8 +83,8 @@ module _ (same_count : (list members : List ℕ) (test : ℕ → Bool) → IsAll
 
 -- ---- who leads
 
-pub tidy_lead : TidyMembersLead
-tidy_lead n now log w h leads log_is no_blank = record {
+pub fit_lead : FitMembersLead
+fit_lead n now log accepted w h leads log_is no_blank requests = record {
   server = h.server;
   runs = h.runs;
   faults = h.faults;
@@ -90,13 +92,17 @@ tidy_lead n now log w h leads log_is no_blank = record {
   leads = leads;
   log_is = log_is;
   no_blank = no_blank;
-  requests = h.requests;
+  requests = requests;
   clock = h.clock;
   status = h.status;
-  last_request = omega arith;
+  last_request = subst (λ (l : List Accepted). last_moment l ≤ now) requests h.last_request;
   known = λ other e. h.listed other (left_false (is_on_list (members_of h.server) other) (is_recorded h.server.raft_server.store.log other) e);
   discovery = h.discovery;
 }
+
+pub tidy_lead : TidyMembersLead
+unfolding tidy_is_fit
+tidy_lead n now log w h leads log_is no_blank = fit_lead n now log [] w (tidy_is_fit n now w h) leads log_is no_blank h.requests
 
 pub tidy_come_to_lead : TidyMembersComeToLead
 tidy_come_to_lead ids n now log w h leads log_is told waits = record {
@@ -108,7 +114,7 @@ tidy_come_to_lead ids n now log w h leads log_is told waits = record {
   log_is = log_is;
   told = told;
   waits = waits;
-  requests = h.requests;
+  requests = let e = ap (λ (l : List Accepted). last_moment l) h.requests in omega (arith, e);
   clock = h.clock;
   status = h.status;
   known = λ other e. h.listed other (left_false (is_on_list (members_of h.server) other) (is_recorded h.server.raft_server.store.log other) e);

@@ -19,20 +19,17 @@ use Rattle.allocatee.specs.Given.{IsAnonymous}
 use Rattle.alloc_spec.specs.Accepted.{rows, setting_for}
 use Rattle.alloc_spec.specs.AllocatorState.{AllocatorState, knows_all, start_of}
 use Rattle.alloc_spec.specs.Step.{Event, after_pop, step}
-use Rattle.alloc_spec.specs.Transfers.{Offer, ident_of, kind_of, number_of}
+use Rattle.alloc_spec.specs.Transfers.{ident_of, kind_of}
 use Rattle.alloc_spec_laws.specs.Sound.{IsDestination, IsOnTheBus}
-use Rattle.alloc_spec_laws.specs.Waiting.{all_frames_put}
 use Rattle.cluster_agreement.specs.LawsBelow.{FrameLaws}
 use Rattle.cluster_agreement.proofs.Idents.{IsWanted, ident_ok, one_what}
-use Rattle.cluster_agreement.proofs.Lists.{in_append}
-use Rattle.cluster_agreement.proofs.MadeTransfers.{frame_put}
 use Rattle.cluster_agreement.proofs.RowsWithoutEvents.{left_in_queue, out_of_queue}
 use Rattle.cluster_recovery.specs.Calm.{Pace}
 use Rattle.cluster_recovery.proofs.Members.{IsUp, steps_up}
 use Rattle.cluster_calm.specs.Calm.{Device as OfDevice, IsCalmRow, Member as OfMember, Party, Traffic}
-use Rattle.cluster_calm.proofs.Frames.{has_its_id}
 use Rattle.cluster_calm.proofs.Group.{CalmLaws, IsOf, IsServer, server_sent, server_stepped, up_sent}
 use Rattle.cluster_calm.proofs.Others.{some_ident}
+use Rattle.calm_service.proofs.FramesPut.{waited_or_offered}
 use Rattle.calm_service.proofs.SettledAsked.{a_discovery, is_wanted}
 use Rattle.calm_service.proofs.TidyServers.{IsSilent, NoneComes, stays_silent, still_complete, still_owing}
 use Rattle.cluster_spec.specs.Cluster.{Cluster, after_row, arrival_at, receipt_of, tick_of}
@@ -131,29 +128,16 @@ module _ (laws : CalmLaws) (p : ℕ) (node : (1 ≤ p) × (p ≤ 125)) where
     quiet_stepped number v event bus same none_comes = record {
       up = subst (IsUp (step t number event).step_state.allocator) (sym same) (steps_up number event t (w.member p) q.up);
       its = server_stepped laws p t number event bus q.its;
-      none = λ f i. elim (in_append f t.queue (all_frames_put number t.me offers) (subst (λ (l : List Queued). In f l) (laws.in_step.queue t number event) i)) [
-        | inl before ↦ q.none f before
-        | inr new ↦
-            let put = frame_put number t.me offers f new in
-            λ e. silent.free put.0 put.1 (its_what put.0 put.1 (sym (has_its_id (record { step = number; by = t.me; offer = put.0 }) f put.3
-            ∙ ap (λ (k : ℕ). identifier_number (ident_of k put.0.what put.0.to)) q.its.me) ∙ e))
+      none = λ f i e. elim (waited_or_offered laws p node t number event bus q.its Disc refl f i e) [
+        | inl before ↦ q.none f before e
+        | inr new ↦ silent.free new.offer new.offered new.its_what
       ];
       complete = still_complete t (step t number event).step_state.allocator silent.start silent.heard q.complete;
       discovery = still_owing t (step t number event).step_state.allocator silent.start silent.heard q.discovery;
     }
       where
-        offers : List Offer
-        offers = (step t number event).step_state.offers
-
         silent : IsSilent number t q.complete q.discovery (step t number event).step_state
         silent = stays_silent number t q.complete q.discovery event none_comes
-
-        its_what : (o : Offer) → In o (step t number event).step_state.offers → identifier_number (ident_of p o.what o.to) ≡ number_from p → o.what ≡ Disc
-        its_what o i e =
-            let same_ident : ident_of p o.what o.to ≡ ident_of p Disc 0 = some_ident (ident_of p o.what o.to) (ident_of p Disc 0)
-            (sym (laws.frame.ident_read (ident_of p o.what o.to) (ident_ok p o.what o.to node.0 node.1 (laws.more.ranges t number event q.its.sound bus o i).to))
-            ∙ (ap identifier_of e ∙ laws.frame.ident_read (ident_of p Disc 0) (ident_ok p Disc 0 node.0 node.1 refl))) in
-            one_what o.what Disc (kind_of Disc) (number_of Disc) (ap (λ (x : Ident). x.kind) same_ident) refl (ap (λ (x : Ident). x.number) same_ident) refl
 
 -- ---- what a calm row is to a member
 

@@ -1,4 +1,4 @@
--- What all changes of a step keep in which no Discovery is due or comes, the whole step keeps.
+-- What all changes of a step keep, the whole step keeps.
 use Rattle.std.proofs.Common.{◌≡◌, ◌≢◌, ℕ, Bool, true, false, List, [], ◌∷◌, drop, max, refl, sym, ◌∙◌, Option, None, Some}
 use Rattle.std.specs.Prelude.{◌-◌, ◌&&◌, not, nat_eq, nat_le, nat_lt, slice_index_or}
 use Rattle.alloc_exchange.specs.declared.heard.Heard.{Heard}
@@ -55,9 +55,9 @@ use Rattle.alloc_spec.specs.Transfers.{has_room, id_of}
 use Rattle.alloc_spec_laws.proofs.Choices.{either}
 use Rattle.calm_service.proofs.AllocationsOffered.{comes_to}
 
--- Each change of a step keeps it, but for the hearing of messages: and where it holds, no Discovery is due.
+-- Each change of a step keeps it, but for the hearing of messages and of requests of devices.
 pub record IsPassed (number : ℕ) (Keeps : StepState → Type 0) : Type 0 where
-  pub quiet : (g : StepState) → Keeps g → is_due (start_of g.allocator) g.allocator.heard g.allocator.now ≡ false
+  pub discovers : (g : StepState) → Keeps g → Keeps (discovery_phase number g)
   pub moves : (given : HandedIn) (moves : List Move) (g : StepState) → Keeps g → Keeps (with_moves number given moves g)
   pub sends : (what : What) (to : ℕ) (payload : List ℕ) (says : Option Message) (g : StepState) → what ≢ Disc → Keeps g
       → Keeps (with_transfer number what to payload says g)
@@ -66,13 +66,17 @@ pub record IsPassed (number : ℕ) (Keeps : StepState → Type 0) : Type 0 where
   pub states : (g : StepState) → Keeps g → Keeps (with_status g)
   pub queries : (node id : ℕ) (g : StepState) → Keeps g → Keeps (with_query node id g)
   pub sessions : (sessions : List Session) (g : StepState) → Keeps g → Keeps (at_sessions sessions g)
-  pub requests : (message : Allocation) (g : StepState) → Keeps g → Keeps (with_request message g)
   pub infos : (d : Delivery) (info : NodeInfo) (g : StepState) → Keeps g → Keeps (hears_info d info g)
 
--- of the messages, what is delivered is no Discovery, and where it is a NodeStatus its hearing keeps it
+-- where what is delivered is a request of a device, a NodeStatus or a Discovery, its hearing keeps it
 pub record IsHarmless (Keeps : StepState → Type 0) (d : Delivery) : Type 0 where
+  pub request : d.ident.kind ≡ Anonymous → (message : Allocation) → allocation_of d.payload ≡ Some message → (g : StepState) → Keeps g → Keeps (with_request message g)
   pub status : d.ident.kind ≡ Broadcast → (g : StepState) → Keeps g → Keeps (hears_status d g)
-  pub none : d.ident.kind ≡ Broadcast → nat_eq d.ident.number 341 ≡ false → (message : Discovery) → discovery_of d.payload ≡ Some message → ⊥
+  pub discovery : d.ident.kind ≡ Broadcast → nat_eq d.ident.number 341 ≡ false → (message : Discovery) → discovery_of d.payload ≡ Some message → (g : StepState) → Keeps g → Keeps (hears_discovery d message g)
+
+-- so it is with a Discovery, where none is due
+pub none_sent : (number : ℕ) (Keeps : StepState → Type 0) (g : StepState) → is_due (start_of g.allocator) g.allocator.heard g.allocator.now ≡ false → Keeps g → Keeps (discovery_phase number g)
+none_sent number Keeps g none h = either Keeps (is_due (start_of g.allocator) g.allocator.heard g.allocator.now) (tells_members number g) g (λ e. absurd (cc (sym e ∙ none))) (λ e. h)
 
 module _ (number : ℕ) (Keeps : StepState → Type 0) (k : IsPassed number Keeps) where
   abbrev KeepsResult : StepResult → Type 0
@@ -130,10 +134,6 @@ module _ (number : ℕ) (Keeps : StepState → Type 0) (k : IsPassed number Keep
 
   -- ---- a tick
 
-  discovers : (g : StepState) → Keeps g → Keeps (discovery_phase number g)
-  discovers g h = either Keeps (is_due (start_of g.allocator) g.allocator.heard g.allocator.now) (tells_members number g) g
-      (λ e. absurd (cc (sym e ∙ k.quiet g h))) (λ e. h)
-
   states : (g : StepState) → Keeps g → Keeps (status_phase number g)
   states g h = either Keeps (nat_le status_interval (g.allocator.now - g.allocator.status_at)) (tells_status number g) g
       (λ e. k.states (with_transfer number Stat 0 (node_status_bytes (status_of g.allocator)) None g)
@@ -161,7 +161,7 @@ module _ (number : ℕ) (Keeps : StepState → Type 0) (k : IsPassed number Keep
       let elected : StepState = election_phase number word stated in
       let noted : StepState = record_phase number elected in
       let a : Keeps elected = k.moves (given_tick stated.allocator.now word) (election_moves number stated.allocator) stated
-      (states (discovery_phase number g) (discovers g h)) in
+      (states (discovery_phase number g) (k.discovers g h)) in
       let b : Keeps noted = either Keeps (may_propose elected.allocator) (records_node number (candidate elected.allocator) elected) elected
       (λ e. notes (candidate elected.allocator) elected a) (λ e. a) in
       either Keeps (is_leader noted.allocator.raft_server.memory.role) (asks number (next_query noted.allocator.watch (known noted.allocator) noted.allocator.now) noted) noted
@@ -196,9 +196,8 @@ module _ (number : ℕ) (Keeps : StepState → Type 0) (k : IsPassed number Keep
   answers_it (Ignored why) g h = h
   answers_it Denied g h = h
 
-  hears_request : (message : Allocation) (g : StepState) → Keeps g → Keeps (hears_allocation number message g)
-  hears_request message g h = answers_it (answer g.allocator.accepted message g.allocator.now (may_follow g.allocator)) (with_request message g)
-      (k.requests message g h)
+  hears_request : (message : Allocation) (g : StepState) → Keeps (with_request message g) → Keeps (hears_allocation number message g)
+  hears_request message g h = answers_it (answer g.allocator.accepted message g.allocator.now (may_follow g.allocator)) (with_request message g) h
 
   -- ---- what else is delivered
 
@@ -220,7 +219,7 @@ module _ (number : ℕ) (Keeps : StepState → Type 0) (k : IsPassed number Keep
     message_comes kind = either KeepsResult (nat_eq d.ident.number 341) (reads (λ status. hears_status d) (node_status_of d.payload) g)
         (reads (hears_discovery d) (discovery_of d.payload) g)
         (λ e. read (λ status. hears_status d) (node_status_of d.payload) (λ status f. harmless.status kind g h))
-        (λ e. read (hears_discovery d) (discovery_of d.payload) (λ message f. absurd (harmless.none kind e message f)))
+        (λ e. read (hears_discovery d) (discovery_of d.payload) (λ message f. harmless.discovery kind e message f g h))
 
     vote_comes : (asked : Request) → Keeps (answers_vote number d asked g)
     vote_comes asked =
@@ -266,7 +265,7 @@ module _ (number : ℕ) (Keeps : StepState → Type 0) (k : IsPassed number Keep
         (λ e. call_answered (vote_answered d says) (g.allocator.raft_server.memory.pending d.ident.source)) (λ e. h)) (λ e. h))))
 
     kind_comes : (kind : Kind) → d.ident.kind ≡ kind → KeepsResult (by_kind number d kind g)
-    kind_comes Anonymous e = read (hears_allocation number) (allocation_of d.payload) (λ message f. hears_request message g h)
+    kind_comes Anonymous e = read (hears_allocation number) (allocation_of d.payload) (λ message f. hears_request message g (harmless.request e message f g h))
     kind_comes Broadcast e = message_comes e
     kind_comes RequestKind e = request_comes
     kind_comes Response e = response_comes

@@ -1,4 +1,5 @@
 pub mod Settled
+pub mod Asking
 pub mod Dialog
 pub mod Served
 pub mod Recorded
@@ -6,3 +7,6 @@ pub mod ServedTold
 pub mod ServedExample
 pub mod Settles
 pub mod Tidy
+pub mod AskingServed
+pub mod AskingKnown
+pub mod Requests

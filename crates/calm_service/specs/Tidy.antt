@@ -1,10 +1,11 @@
--- What it is that members which were just opened stay fit to serve in a calm without devices, whoever leads; and that
--- no Discovery misses anybody in a calm in which none is due.
+-- What it is that members which were just opened stay fit to serve in a calm, with devices or without, whoever leads;
+-- and that no Discovery misses anybody in a calm in which none is due.
 use Rattle.std.specs.Prelude.{◌≡◌, ◌≢◌, ◌⊎◌, ℕ, ◌+◌, ◌<◌, ◌≤◌, false, true, List, [], ◌++◌, length}
+use Rattle.alloc_exchange.specs.Exchange.{Accepted, last_moment}
 use Rattle.can_frame.specs.declared.entry.Entry.{Entry}
 use Rattle.can_frame.specs.declared.step.What.TheVariants.{Disc}
 use Rattle.can_frame.specs.Identifier.{identifier_number}
-use Rattle.can_frame.specs.Log.{last_term}
+use Rattle.can_frame.specs.Log.{last_term, log_limit}
 use Rattle.cluster_discovery.specs.Members.{is_on_list, owes}
 use Rattle.disk_model.specs.Memory.{nothing_set}
 use Rattle.node_discovery.specs.History.{is_online}
@@ -24,6 +25,7 @@ use Rattle.calm_service.specs.Recorded.{LeadsWith}
 use Rattle.calm_service.specs.Settled.{NobodyIsMissed}
 use Rattle.calm_service.specs.Settles.{HasComeToLead, WaitsWithBlank}
 use Rattle.cluster_spec.specs.Cluster.{Cluster, after_rows, rules_of, world_of}
+use Rattle.cluster_spec.specs.Lawful.{DoNoHarm}
 use Rattle.cluster_spec.specs.Members.MemberStatus.{Up}
 
 -- ---- Discoveries
@@ -88,7 +90,42 @@ MembersStayTidy ids rows = (group : List Party) (clocks : Party → ℕ) (pace :
     NoDiscoveryWaits group w → In (Member m) group →
     IsTidy m (end_of start front + clocks (Member m)) (after_rows w (rows_in front))
 
--- In such a calm no Discovery misses anybody. That the group has no device is not asked for it, nor who lists whom.
+-- ---- members that stay fit beside devices
+
+-- Member n is fit as a tidy one is, but it may have accepted requests of devices: the last one not after this moment of
+-- its clock.
+pub record IsFit (n now : ℕ) (w : Cluster) : Type 0 where
+  pub server : AllocatorState
+  pub runs : (w.member n).status ≡ Up server
+  pub faults : ℕ
+  pub disk : (w.member n).disk.calls ≡ nothing_set faults
+  pub clock : server.now ≤ now
+  pub status : server.status_at ≤ now
+  pub last_request : last_moment server.accepted ≤ now
+  pub listed : (other : ℕ) → is_on_list (members_of server) other ≡ false →
+      is_online (history other server.watch) server.now ≡ false
+  pub discovery : owes (start_of server) server.heard ≡ false
+  pub complete : knows_all server ≡ true
+
+-- a tidy member is fit
+abbrev pub TidyMembersAreFit : Type 0
+TidyMembersAreFit = (n now : ℕ) (w : Cluster) → IsTidy n now w → IsFit n now w
+
+-- In each calm from the world of these rows on, with devices or without: where each member of the group is fit when the
+-- calm begins, and lists each other one, and no frame of a Discovery waits, each stays fit behind each front of the
+-- rows, whatever the devices of the group ask, whoever leads, and whatever is recorded.
+abbrev pub MembersStayFit : List ℕ → List Row → Type 0
+MembersStayFit ids rows = (group : List Party) (clocks : Party → ℕ) (pace : Pace) (start m : ℕ)
+    (front rest : List Timed) → let w = world_of ids rows in
+    ((p : ℕ) → In (Member p) group → In p ids) →
+    AreCalm group clocks pace (no_traffic start) w (front ++ rest) →
+    ((p : ℕ) → In (Member p) group → IsFit p (start + clocks (Member p)) w) →
+    ((p q : ℕ) → In (Member p) group → In (Member q) group → p ≢ q → Lists p q w) →
+    NoDiscoveryWaits group w → In (Member m) group →
+    IsFit m (end_of start front + clocks (Member m)) (after_rows w (rows_in front))
+
+-- In a calm in which each member is tidy when it begins no Discovery misses anybody. That the group has no device is
+-- not asked for it, nor who lists whom.
 abbrev pub TidyMembersMissNobody : List ℕ → List Row → Type 0
 TidyMembersMissNobody ids rows = (group : List Party) (clocks : Party → ℕ) (pace : Pace) (start m : ℕ)
     (front rest : List Timed) → let w = world_of ids rows in
@@ -119,12 +156,30 @@ TidyMembersLead = (n now : ℕ) (log : List Entry) (w : Cluster) (h : IsTidy n n
     (h.server.raft_server.store.commit ≡ length log) ⊎ (last_term log ≡ h.server.raft_server.store.term) →
     LeadsWith n log [] now w
 
--- A tidy member that leads, has told all that it has committed, and waits with its blank where that is not all, has
--- come to lead as `HasComeToLead` says it.
+-- A tidy member that leads, has told no more than it has committed, and waits with its blank where that is not all, or
+-- has added it, has come to lead as `HasComeToLead` says it.
 abbrev pub TidyMembersComeToLead : Type 0
 TidyMembersComeToLead = (ids : List ℕ) (n now : ℕ) (log : List Entry) (w : Cluster) (h : IsTidy n now w) →
     h.server.raft_server.memory.role ≡ Leader → h.server.raft_server.store.log ≡ log →
-    h.server.raft_server.memory.told ≡ h.server.raft_server.store.commit →
+    h.server.raft_server.memory.told ≤ h.server.raft_server.store.commit →
     (h.server.raft_server.store.commit < length log →
     WaitsWithBlank ids n log h.server ⊎ (last_term log ≡ h.server.raft_server.store.term)) →
     HasComeToLead ids n log now w
+
+-- More rows do no harm behind these ones. Whoever leads in the world behind them, and is fit, has come to lead as
+-- `HasComeToLead` says it, however long it has led. Its log has room, where something of it is not committed.
+abbrev pub WhoLeadsHasComeToLead : List ℕ → List Row → Type 0
+WhoLeadsHasComeToLead ids rows = (more : List Row) (n now : ℕ) → DoNoHarm (world_of ids rows) more →
+    let w = after_rows (world_of ids rows) more in In n ids → (h : IsFit n now w) →
+    h.server.raft_server.memory.role ≡ Leader →
+    (h.server.raft_server.store.commit < length h.server.raft_server.store.log →
+    length h.server.raft_server.store.log < log_limit) →
+    HasComeToLead ids n h.server.raft_server.store.log now w
+
+-- A member that is fit and leads, and adds no blank, leads so with the requests that it has accepted.
+abbrev pub FitMembersLead : Type 0
+FitMembersLead = (n now : ℕ) (log : List Entry) (accepted : List Accepted) (w : Cluster) (h : IsFit n now w) →
+    h.server.raft_server.memory.role ≡ Leader → h.server.raft_server.store.log ≡ log →
+    (h.server.raft_server.store.commit ≡ length log) ⊎ (last_term log ≡ h.server.raft_server.store.term) →
+    h.server.accepted ≡ accepted →
+    LeadsWith n log accepted now w

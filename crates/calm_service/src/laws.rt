@@ -1,31 +1,42 @@
 //! The laws of this crate, each the contract of a function that does nothing.
 
+ghost use Rattle.calm_service.specs.Asking.{AskingDevicesAreHeardOut};
+ghost use Rattle.calm_service.specs.AskingKnown.{HeardKnownDevicesAreTold, RecordedDevicesAreServed};
+ghost use Rattle.calm_service.specs.AskingKnown.{WhoFollowsFallsSilent};
+ghost use Rattle.calm_service.specs.AskingServed.{HeardDevicesAreServed};
 ghost use Rattle.calm_service.specs.Dialog.{DevicesAreHeardOut, KnownDevicesAreTold};
-ghost use Rattle.calm_service.specs.Recorded.{EachRowKeepsTheLog, LeaderSettles, LogStaysUnasked, LogStaysUncommitted};
-ghost use Rattle.calm_service.specs.Recorded.{SettledLeads};
-ghost use Rattle.calm_service.specs.Served.{LeadersLoseNothing, NewDevicesAreRecorded, NewDevicesAreServed};
-ghost use Rattle.calm_service.specs.Served.{NewPairsAreCommitted, NewPairsAreOffered, IsServedBy, time_to_be_committed};
-ghost use Rattle.calm_service.specs.Served.{time_to_be_served};
+ghost use Rattle.calm_service.specs.Recorded.{EachRowKeepsTheLog, LeaderSettles, LogStaysUnasked};
+ghost use Rattle.calm_service.specs.Recorded.{LogStaysUncommitted, SettledLeads};
+ghost use Rattle.calm_service.specs.Requests.{AllocationsHaveParts, DevicesGoOnTelling, DevicesThatComeTell};
+ghost use Rattle.calm_service.specs.Requests.{PartsAreJoined, RequestsAreTheDevices, WholeIsTheDevices};
+ghost use Rattle.calm_service.specs.Served.{IsServedBy, LeadersLoseNothing, NewDevicesAreRecorded};
+ghost use Rattle.calm_service.specs.Served.{NewDevicesAreServed, NewPairsAreCommitted, NewPairsAreOffered};
+ghost use Rattle.calm_service.specs.Served.{time_to_be_committed, time_to_be_served};
 ghost use Rattle.calm_service.specs.ServedExample.{DevicesMayBeServed, before_world, first_log, served_pace};
 ghost use Rattle.calm_service.specs.ServedExample.{served_rows, served_start};
-ghost use Rattle.calm_service.specs.ServedTold.{NewPairsAreTold, HasSettledWithPairBy};
+ghost use Rattle.calm_service.specs.ServedTold.{HasSettledWithPairBy, NewPairsAreTold};
 ghost use Rattle.calm_service.specs.Settled.{AllRowsLeaveItSettled, EachRowLeavesItSettled};
-ghost use Rattle.calm_service.specs.Settles.{LeadersSettle, LeadersSettleUnasked};
-ghost use Rattle.calm_service.specs.Tidy.{DiscoveriesMissNobody, MembersStayTidy, OpenedMembersAreReady};
-ghost use Rattle.calm_service.specs.Tidy.{TidyMembersComeToLead, TidyMembersLead, TidyMembersMissNobody};
+ghost use Rattle.calm_service.specs.Settles.{LeadersAddTheirBlanks, LeadersSettle, LeadersSettleUnasked};
+ghost use Rattle.calm_service.specs.Tidy.{DiscoveriesMissNobody, FitMembersLead, MembersStayFit, MembersStayTidy};
+ghost use Rattle.calm_service.specs.Tidy.{OpenedMembersAreReady, TidyMembersAreFit, TidyMembersComeToLead};
+ghost use Rattle.calm_service.specs.Tidy.{TidyMembersLead, TidyMembersMissNobody, WhoLeadsHasComeToLead};
 ghost use Rattle.cluster_calm.specs.Calm.{Member};
 ghost use Rattle.cluster_calm.specs.CalmExample.{clocks, sender, some_uid, two};
 ghost use Rattle.cluster_spec.specs.Cluster.{AreMembers, cluster};
 ghost use Rattle.cluster_spec.specs.Lawful.{DoNoHarm};
 ghost use Rattle.replay_text.specs.declared.row.Row.{Row};
-ghost use Rattle.std.specs.Prelude.{ℕ, List, ◌+◌};
+ghost use Rattle.std.specs.Prelude.{List, ℕ, ◌+◌};
 
 use alloc_spec_laws::laws::{
     duty_of_a_step, members_of_a_step, steps_stay_in_range, transfers_of_a_step_are_apart,
 };
-use allocatee::laws::{a_node_id_is_given_for_good, its_frames_are_anonymous, sessions_of_a_step};
+use allocatee::laws::{
+    a_node_id_is_given_for_good, its_frames_are_anonymous, sessions_of_a_step,
+    what_is_fine_is_not_torn,
+};
 use calm_leader::laws::{
-    entries_are_committed_in_time, entries_come_in_time, what_entries_stand_on,
+    calls_return_to_who_leads_on, entries_are_committed_in_time, entries_come_in_time,
+    what_entries_stand_on,
 };
 use can_frame::laws::{frames_carry_what_is_cut, lengths_of_cuttings};
 use cluster_agreement::allocatees::the_allocatees;
@@ -205,7 +216,9 @@ pub fn new_pairs_are_committed_in_calm()
         NewPairsAreCommitted ids rows }
 {
     a_choice_fits();
+    calls_return_to_who_leads_on();
     entries_are_committed_in_time();
+    law_decisions();
     law_every_run();
     leaders_lose_nothing_in_calm();
     new_devices_are_recorded_in_calm();
@@ -222,8 +235,10 @@ pub fn new_pairs_are_offered_in_calm()
         NewPairsAreOffered ids rows }
 {
     a_choice_fits();
+    calls_return_to_who_leads_on();
     duty_of_a_step();
     entries_are_committed_in_time();
+    law_decisions();
     law_every_run();
     leaders_lose_nothing_in_calm();
     new_devices_are_recorded_in_calm();
@@ -272,15 +287,20 @@ pub fn new_devices_are_served_in_calm()
     the_headline();
 }
 
-/// Members stay tidy in a calm without devices, whoever leads. A member is tidy where nothing keeps it from serving
-/// once it leads: it runs over a disk of which no call is set to fail, its clock has not fallen, it has accepted no
-/// request, it lists each node that is online, it knows all members, and it owes no Discovery. So each member is
-/// behind each front of the calm, at the moment of its own clock, where each is when the calm begins, and lists each
-/// other one, and no frame of a Discovery waits. It would not be enough that its log has a node that is online and not
-/// listed: the log of a member that follows may lose what it had.
+/// Members stay fit in a calm, whoever leads. A member is tidy where nothing keeps it from serving once it leads: it
+/// runs over a disk of which no call is set to fail, its clock has not fallen, it has accepted no request, it lists
+/// each node that is online, it knows all members, and it owes no Discovery. So each member is behind each front of a
+/// calm without devices, at the moment of its own clock, where each is when the calm begins, and lists each other one,
+/// and no frame of a Discovery waits (`tidy`). Beside devices it may have accepted requests, the last one not after the
+/// moment; all else stays so, whatever devices ask, and whatever is recorded (`fit`). A tidy member is fit (`are`). It
+/// would not be enough that its log has a node that is online and not listed: the log of a member that follows may lose
+/// what it had.
 pub fn members_stay_tidy()
-    ensures { (ids : List ℕ) (rows : List Row) → AreMembers ids → DoNoHarm (cluster ids) rows →
+    ensures tidy { (ids : List ℕ) (rows : List Row) → AreMembers ids → DoNoHarm (cluster ids) rows →
         MembersStayTidy ids rows }
+    ensures fit { (ids : List ℕ) (rows : List Row) → AreMembers ids → DoNoHarm (cluster ids) rows →
+        MembersStayFit ids rows }
+    ensures are { TidyMembersAreFit }
 {
     a_choice_fits();
     delivers_what_comes_whole();
@@ -297,11 +317,13 @@ pub fn members_stay_tidy()
 
 /// A member that was told the members at its opening is tidy until its first step, lists each of them, and has no
 /// Discovery waiting (`opened`). A tidy member that leads has what is asked of a leader so that it settles, beside its
-/// log: where it adds no blank (`leads`), and where it has just come to lead (`comes`).
+/// log: where it adds no blank (`leads`), and where it may wait with it (`comes`). One that is fit has it where it adds
+/// no blank, with the requests that it has accepted (`fit`).
 pub fn opened_members_are_tidy()
     ensures opened { (ids : List ℕ) → AreMembers ids → OpenedMembersAreReady ids }
     ensures leads { TidyMembersLead }
     ensures comes { TidyMembersComeToLead }
+    ensures fit { FitMembersLead }
 {
     law_members();
     members_of_a_step();
@@ -329,17 +351,17 @@ pub fn discoveries_miss_nobody()
     what_is_said_of_frames();
 }
 
-/// A leader that has just come to lead settles in time. In a calm in which it leads on from a moment on, it has told
-/// all that it has committed then, has accepted no request of a device, knows each node that is online, and owes no
-/// Discovery. Where something of its log is not committed, it was told its list of members, so it waits with its blank
-/// until it knows a quorum to have its log, which is not so yet; the last entry is of an earlier term, and there is
-/// room for a blank. Or the last entry is of its own term, as the blank is that it has added. It has room in each of
-/// its steps for its calls and for the frames of the next pair. Others, which with it are a quorum, can exchange calls
-/// and answers with it; so many calls at most are left to each of them until it is known to have the whole log. Then
-/// the leader has settled within this time, with its log or with a blank of its term behind it; or, once all is
-/// committed, and before all is told, requests of a device make the log grow (`settle`); or the calm is over by then.
-/// Where nobody asks, it settles (`unasked`). The time is, in milliseconds, that in which so many calls are answered,
-/// that of a call more, and a period for each place that was not committed, and one more.
+/// A leader settles in time, whether it has just come to lead or leads already. In a calm in which it leads on from a
+/// moment on, it knows each node that is online then, and owes no Discovery; it may have accepted requests of devices.
+/// Where something of its log is not committed, it was told its list of members, so it waits with its blank until it
+/// knows a quorum to have its log, which is not so yet; the last entry is of an earlier term, and there is room for a
+/// blank. Or the last entry is of its own term, as the blank is that it has added. It has room in each of its steps for
+/// its calls and for the frames of the next pair. It keeps calling others, which with it are a quorum, and its calls
+/// come back; so many calls at most are left to each of them until it is known to have the whole log. Whether it led
+/// before is not asked. Then the leader has settled within this time, with its log or with a blank of its term behind
+/// it; or by then a request of a device makes the log grow (`settle`); or the calm is over by then. Where nobody asks,
+/// it settles (`unasked`). The time is, in milliseconds, that in which so many calls are answered, that of a call more,
+/// and a period for each place that was not told, and one more.
 pub fn leaders_settle_in_calm()
     ensures settle { (ids : List ℕ) (rows : List Row) → AreMembers ids → DoNoHarm (cluster ids) rows →
         LeadersSettle ids rows }
@@ -383,4 +405,191 @@ pub fn devices_may_be_served()
     calm_can_be();
     new_devices_are_served_in_calm();
     new_pairs_are_told_in_calm();
+}
+
+/// A device that asks already is heard out too, from the middle of a calm on. Whatever it has asked and was told by
+/// then, and whoever led from the beginning of the calm on: once a member leads that has committed and told its whole
+/// log, and the other members have nothing to tell, it hears the whole unique ID within 3,100 ms, six periods and 22
+/// delays, or the calm is over by then. But it may be that the device holds a node ID by then, since it was told
+/// meanwhile; or that a request makes some unique ID whole by which the leader's log grows: what the leader accepted of
+/// another device lately, the device's request may complete. Its clock must not have fallen. When the calm begins no
+/// frame of an Allocation waits in the leader's queue, and its next one may begin at the device; each that it sends has
+/// three frames at most, and in all rows the device has memory for what comes, and the leader's queue has room.
+pub fn asking_devices_are_heard_out_in_calm()
+    ensures { (ids : List ℕ) (rows : List Row) → AreMembers ids → DoNoHarm (cluster ids) rows →
+        AskingDevicesAreHeardOut ids rows }
+{
+    a_choice_fits();
+    a_leader_follows_up();
+    allocations_both_ways();
+    delivers_what_comes_whole();
+    frames_carry_what_is_cut();
+    its_frames_are_anonymous();
+    law_decisions();
+    lengths_of_cuttings();
+    requests_are_delivered();
+    requests_of_devices_are_requests();
+    rows_are_shown();
+    rows_grow_by_one();
+    sessions_of_a_step();
+    steps_stay_in_range();
+    transfers_of_a_step_are_apart();
+    what_a_step_keeps();
+    what_is_said_of_a_step();
+    what_is_said_of_frames();
+    who_has_settled_stays_settled();
+}
+
+/// Whoever leads has added its blank as soon as it might (`blank`). So in each world that lawful rows reach, a member
+/// that leads, and whose log has room where something of it is not committed, has committed all of its log; or the last
+/// entry is of its own term; or it waits with its blank, and no quorum is known to have its log. It has told no more
+/// than it has committed. So where it is fit, it has come to lead as [`leaders_settle_in_calm`] asks it (`comes`),
+/// however long it has led: behind such rows, and behind more rows that do no harm, as those of a calm.
+pub fn who_leads_has_come_to_lead()
+    ensures blank { (ids : List ℕ) (rows : List Row) → AreMembers ids → DoNoHarm (cluster ids) rows →
+        LeadersAddTheirBlanks ids rows }
+    ensures comes { (ids : List ℕ) (rows : List Row) → AreMembers ids → DoNoHarm (cluster ids) rows →
+        WhoLeadsHasComeToLead ids rows }
+{
+    a_choice_fits();
+    law_decisions();
+    law_every_run();
+    law_fit();
+    members_of_a_step();
+    rows_are_shown();
+    rows_grow_by_one();
+    what_a_step_keeps();
+    what_is_said_of_a_step();
+}
+
+/// Who is heard out is served in time, from the middle of a calm on, in which a member leads from some moment on.
+/// Before the row in which it hears the whole unique ID it has settled; it knows all members, its log lacks the unique
+/// ID and has room, and a node ID is left. Its calls find room in its queue, and so does each pair that it tells.
+/// Followers, which with it are a quorum, can exchange calls and answers with it, and it goes on calling them; how much
+/// of its log they have is not asked. The device hears its Allocations: the first one of the calm may begin there, it
+/// has memory for what comes, and each has three frames at most. Then the device holds a node ID that was left, within
+/// the time in which two calls are answered for each place of the log, the pair's included, and two delays more, or the
+/// calm is over by then. Where the device asks again meanwhile, it takes the Allocation all the same.
+pub fn heard_devices_are_served_in_calm()
+    ensures { (ids : List ℕ) (rows : List Row) → AreMembers ids → DoNoHarm (cluster ids) rows →
+        HeardDevicesAreServed ids rows }
+{
+    a_choice_fits();
+    a_leader_records_the_pair();
+    a_node_id_is_given_for_good();
+    allocations_both_ways();
+    allocations_come_in_calm();
+    chosen_is_the_choice();
+    duty_of_a_step();
+    entries_are_committed_in_time();
+    law_decisions();
+    law_every_run();
+    rows_are_shown();
+    rows_grow_by_one();
+    the_allocatees();
+    the_headline();
+    what_entries_stand_on();
+    who_is_listed_stays();
+}
+
+/// The requests that members accept in a calm tell the unique ID of its only device, part by part. Where those that
+/// were accepted tell a beginning of it, and a request tells a part, so do those that are accepted behind it, and what
+/// it makes whole is the unique ID (`joined`). In a calm that does no harm, whose only device tells parts when it
+/// begins, as one does that has just come (`comes`): where the requests that each member has accepted tell a beginning
+/// then, they do behind each front (`accepted`), and what a request that comes to any member makes whole is the
+/// device's unique ID (`whole`), whoever leads. The device goes on to tell parts (`tells`): each of its follow-ups
+/// follows 6 or 12 bytes, since each Allocation that a member ever made has 6, 12 or 16 (`made`).
+pub fn requests_are_the_devices()
+    ensures joined { PartsAreJoined }
+    ensures made { (ids : List ℕ) (rows : List Row) → AreMembers ids → DoNoHarm (cluster ids) rows →
+        AllocationsHaveParts ids rows }
+    ensures comes { DevicesThatComeTell }
+    ensures accepted { (ids : List ℕ) (rows : List Row) → AreMembers ids → DoNoHarm (cluster ids) rows →
+        RequestsAreTheDevices ids rows }
+    ensures tells { (ids : List ℕ) (rows : List Row) → AreMembers ids → DoNoHarm (cluster ids) rows →
+        DevicesGoOnTelling ids rows }
+    ensures whole { (ids : List ℕ) (rows : List Row) → AreMembers ids → DoNoHarm (cluster ids) rows →
+        WholeIsTheDevices ids rows }
+{
+    a_choice_fits();
+    allocations_both_ways();
+    delivers_what_comes_whole();
+    frames_carry_what_is_cut();
+    its_frames_are_anonymous();
+    lengths_of_cuttings();
+    requests_of_devices_are_requests();
+    rows_are_shown();
+    rows_grow_by_one();
+    steps_stay_in_range();
+    what_a_step_keeps();
+    what_is_fine_is_not_torn();
+    what_is_said_of_a_step();
+    what_is_said_of_frames();
+}
+
+/// Who follows falls silent in a calm. Where a member leads on from some moment on and the others follow, each other
+/// one has nothing to tell later than 500 ms, a period and a delay behind that moment: no frame of an Allocation waits
+/// in its queue, and none of the requests that it has accepted counts any more. For who follows gives no follow-up: it
+/// keeps what it has accepted, or forgets it; and once that is too old, it tells no device anything anew. This asks
+/// that no request that it has accepted by that moment is of a later one.
+pub fn who_follows_falls_silent()
+    ensures { (ids : List ℕ) (rows : List Row) → AreMembers ids → DoNoHarm (cluster ids) rows →
+        WhoFollowsFallsSilent ids rows }
+{
+    a_choice_fits();
+    delivers_what_comes_whole();
+    frames_carry_what_is_cut();
+    its_frames_are_anonymous();
+    lengths_of_cuttings();
+    rows_are_shown();
+    rows_grow_by_one();
+    steps_stay_in_range();
+    what_a_step_keeps();
+    what_is_said_of_a_step();
+    what_is_said_of_frames();
+}
+
+/// Who is heard out, and whose unique ID stands in the leader's log, is told its node ID in time, from the middle of a
+/// calm on, in which a member leads from some moment on. Before the row in which it hears the whole unique ID it has
+/// settled with a log that has the unique ID. In all rows its queue has room for an Allocation. The device hears its
+/// Allocations: the first one of the calm may begin there, it has memory for what comes, and each has three frames at
+/// most. Then the device holds a node ID within two delays of that row, or the calm is over by then. Nothing is asked
+/// of what else the device was told, and so it is not said which node ID it holds.
+pub fn heard_known_devices_are_told_in_calm()
+    ensures { (ids : List ℕ) (rows : List Row) → AreMembers ids → DoNoHarm (cluster ids) rows →
+        HeardKnownDevicesAreTold ids rows }
+{
+    a_choice_fits();
+    a_node_id_is_given_for_good();
+    allocations_both_ways();
+    allocations_come_in_calm();
+    law_every_run();
+    rows_are_shown();
+    rows_grow_by_one();
+}
+
+/// Who is recorded is served in time, from the middle of a calm on, also where it does not wait to be told: requests
+/// that came earlier may have made its unique ID whole. It was there when the calm began, and is the only device of the
+/// group. Else all is asked as for [`heard_devices_are_served_in_calm`], and the time is the same. Then the device
+/// holds a node ID.
+pub fn recorded_devices_are_served_in_calm()
+    ensures { (ids : List ℕ) (rows : List Row) → AreMembers ids → DoNoHarm (cluster ids) rows →
+        RecordedDevicesAreServed ids rows }
+{
+    a_choice_fits();
+    a_leader_records_the_pair();
+    a_node_id_is_given_for_good();
+    allocations_both_ways();
+    allocations_come_in_calm();
+    chosen_is_the_choice();
+    duty_of_a_step();
+    entries_are_committed_in_time();
+    law_decisions();
+    law_every_run();
+    rows_are_shown();
+    rows_grow_by_one();
+    the_allocatees();
+    the_headline();
+    what_entries_stand_on();
+    who_is_listed_stays();
 }

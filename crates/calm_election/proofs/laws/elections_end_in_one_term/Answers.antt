@@ -19,7 +19,7 @@ returns c = λ ids rows members harmless group clocks pace start term whole r in
       | inl furthest ↦
           let found = first_of ids rows group clocks pace start whole r c.steps_stay_in_range.ensures.size c.followers_follow_on.ensures.frames
           (start + longest_wait + pace.period) furthest in
-          wins_or_led ids rows group clocks pace start whole r (c.logs_stay_in_calm.ensures ids rows members harmless) lists (start + election_within pace)
+          wins_or_led ids rows group clocks pace start whole r (c.logs_stay_in_calm.ensures ids rows members harmless) (c.no_appends_come.ensures ids rows members harmless) lists (start + election_within pace)
           (start + longest_wait + pace.period) found.so
           (stands_at_top ids rows group clocks pace start whole r c.steps_stay_in_range.ensures.size (c.terms_stay_in_calm.ensures ids rows members harmless)
           (c.terms_do_not_fall.ensures ids rows)

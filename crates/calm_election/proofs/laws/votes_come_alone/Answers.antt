@@ -6,7 +6,7 @@ use Rattle.alloc_spec.specs.AllocatorState.{AllocatorState}
 use Rattle.alloc_spec.specs.Transfers.{SentTransfer, id_of}
 use Rattle.calm_election.specs.Votes.{CanAsk}
 use Rattle.calm_election.proofs.VotesAgain.{none_repeats}
-use Rattle.calm_election.proofs.VotesAlone.{Idle, comes_alone, idle_on}
+use Rattle.calm_election.proofs.VotesAlone.{Idle, comes_alone, fades_on, fading, idle_by}
 use Rattle.calm_election.proofs.VotesAloneStart.{idle_at_first, of_two}
 use Rattle.calm_election.proofs.VotesAsked.{AllGivenVotes, Voting}
 use Rattle.calm_election.proofs.VotesComeBack.{all_given, begins}
@@ -75,7 +75,9 @@ returns c =
     (begins laws apart_offers stay answered group clocks pace nodes n m in_n in_m apart quick start w can.calls (is n in_n) (is m in_m) quiet_n quiet_m can.hears_it can.first_call)
     (MayComeFirst m Vote n can.answers.receiver) can.first_answer scene.calm are given in
     let idle : Idle two can.answers.receiver.now (MayComeFirst m Vote n can.answers.receiver) (after_rows w (rows_in front)) (timed ∷ rest) =
-    idle_on two can.answers.receiver.now (MayComeFirst m Vote n can.answers.receiver) front (timed ∷ rest) w
+    idle_by two can.answers.receiver.now (MayComeFirst m Vote n can.answers.receiver) timed.at (after_rows w (rows_in front)) timed rest
+    (fades_on two can.answers.receiver.now (MayComeFirst m Vote n can.answers.receiver) timed.at front (timed ∷ rest) w
+    (fading two can.answers.receiver.now (MayComeFirst m Vote n can.answers.receiver) timed.at w (front ++ timed ∷ rest)
     (idle_at_first laws apart_offers stay answered group clocks pace nodes n m in_n in_m apart quick start w (front ++ timed ∷ rest) can
-    (is n in_n) (is m in_m) quiet_n quiet_m scene.calm are given none) scene.silent in
+    (is n in_n) (is m in_m) quiet_n quiet_m scene.calm are given none)) scene.silent) (omega arith) in
     comes_alone two can.answers.receiver.now (MayComeFirst m Vote n can.answers.receiver) (after_rows w (rows_in front)) timed rest idle offer sends what to scene.long

@@ -51,7 +51,7 @@ returns c =
     ap (λ (t : AllocatorState). t.raft_server.memory.role) (up_same server is.0 (sym up ∙ is.1)) ∙ is.2 in
     let first = c.who_stands_first_wins.ensures ids rows members harmless in
     let ahead_first = is_ahead ids rows group clocks pace start whole r (moment + pace.period) found (ahead.each found.c found.member) in
-    ends ids rows group clocks pace start whole r (c.logs_stay_in_calm.ensures ids rows members harmless)
+    ends ids rows group clocks pace start whole r (c.logs_stay_in_calm.ensures ids rows members harmless) (c.no_appends_come.ensures ids rows members harmless)
     (lists_in ids rows group clocks pace start whole r c.law_members.ensures.count knows c.members_of_a_step.ensures.opening)
     (moment + pace.period + 4 * pace.delay) (moment + pace.period)
     (first_stands group clocks (moment + pace.period) (world_of ids rows) (world_of ids rows) whole found)

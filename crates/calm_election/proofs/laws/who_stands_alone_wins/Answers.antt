@@ -24,8 +24,6 @@ returns c =
       terms = c.terms_stay_in_calm.ensures;
       rise = c.terms_do_not_fall.ensures;
       free = c.votes_stay_free.ensures;
-      logs = c.logs_stay_in_calm.ensures;
-      appends = c.no_appends_come.ensures;
     } in
     λ ids rows members harmless group clocks pace start k term front rest timed calm behind alone.
     let alone_back = c.votes_come_alone.ensures ids rows members harmless in

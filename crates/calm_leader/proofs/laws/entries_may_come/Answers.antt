@@ -5,6 +5,7 @@ use Rattle.cluster_calm.specs.CalmExample.{clocks, first_rows, group, leading_ro
 use Rattle.cluster_calm.specs.Comes.{HasMemory, Throughout}
 use Rattle.calm_leader.specs.CallsComeBack.{HasPlace, LeadsIfUp, LeadsOn}
 use Rattle.calm_leader.specs.CallsExample.{long_rows}
+use Rattle.calm_leader.specs.Entries.{CanExchange}
 use Rattle.calm_leader.specs.EntriesExample.{clock_rows, led_rows, won_rows, won_world}
 use Rattle.calm_leader.specs.LeadsOn.{LeadsIn}
 use Rattle.calm_leader.proofs.EntriesExample.{calm, clock_world, few, fit, harmless, its_memory, leads_not, leads_not_yet, led, led_at_last, memory, place}
@@ -48,29 +49,40 @@ returns c =
     let its_calm = subst (AreCalm group clocks pace (no_traffic start) then_world) same_rows (calm back.calm) in
     let called = c.winners_call.ensures two first_rows can.members can.harmless group clocks pace start 1 2 (sending_row ∷ vote_rows) led_rows leading_row
     can.listed can.running can.from (λ e. can.apart (sym e)) its_calm fit back.lists_receiver leads_not_yet (λ server up. (leads_if_up 1 1 won_world won server up).0) in
+    let its_harmless = subst (λ (l : List Timed). DoNoHarm then_world (rows_in l)) same_rows
+    (subst (DoNoHarm then_world) (sym (rows_both long_rows clock_rows)) (harmless_both then_world (rows_in long_rows) (rows_in clock_rows) back.harmless harmless)) in
+    let on = subst (LeadsOn 1 1 then_world) same_rows (leads_both 1 1 long_rows clock_rows then_world back.leads last_leads) in
+    let exchange : CanExchange 1 2 then_world (won_rows ++ led_rows) = record {
+      calls_it = back.lists_receiver;
+      hears_it = back.lists_sender;
+      calls = back.calls;
+      first_call = back.first;
+      answers = back.answers;
+      first_answer = back.first_answer;
+      memory = subst (Throughout (HasMemory 1) then_world) same_rows (throughout_both (HasMemory 1) long_rows clock_rows then_world back.memory_sender memory);
+      its_memory = subst (Throughout (HasMemory 2) then_world) same_rows (throughout_both (HasMemory 2) long_rows clock_rows then_world back.memory_receiver its_memory);
+      place = subst (Throughout (HasPlace 2) then_world) same_rows (throughout_both (HasPlace 2) long_rows clock_rows then_world back.places place);
+    } in
     record {
       before = can.harmless;
       running = can.running;
       leads_not = leads_not;
       calm = its_calm;
-      harmless = subst (λ (l : List Timed). DoNoHarm then_world (rows_in l)) same_rows
-          (subst (DoNoHarm then_world) (sym (rows_both long_rows clock_rows)) (harmless_both then_world (rows_in long_rows) (rows_in clock_rows) back.harmless harmless));
-      leads_on = subst (LeadsOn 1 1 then_world) same_rows (leads_both 1 1 long_rows clock_rows then_world back.leads last_leads);
+      harmless = its_harmless;
+      leads_on = on;
       led = led;
       fit = fit;
-      can = record {
-        calls_it = back.lists_receiver;
-        hears_it = back.lists_sender;
-        calls = back.calls;
-        first_call = back.first;
-        answers = back.answers;
-        first_answer = back.first_answer;
-        memory = subst (Throughout (HasMemory 1) then_world) same_rows (throughout_both (HasMemory 1) long_rows clock_rows then_world back.memory_sender memory);
-        its_memory = subst (Throughout (HasMemory 2) then_world) same_rows (throughout_both (HasMemory 2) long_rows clock_rows then_world back.memory_receiver its_memory);
-        place = subst (Throughout (HasPlace 2) then_world) same_rows (throughout_both (HasPlace 2) long_rows clock_rows then_world back.places place);
+      can = exchange;
+      calling = record {
+        lists_it = back.lists_receiver;
+        early = [];
+        since = won_rows;
+        split = refl;
+        back = c.calls_return_to_who_leads_on.ensures two first_rows can.members can.harmless group clocks pace start 1 2 1 [] (won_rows ++ led_rows)
+            can.listed can.running can.from can.to (λ e. can.apart (sym e)) back.quick its_calm its_harmless exchange on;
+        pends = called.0;
+        goes_on = called.1;
       };
-      since = called.0;
-      goes_on = called.1;
       leader = won.server;
       leads = won.runs;
       few = few won.server won.runs;

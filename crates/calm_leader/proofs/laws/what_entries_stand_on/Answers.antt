@@ -2,8 +2,8 @@ use Rattle.std.proofs.Common.{ℕ, List, [], ◌++◌, sym, subst}
 use Rattle.raft_model.specs.Lists.{In}
 use Rattle.raft_model.specs.Runs.{initial_world, run}
 use Rattle.replay_text.specs.declared.row.Row.{Row}
-use Rattle.calm_leader.specs.EntriesBelow.{AppendsPend, CallsInside, HasWhatIsKnown, PendingCallsArePast}
-use Rattle.calm_leader.proofs.EntriesHave.{appends_pend, has_known, inside, past}
+use Rattle.calm_leader.specs.EntriesBelow.{AppendsPend, CallsInside, HasWhatIsKnown, PendInTerm, PendingCallsArePast}
+use Rattle.calm_leader.proofs.EntriesHave.{appends_pend, has_known, inside, past, pend_in_term}
 use Rattle.cluster_calm.proofs.Start.{places_in, server_is}
 use Rattle.calm_leader.proofs.Stretches.{harmless_both}
 use Rattle.calm_leader.proofs.laws.what_entries_stand_on.Goals as goal
@@ -30,6 +30,11 @@ returns c = λ ids rows members harmless.
     (appends_pend (choice list h) (transfers_of_rows (cluster ids) list []) (world_of ids list) (run (initial_world ids) (its_events list h)) (shown list h).shows
     c.what_is_said_of_messages.ensures (c.law_every_run.ensures.invariants ids (its_events list h) (shown list h).lawful)
     (λ member. c.law_fit.ensures.run ids (its_events list h) member (shown list h).lawful)) in
+    let terms = λ (list : List Row) (h : DoNoHarm (cluster ids) list).
+    subst (λ (l : List ℕ). PendInTerm l (world_of ids list)) (same_ids list)
+    (pend_in_term (choice list h) (transfers_of_rows (cluster ids) list []) (world_of ids list) (run (initial_world ids) (its_events list h)) (shown list h).shows
+    c.what_is_said_of_messages.ensures (c.law_every_run.ensures.invariants ids (its_events list h) (shown list h).lawful)
+    (λ member. c.law_fit.ensures.run ids (its_events list h) member (shown list h).lawful)) in
     let within = λ (list : List Row) (h : DoNoHarm (cluster ids) list).
     subst (λ (l : List ℕ). CallsInside l (world_of ids list)) (same_ids list)
     (inside (choice list h) (transfers_of_rows (cluster ids) list []) (world_of ids list) (run (initial_world ids) (its_events list h)) (shown list h).shows
@@ -46,6 +51,7 @@ returns c = λ ids rows members harmless.
       duty = λ later h. c.rows_are_dutiful.ensures ids (rows ++ later) members (both later h);
       has = λ later h. has (rows ++ later) (both later h);
       appends = λ later h. appends (rows ++ later) (both later h);
+      terms = λ later h. terms (rows ++ later) (both later h);
       inside = λ later h. within (rows ++ later) (both later h);
       past = subst (λ (l : List ℕ). PendingCallsArePast l w) (same_ids rows)
           (past (choice rows harmless) (transfers_of_rows (cluster ids) rows []) w (run (initial_world ids) (its_events rows harmless)) (shown rows harmless).shows
@@ -53,5 +59,4 @@ returns c = λ ids rows members harmless.
           (λ member. c.law_fit.ensures.run ids (its_events rows harmless) member (shown rows harmless).lawful));
       node = λ p server i up. (server_is ids (choice rows harmless) (transfers_of_rows (cluster ids) rows []) w (run (initial_world ids) (its_events rows harmless))
           (shown rows harmless).shows (places_in ids rows) p server (subst (λ (l : List ℕ). In p l) (sym (same_ids rows)) i) up).me;
-      back = c.calls_come_back.ensures ids rows members harmless;
     }

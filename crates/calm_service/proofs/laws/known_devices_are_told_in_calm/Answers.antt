@@ -1,7 +1,7 @@
-use Rattle.std.proofs.Common.{List, ℕ, [], ◌+◌, arith, subst, sym}
+use Rattle.std.proofs.Common.{List, ℕ, [], ◌+◌, arith, refl, subst, sym}
 use Rattle.raft_model.specs.Lists.{In}
 use Rattle.raft_model.specs.Runs.{initial_world, run}
-use Rattle.cluster_calm.specs.Calm.{Member, no_traffic}
+use Rattle.cluster_calm.specs.Calm.{Device as OfDevice, Member, no_traffic}
 use Rattle.calm_service.specs.Settled.{IsCalmUnder}
 use Rattle.cluster_calm.proofs.DevicesHear.{SessionLaws}
 use Rattle.calm_service.proofs.Dialog.{all_known, are_silent, is_well, it_waits}
@@ -56,6 +56,7 @@ returns c =
       few = come.small;
       log = log;
       start = start;
+      base = start + clocks (OfDevice a);
       quick = quick;
     } in
     let shown = c.rows_are_shown.ensures chosen.0 ids rows members harmless chosen.1 in
@@ -67,16 +68,16 @@ returns c =
     whole (no_traffic start) (world_of ids rows)
     (it_waits laws session_laws c.transfers_of_a_step_are_apart.ensures.apart ids members.nodes chosen.0 (transfers_of_rows (cluster ids) rows []) (world_of ids rows)
     (run (initial_world ids) (events chosen.0 (cluster ids) rows)) (c.rows_are_shown.ensures chosen.0 ids rows members harmless chosen.1).shows
-    (c.rows_grow_by_one.ensures.members (cluster ids) rows) (places_in ids rows) g under.listed under.running come)
+    (c.rows_grow_by_one.ensures.members (cluster ids) rows) (places_in ids rows) g refl under.listed under.running come)
     under.calm
     (all_known g c.requests_of_devices_are_requests.ensures c.requests_are_delivered.ensures c.a_leader_follows_up.ensures c.allocations_both_ways.ensures.read_again
     term whole (no_traffic start) (world_of ids rows)
     (is_well laws session_laws c.transfers_of_a_step_are_apart.ensures.apart ids members.nodes chosen.0 (transfers_of_rows (cluster ids) rows []) (world_of ids rows)
     (run (initial_world ids) (events chosen.0 (cluster ids) rows)) (c.rows_are_shown.ensures chosen.0 ids rows members harmless chosen.1).shows
-    (c.rows_grow_by_one.ensures.members (cluster ids) rows) (places_in ids rows) g under.listed under.running come) under.calm
+    (c.rows_grow_by_one.ensures.members (cluster ids) rows) (places_in ids rows) g refl under.listed under.running come) under.calm
     (are_silent laws session_laws c.transfers_of_a_step_are_apart.ensures.apart ids members.nodes chosen.0 (transfers_of_rows (cluster ids) rows []) (world_of ids rows)
     (run (initial_world ids) (events chosen.0 (cluster ids) rows)) (c.rows_are_shown.ensures chosen.0 ids rows members harmless chosen.1).shows
-    (c.rows_grow_by_one.ensures.members (cluster ids) rows) (places_in ids rows) g under.listed under.running come)
+    (c.rows_grow_by_one.ensures.members (cluster ids) rows) (places_in ids rows) g refl under.listed under.running come)
     (λ front rest e m i differ. (under.led front rest e).others m i differ) undisturbed.memory undisturbed.room
     (λ front rest timed e accepted is. c.who_has_settled_stays_settled.ensures.row ids rows members harmless group clocks pace start n term log accepted [] front rest timed
     (subst (λ (l : List Timed). IsCalmUnder ids rows group clocks pace start n term [] l) e under) is))

@@ -6,7 +6,6 @@ use Rattle.alloc_spec.specs.AllocatorState.{AllocatorState}
 use Rattle.cluster_agreement.proofs.Concatenations.{first_harmless}
 use Rattle.cluster_recovery.specs.Calm.{end_of, rows_in}
 use Rattle.cluster_calm.specs.Calm.{Member}
-use Rattle.calm_leader.specs.Entries.{EntriesAreCommittedInTime, EntriesComeInTime}
 use Rattle.calm_service.specs.Settles.{LeadersSettle, settle_within}
 use Rattle.cluster_recovery.proofs.Goes.{after_both}
 use Rattle.cluster_calm.proofs.Group.{CalmLaws}
@@ -75,7 +74,7 @@ returns c =
     (harmless_both (cluster ids) rows (rows_in front) harmless
     (first_harmless (world_of ids rows) (rows_in front) (rows_in rest) (subst (DoNoHarm (world_of ids rows)) (ap rows_in cut ∙ rows_both front rest) under.harmless)))
     t (subst (λ (v : Cluster). (v.member n).status ≡ Up t) (sym (after_both (cluster ids) rows (rows_in front))) up))
-    is.new is.few is.leads_on is.fits is.room is.short is.catch_up is.long in
+    is.new is.few is.fits is.room is.short is.catch_up is.long in
     record {
       settle = settle;
       unasked = λ ids rows members harmless group clocks pace start n term log more uncommitted one next first later is none.

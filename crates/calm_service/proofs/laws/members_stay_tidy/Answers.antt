@@ -5,7 +5,7 @@ use Rattle.replay_text.specs.declared.row.Row.{Row}
 use Rattle.cluster_calm.specs.Calm.{AreRunning, Member as OfMember, Party}
 use Rattle.cluster_calm.proofs.Group.{AreWell, CalmLaws}
 use Rattle.cluster_calm.proofs.Start.{places_in, well_in}
-use Rattle.calm_service.proofs.TidyLaw.{stay_tidy}
+use Rattle.calm_service.proofs.TidyLaw.{stay_fit, stay_tidy, tidy_is_fit}
 use Rattle.calm_service.proofs.laws.members_stay_tidy.Goals as goal
 use Rattle.cluster_spec.specs.Cluster.{AreMembers, cluster, world_of}
 use Rattle.cluster_spec.specs.Lawful.{DoNoHarm}
@@ -41,5 +41,11 @@ well c ids rows members harmless group listed running =
     (run (initial_world ids) (events chosen.0 (cluster ids) rows)) shown.shows (places_in ids rows) group
     (λ p i. subst (λ (l : List ℕ). In p l) (sym (c.rows_grow_by_one.ensures.members (cluster ids) rows)) (listed p i)) running
 
-pub returns : goal.returns
-returns c ids rows members harmless = stay_tidy (laws c) ids members rows (well c ids rows members harmless)
+pub returns-clause-tidy : goal.returns-clause-tidy
+returns-clause-tidy c ids rows members harmless = stay_tidy (laws c) ids members rows (well c ids rows members harmless)
+
+pub returns-clause-fit : goal.returns-clause-fit
+returns-clause-fit c ids rows members harmless = stay_fit (laws c) ids members rows (well c ids rows members harmless)
+
+pub returns-clause-are : goal.returns-clause-are
+returns-clause-are c = tidy_is_fit

@@ -1,15 +1,13 @@
-use Rattle.std.proofs.Common.{◌≡◌, ◌+◌, List, [], ◌++◌, sym, ◌∙◌, ap, subst}
+use Rattle.std.proofs.Common.{◌≡◌, ◌+◌, List, [], ◌++◌}
 use Rattle.raft_model.specs.Runs.{initial_world, run}
 use Rattle.replay_text.specs.declared.row.Row.{Row}
 use Rattle.alloc_spec.specs.AllocatorState.{AllocatorState}
 use Rattle.cluster_recovery.specs.Calm.{rows_in}
-use Rattle.cluster_agreement.proofs.Concatenations.{first_harmless}
-use Rattle.cluster_recovery.proofs.Goes.{after_both}
 use Rattle.calm_service.specs.Dialog.{time_to_be_heard}
+use Rattle.calm_service.proofs.ServedBehind.{harmless_to, up_to}
 use Rattle.calm_service.proofs.Served.{is_recorded_by, lists_members}
-use Rattle.calm_leader.proofs.Stretches.{harmless_both, rows_both}
 use Rattle.calm_service.proofs.laws.new_devices_are_recorded_in_calm.Goals as goal
-use Rattle.cluster_spec.specs.Cluster.{Cluster, cluster, world_of}
+use Rattle.cluster_spec.specs.Cluster.{cluster, world_of}
 use Rattle.cluster_spec.specs.Lawful.{DoNoHarm}
 use Rattle.cluster_spec.specs.Members.MemberStatus.{Up}
 use Rattle.cluster_spec.specs.Refinement.{events, transfers_of_rows}
@@ -25,10 +23,7 @@ returns c = λ ids rows members harmless group clocks pace start n a term uid pr
       choice = c.chosen_is_the_choice.ensures.is;
       record_pairs = c.a_leader_records_the_pair.ensures;
       stay = c.who_is_listed_stays.ensures;
-    }) ids rows group clocks pace start n term whole under
-    (λ front rest t cut up. among (rows ++ rows_in front)
-    (harmless_both (cluster ids) rows (rows_in front) harmless
-    (first_harmless (world_of ids rows) (rows_in front) (rows_in rest) (subst (DoNoHarm (world_of ids rows)) (ap rows_in cut ∙ rows_both front rest) under.harmless)))
-    t (subst (λ (v : Cluster). (v.member n).status ≡ Up t) (sym (after_both (cluster ids) rows (rows_in front))) up))
+    }) ids rows group clocks pace start n term [] whole under
+    (λ front rest t cut up. among (rows ++ rows_in front) (harmless_to ids rows whole harmless under.harmless front rest cut) t (up_to ids rows n front t up))
     log uid preferred (start + time_to_be_heard pace) place lists
     (c.devices_are_heard_out_in_calm.ensures ids rows members harmless group clocks pace start n a term uid preferred log whole under come undisturbed quick long)

@@ -1,21 +1,19 @@
-use Rattle.std.proofs.Common.{◌≡◌, ℕ, ◌+◌, List, [], ◌++◌, inl, refl, sym, ◌∙◌, ap, subst, arith}
+use Rattle.std.proofs.Common.{◌≡◌, ℕ, ◌+◌, List, [], ◌++◌, sym, subst, arith}
 use Rattle.raft_model.specs.Lists.{In}
 use Rattle.raft_model.specs.Runs.{initial_world, run}
 use Rattle.replay_text.specs.declared.row.Row.{Row}
 use Rattle.alloc_spec.specs.AllocatorState.{AllocatorState}
-use Rattle.cluster_agreement.proofs.Concatenations.{first_harmless}
 use Rattle.cluster_recovery.specs.Calm.{Timed, rows_in}
-use Rattle.cluster_recovery.proofs.Goes.{after_both}
 use Rattle.cluster_calm.specs.Calm.{Member}
 use Rattle.calm_service.specs.Dialog.{time_to_be_heard}
 use Rattle.calm_service.specs.Served.{time_to_be_committed}
-use Rattle.calm_service.specs.Settled.{IsCalmUnder}
+use Rattle.calm_service.proofs.LosesNothing.{log_grows}
 use Rattle.calm_service.proofs.Served.{commits_inside}
-use Rattle.calm_service.proofs.ServedCommitted.{as_recorded}
+use Rattle.calm_service.proofs.ServedBehind.{commits_stay, harmless_to, up_to}
+use Rattle.calm_service.proofs.ServedPairs.{new_is_committed}
 use Rattle.calm_service.proofs.ServedInTime.{is_told_by}
-use Rattle.calm_leader.proofs.Stretches.{harmless_both, rows_both}
 use Rattle.calm_service.proofs.laws.new_pairs_are_offered_in_calm.Goals as goal
-use Rattle.cluster_spec.specs.Cluster.{Cluster, after_rows, cluster, world_of}
+use Rattle.cluster_spec.specs.Cluster.{after_rows, cluster, world_of}
 use Rattle.cluster_spec.specs.Lawful.{DoNoHarm}
 use Rattle.cluster_spec.specs.Members.MemberStatus.{Up}
 use Rattle.cluster_spec.specs.Refinement.{events, transfers_of_rows}
@@ -28,14 +26,16 @@ returns c = λ ids rows members harmless group clocks pace start n a term uid pr
     commits_inside chosen.0 (transfers_of_rows (cluster ids) list []) (world_of ids list) (run (initial_world ids) (events chosen.0 (cluster ids) list))
     shown.shows (c.law_every_run.ensures.invariants ids (events chosen.0 (cluster ids) list) shown.lawful) n t
     (subst (λ (l : List ℕ). In n l) (sym (c.rows_grow_by_one.ensures.members (cluster ids) list)) (under.listed n under.member)) up in
-    let whole_inside = λ (front rest rows_then : List Timed) (t : AllocatorState) (calm : IsCalmUnder ids rows group clocks pace start n term [] rows_then)
-    (cut : rows_then ≡ front ++ rest) (up : ((after_rows (world_of ids rows) (rows_in front)).member n).status ≡ Up t). inside (rows ++ rows_in front)
-    (harmless_both (cluster ids) rows (rows_in front) harmless
-    (first_harmless (world_of ids rows) (rows_in front) (rows_in rest) (subst (DoNoHarm (world_of ids rows)) (ap rows_in cut ∙ rows_both front rest) calm.harmless)))
-    t (subst (λ (v : Cluster). (v.member n).status ≡ Up t) (sym (after_both (cluster ids) rows (rows_in front))) up) in
+    let sane = λ (front rest : List Timed) (t : AllocatorState) (cut : whole ≡ front ++ rest) (up : ((after_rows (world_of ids rows) (rows_in front)).member n).status ≡ Up t).
+    inside (rows ++ rows_in front) (harmless_to ids rows whole harmless under.harmless front rest cut) t (up_to ids rows n front t up) in
     let recorded = c.new_devices_are_recorded_in_calm.ensures ids rows members harmless group clocks pace start n a term uid preferred log whole under come place lists undisturbed quick
     (omega (arith, long)) in
-    is_told_by (record { tell = c.duty_of_a_step.ensures.tell; phases = c.duty_of_a_step.ensures.phases }) ids rows (c.leaders_lose_nothing_in_calm.ensures ids rows members harmless) group clocks pace start n first term whole under fits
-    (followers.apart first (inl refl)).0 (followers.apart first (inl refl)).1 (followers.in_step first (inl refl)) (λ front rest t cut up. whole_inside front rest whole t under cut up)
-    log (clocks (Member n)) uid place.device (start + time_to_be_heard pace) (start + time_to_be_committed pace) recorded
-    (as_recorded ids rows (c.entries_are_committed_in_time.ensures ids rows members harmless) (c.leaders_lose_nothing_in_calm.ensures ids rows members harmless) (c.what_entries_stand_on.ensures ids rows members harmless) group clocks pace start n term whole_inside quick log (clocks (Member n)) uid first next whole under fits followers long recorded)
+    let lose = c.leaders_lose_nothing_in_calm.ensures ids rows members harmless in
+    let laws = c.what_entries_stand_on.ensures ids rows members harmless in
+    let stays = commits_stay c.law_decisions.ensures.judged (world_of ids rows) group clocks pace start n whole under.calm (under.running n under.member) sane in
+    let committed = new_is_committed ids rows (c.entries_are_committed_in_time.ensures ids rows members harmless)
+    (c.calls_return_to_who_leads_on.ensures ids rows members harmless) lose laws group clocks pace start n term whole under fits
+    stays quick log (clocks (Member n)) uid first next followers long recorded in
+    is_told_by (record { tell = c.duty_of_a_step.ensures.tell; phases = c.duty_of_a_step.ensures.phases }) ids rows group clocks pace start n term [] whole under
+    (log_grows ids rows laws group clocks pace start n term [] whole under fits) sane log
+    (clocks (Member n)) uid place.device (start + time_to_be_heard pace) (start + time_to_be_committed pace) recorded committed

@@ -1,4 +1,4 @@
-use Rattle.calm_service.proofs.TidyOpenings.{opened_ready, tidy_come_to_lead, tidy_lead}
+use Rattle.calm_service.proofs.TidyOpenings.{fit_lead, opened_ready, tidy_come_to_lead, tidy_lead}
 use Rattle.calm_service.proofs.laws.opened_members_are_tidy.Goals as goal
 
 pub returns-clause-opened : goal.returns-clause-opened
@@ -9,3 +9,6 @@ returns-clause-leads c = tidy_lead
 
 pub returns-clause-comes : goal.returns-clause-comes
 returns-clause-comes c = tidy_come_to_lead
+
+pub returns-clause-fit : goal.returns-clause-fit
+returns-clause-fit c = fit_lead

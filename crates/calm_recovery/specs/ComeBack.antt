@@ -1,0 +1,112 @@
+-- What it is that a cluster comes back in time in a calm, whatever state its members are in, and serves a device.
+use Rattle.std.specs.Prelude.{◌≡◌, ◌≢◌, ℕ, ◌+◌, ◌*◌, ◌<◌, ◌≤◌, List, ◌++◌, length}
+use Rattle.can_frame.specs.declared.entry.Entry.{Entry}
+use Rattle.can_frame.specs.Log.{HasUid, log_limit}
+use Rattle.can_frame.specs.Zeros.{zeros}
+use Rattle.raft_model.specs.Lists.{In}
+use Rattle.replay_text.specs.declared.row.Row.{Row}
+use Rattle.alloc_spec.specs.AllocatorState.{AllocatorState}
+use Rattle.cluster_recovery.specs.Calm.{HasSettled, Pace, Timed, end_of, rows_in}
+use Rattle.calm_leader.specs.NoElection.{heard_within}
+use Rattle.calm_rounds.specs.Rounds.{led_within}
+use Rattle.calm_rounds.specs.Running.{IsCalmOf, IsLedBy}
+use Rattle.calm_service.specs.Asking.{HasIdBy, IsAsking, time_to_be_heard_again}
+use Rattle.calm_service.specs.AskingServed.{CanBeTold, serve_within}
+use Rattle.calm_service.specs.Dialog.{HasRoomToTell}
+use Rattle.calm_service.specs.Requests.{TellsAt}
+use Rattle.calm_service.specs.Served.{HasPlaceFor, ListsAll, PairsFit}
+use Rattle.calm_service.specs.ServedTold.{HasRoomInSteps}
+use Rattle.calm_service.specs.Settles.{settle_within}
+use Rattle.calm_service.specs.Tidy.{AreMembersOnly, IsTidy, NoDiscoveryWaits}
+use Rattle.cluster_calm.specs.Calm.{Device as OfDevice, Member, Party}
+use Rattle.cluster_calm.specs.Comes.{Throughout}
+use Rattle.cluster_spec.specs.Cluster.{Cluster, after_rows, world_of}
+use Rattle.cluster_spec.specs.Members.MemberStatus.{Up}
+
+-- ---- where it begins
+
+-- where not all of the log of member m is committed, it has room for a blank, if the member runs
+abbrev pub HasRoomForBlank : ℕ → Cluster → Type 0
+HasRoomForBlank m w = (server : AllocatorState) → (w.member m).status ≡ Up server →
+    server.raft_server.store.commit < length server.raft_server.store.log →
+    length server.raft_server.store.log < log_limit
+
+-- A calm as elections ask for it (`IsCalmOf`), in which the members are fit to serve when it begins: each is tidy, and
+-- no frame of a Discovery waits. Each has room in each of its steps for the frames of the next pair, and room for a
+-- blank where it needs one. Which roles, terms and logs they have is not asked.
+pub record IsCalmOfTidy (ids : List ℕ) (rows : List Row) (group : List Party) (clocks : Party → ℕ) (pace : Pace)
+    (start : ℕ) (whole : List Timed) : Type 0 where
+  pub calm : IsCalmOf ids rows group clocks pace start whole
+  pub tidy : (m : ℕ) → In (Member m) group → IsTidy m (start + clocks (Member m)) (world_of ids rows)
+  pub none_waits : NoDiscoveryWaits group (world_of ids rows)
+  pub room : (m : ℕ) → In (Member m) group → HasRoomInSteps m (world_of ids rows) whole
+  pub blanks : (m : ℕ) → In (Member m) group → Throughout (HasRoomForBlank m) (world_of ids rows) whole
+
+-- ---- it comes back
+
+-- Behind some front of these rows, which ends by this moment, member n has settled, with whatever log.
+pub record SettlesBy (n ahead start last : ℕ) (w : Cluster) (whole : List Timed) : Type 0 where
+  pub front : List Timed
+  pub rest : List Timed
+  pub split : whole ≡ front ++ rest
+  pub soon : end_of start front ≤ last
+  pub log : List Entry
+  pub settled : HasSettled n log (end_of start front + ahead) (after_rows w (rows_in front))
+
+-- By the moment `ended` a member leads and no election comes any more; and it has settled by the moment `last`.
+pub record IsBackBy (group : List Party) (clocks : Party → ℕ) (pace : Pace) (start ended last : ℕ) (w : Cluster)
+    (whole : List Timed) : Type 0 where
+  pub led : IsLedBy group clocks pace start ended w whole
+  pub settles : SettlesBy led.n (clocks (Member led.n)) (end_of start led.front) last
+      (after_rows w (rows_in led.front)) led.rest
+
+-- In milliseconds, so long it takes at most from the end of the elections until the leader has settled: until it has
+-- called each other member and was answered, and until all of its log has come to them, is committed and told.
+abbrev pub settled_in : Pace → ℕ
+settled_in pace = heard_within pace + pace.period + 2 * pace.delay + settle_within pace (2 * log_limit) log_limit
+
+-- and so long from the beginning of the calm on, in a cluster of so many members
+abbrev pub back_within : Pace → (size : ℕ) → ℕ
+back_within pace size = led_within pace size + settled_in pace
+
+-- In each such calm of members only: the cluster comes back in that time, or the calm is over by then.
+abbrev pub ClustersComeBack : List ℕ → List Row → Type 0
+ClustersComeBack ids rows = (group : List Party) (clocks : Party → ℕ) (pace : Pace) (start : ℕ)
+    (whole : List Timed) → IsCalmOfTidy ids rows group clocks pace start whole → AreMembersOnly group →
+    start + back_within pace (length ids) < end_of start whole →
+    IsBackBy group clocks pace start (start + led_within pace (length ids)) (start + back_within pace (length ids))
+    (world_of ids rows) whole
+
+-- ---- it serves a device
+
+-- In such a calm device a of the group asks, the only one: from its beginning on, or since before. When it begins, each
+-- frame that waits in its queue tells a part of its unique ID, and so will the follow-up that it waits for, if any. It
+-- can be told by each member, and each has room to tell it. Its unique ID is not all zero. Whichever log a member comes
+-- to have, it has the device's unique ID, or a place for it.
+pub record IsCalmOfDevice (ids : List ℕ) (rows : List Row) (group : List Party) (clocks : Party → ℕ) (pace : Pace)
+    (start a : ℕ) (uid : List ℕ) (preferred : ℕ) (whole : List Timed) : Type 0 where
+  pub calm : IsCalmOfTidy ids rows group clocks pace start whole
+  pub asks : IsAsking group a uid preferred (start + clocks (OfDevice a)) (world_of ids rows)
+  pub tells : TellsAt a uid (world_of ids rows)
+  pub some : uid ≢ zeros
+  pub told : (m : ℕ) → In (Member m) group → CanBeTold group m a (world_of ids rows) whole
+  pub room : (m : ℕ) → In (Member m) group → Throughout (HasRoomToTell m) (world_of ids rows) whole
+  pub fits : (m : ℕ) → In (Member m) group → PairsFit m (world_of ids rows) whole
+  pub lists : (m : ℕ) → In (Member m) group → ListsAll m ids (world_of ids rows)
+  pub place : (front rest : List Timed) (m : ℕ) (server : AllocatorState) → whole ≡ front ++ rest →
+      In (Member m) group → ((after_rows (world_of ids rows) (rows_in front)).member m).status ≡ Up server →
+      (HasUid server.raft_server.store.log uid → ⊥) → HasPlaceFor ids server.raft_server.store.log uid
+  pub paced : pace.period + 4 * pace.delay ≤ 100
+
+-- In milliseconds, so long it takes at most until the device holds a node ID. The leader may have to settle once more:
+-- where it has recorded the device's unique ID meanwhile. By then the others have nothing to tell.
+abbrev pub served_within : Pace → (size : ℕ) → ℕ
+served_within pace size = led_within pace size + settled_in pace + settle_within pace (2 * log_limit) log_limit
+    + time_to_be_heard_again pace + serve_within pace log_limit
+
+-- In each such calm the device holds a node ID in that time, or the calm is over by then.
+abbrev pub DevicesAreServed : List ℕ → List Row → Type 0
+DevicesAreServed ids rows = (group : List Party) (clocks : Party → ℕ) (pace : Pace) (start a : ℕ) (uid : List ℕ)
+    (preferred : ℕ) (whole : List Timed) → IsCalmOfDevice ids rows group clocks pace start a uid preferred whole →
+    start + served_within pace (length ids) < end_of start whole →
+    HasIdBy a start (start + served_within pace (length ids)) (world_of ids rows) whole

@@ -1,0 +1,103 @@
+-- Who gives its vote in a calm was asked for it, by a candidate.
+use Rattle.std.proofs.Common.{◌≡◌, ◌≢◌, ℕ, ◌+◌, ◌*◌, arith, List, ◌∷◌, ◌++◌, max, refl, sym, ◌∙◌, ap, subst, inl, Option, Some}
+use Rattle.can_frame.specs.declared.step.What.TheVariants.{VoteQ}
+use Rattle.dsdl_codec.specs.declared.vote_request.VoteRequest.{VoteRequest}
+use Rattle.dsdl_codec.specs.VoteRequest.{vote_request_of}
+use Rattle.raft_core.specs.Handled as handled
+use Rattle.raft_model.specs.Lists.{In}
+use Rattle.replay_text.specs.declared.row.Row.{Row}
+use Rattle.transfer_rx.specs.Reassembly.{Gives, answer}
+use Rattle.alloc_spec.specs.Accepted.{setting_for}
+use Rattle.alloc_spec.specs.AllocatorState.{AllocatorState}
+use Rattle.alloc_spec.specs.Step.{step}
+use Rattle.alloc_spec.specs.Transfers.{Offer}
+use Rattle.cluster_agreement.proofs.TakenMessages.{is_vote_request}
+use Rattle.cluster_recovery.specs.Calm.{Pace, Timed, rows_in}
+use Rattle.cluster_calm.specs.Calm.{IsRunning, Member as OfMember, Party}
+use Rattle.cluster_calm.specs.Comes.{Sends, sent_by}
+use Rattle.calm_leader.proofs.RowsOfOne.{stepped_up}
+use Rattle.calm_election.specs.Votes.{VoteReadsAsSaid, VoteRequestsReadAsSaid}
+use Rattle.calm_election.specs.Waits.{GivesVote}
+use Rattle.calm_election.proofs.VotesSaid.{SaysStore, candidates_ask, says_its_store}
+use Rattle.calm_rounds.specs.Running.{IsCalmOf}
+use Rattle.calm_rounds.specs.Sent.{HasAskedFor}
+use Rattle.calm_rounds.proofs.HeardMade.{HeardLaws, WasSent, by_law, harm_then, me_there, running_then, up_before, was_sent}
+use Rattle.cluster_spec.specs.Cluster.{Cluster, after_rows, arrival_at, cluster, frame_at, world_of}
+use Rattle.cluster_spec.specs.Lawful.{DoNoHarm, DoesNoHarm}
+
+one_request : (a b : VoteRequest) → ◌≡◌ {A = Option VoteRequest} (Some a) (Some b) → a ≡ b
+one_request a b e = cc e
+
+module _ (ids : List ℕ) (laws : HeardLaws ids) (reads_said : (list : List Row) → DoNoHarm (cluster ids) list → VoteRequestsReadAsSaid ids list) (rows : List Row)
+    (harmless : DoNoHarm (cluster ids) rows) (group : List Party) (clocks : Party → ℕ) (pace : Pace) (start m : ℕ) (front rest : List Timed) (timed : Timed)
+    (calm : IsCalmOf ids rows group clocks pace start (front ++ timed ∷ rest)) (in_m : In (OfMember m) group)
+    (gives : GivesVote m (after_rows (world_of ids rows) (rows_in front)) timed.row) where
+  me : gives.server.me ≡ m
+  me = me_there ids laws rows harmless group clocks pace start (front ++ timed ∷ rest) calm front rest timed refl m in_m gives.server gives.runs
+
+  its : WasSent group (2 * pace.delay) m VoteQ gives.delivery timed.at (world_of ids rows) front
+  its = was_sent ids laws rows harmless group clocks pace start (front ++ timed ∷ rest) calm front rest timed refl m in_m gives.k gives.ms gives.comes gives.server
+      gives.runs gives.delivery
+      (subst (λ (n : ℕ). answer (setting_for n) gives.server.sessions
+      (arrival_at (frame_at (after_rows (world_of ids rows) (rows_in front)).frames gives.k) (max gives.server.now gives.ms)) ≡ Gives gives.delivery) (sym me) gives.gives)
+      VoteQ (inl (inl refl)) (sym gives.kind)
+      (λ other k number. is_vote_request other (k ∙ gives.kind)
+      (λ e. let its_number = gives.number in absurd (omega (arith, number, its_number, e)))
+      (λ e. let its_number = gives.number in absurd (omega (arith, number, its_number, e))))
+
+  abbrev before : Cluster
+  before = after_rows (world_of ids rows) (rows_in its.first)
+
+  abbrev after : AllocatorState
+  after = (step its.sends.server (before.rows + 1) its.sends.event).step_state.allocator
+
+  -- the request reads as it says
+  said : VoteReadsAsSaid (sent_by its.n before its.offer)
+  said = by_law ids laws rows harmless group clocks pace start (front ++ timed ∷ rest) calm front rest timed refl (2 * pace.delay) m VoteQ gives.delivery timed.at its
+      (λ v. (n : ℕ) (row : Row) (offer : Offer) → DoesNoHarm v row → IsRunning n v → Sends n v row offer → offer.what ≡ VoteQ → VoteReadsAsSaid (sent_by n v offer))
+      reads_said its.n its.timed.row its.offer
+      (harm_then ids laws rows harmless group clocks pace start (front ++ timed ∷ rest) calm front rest timed refl (2 * pace.delay) m VoteQ gives.delivery timed.at its)
+      (running_then ids laws rows harmless group clocks pace start (front ++ timed ∷ rest) calm front rest timed refl (2 * pace.delay) m VoteQ gives.delivery timed.at its)
+      its.sends its.what_is
+
+  same_request : said.request ≡ gives.request
+  same_request = one_request said.request gives.request (sym said.read ∙ (ap vote_request_of its.payload ∙ gives.read))
+
+  -- and says what the store of its maker is behind the row
+  says : SaysStore after.raft_server.store (handled.vote_request_of said.request (before.rows + 1) its.n its.offer.to)
+  says = says_its_store its.sends.server (before.rows + 1) its.sends.event its.offer its.sends.offered its.what_is _ said.said
+
+  -- so the member was asked
+  pub was_asked : (c : ℕ) × In (OfMember c) group × (c ≢ m) × (gives.delivery.ident.source ≡ c)
+      × HasAskedFor c m gives.request timed.at (2 * pace.delay) (world_of ids rows) front
+  was_asked = (
+    its.n,
+    its.member,
+    its.other,
+    its.source,
+    record {
+      front = its.first;
+      timed = its.timed;
+      rest = its.more;
+      split = its.split;
+      lately = its.lately;
+      asks = record {
+        server = its.sends.server;
+        runs = its.sends.runs;
+        event = its.sends.event;
+        in_step = its.sends.in_step;
+        offer = its.offer;
+        offered = its.sends.offered;
+        what = its.what_is;
+        to = its.to;
+      };
+      server = after;
+      runs = (stepped_up before its.n its.sends.server
+          (up_before ids laws rows harmless group clocks pace start (front ++ timed ∷ rest) calm front rest timed refl (2 * pace.delay) m VoteQ gives.delivery timed.at its)
+          its.timed.row its.sends.event its.sends.in_step).status;
+      stands = candidates_ask its.sends.server (before.rows + 1) its.sends.event its.offer its.sends.offered its.what_is;
+      its_term = sym (ap (λ (r : VoteRequest). r.term) same_request) ∙ says.term;
+      its_last_term = sym (ap (λ (r : VoteRequest). r.last_term) same_request) ∙ says.last_term_is;
+      its_last = sym (ap (λ (r : VoteRequest). r.last_index) same_request) ∙ says.last;
+    },
+  )

@@ -1,0 +1,115 @@
+-- What the laws of who leads the group stand on; and that no two members lead in one term.
+use Rattle.std.proofs.Common.{◌≡◌, ℕ, Bool, List, [], ◌++◌, sym, ◌∙◌, ap, subst}
+use Rattle.raft_model.specs.Invariants.{Invariants}
+use Rattle.raft_model.specs.Lists.{In}
+use Rattle.raft_model.specs.Runs as raft
+use Rattle.raft_model.specs.Runs.{InEveryRun, initial_world, run}
+use Rattle.raft_model.specs.Server.{RaftServer}
+use Rattle.replay_text.specs.declared.row.Row.{Row}
+use Rattle.alloc_spec.specs.AllocatorState.{AllocatorState}
+use Rattle.alloc_spec.specs.Step.{Event, step}
+use Rattle.alloc_spec.specs.Transfers.{SentTransfer}
+use Rattle.cluster_agreement.specs.Continues.{Continues}
+use Rattle.cluster_agreement.specs.LawsBelow.{CodecLaws}
+use Rattle.cluster_agreement.specs.Shows.{Shows}
+use Rattle.calm_election.specs.Terms.{TermsDoNotFall, TermsStay}
+use Rattle.calm_election.specs.Waits.{WaitsBeginThen}
+use Rattle.calm_election.proofs.WinsGrounds.{Always}
+use Rattle.calm_leader.specs.EntriesBelow.{EntryLaws}
+use Rattle.calm_leader.specs.LeadsOn.{LeadsIn}
+use Rattle.calm_leader.specs.NoElection.{NoElectionComes}
+use Rattle.calm_leader.proofs.EntriesJudged.{run_up}
+use Rattle.calm_leader.proofs.NextCall.{CallLaws}
+use Rattle.calm_leader.proofs.Stretches.{harmless_both}
+use Rattle.cluster_calm.specs.Calls.{CallsAreHeard, CallsReadAsSaid, CalmLeavesFollowers, ListsStay}
+use Rattle.cluster_calm.specs.CallsInTime.{LeadersCallInTime}
+use Rattle.cluster_spec.specs.Choices.{AgreesWithDisk}
+use Rattle.cluster_spec.specs.Cluster.{AreMembers, Cluster, after_rows, cluster, world_of}
+use Rattle.cluster_spec.specs.Lawful.{DoNoHarm}
+use Rattle.cluster_spec.specs.Members.MemberStatus.{Up}
+use Rattle.cluster_spec.specs.Refinement.{events, transfers_of_rows}
+
+-- no two members lead in one term
+abbrev pub OneLeads : List ℕ → Cluster → Type 0
+OneLeads ids w = (n m term : ℕ) → In n ids → In m ids → LeadsIn n term w → LeadsIn m term w → n ≡ m
+
+module _ (choice : ℕ → Bool) (made : List SentTransfer) (w : Cluster) (run : raft.World) (shows : Shows choice made w run) (codec : CodecLaws)
+    (inv : Invariants run) where
+  -- who leads is the leader of its term in the run that the rows show
+  leader_is : (n term : ℕ) → In n w.ids → LeadsIn n term w → run.history.leader term ≡ n
+  leader_is n term i leads =
+      let here : run.server n ≡ leads.server.raft_server = (run_up codec choice made w run shows n leads.server i leads.runs).runs.raft_server in
+      let led = inv.leaders.leading n (ap (λ (s : RaftServer). s.memory.role) here ∙ leads.leads) in
+      subst (λ (k : ℕ). run.history.leader k ≡ n) (ap (λ (s : RaftServer). s.store.term) here ∙ leads.its_term) led.1
+
+  pub one_leads : OneLeads w.ids w
+  one_leads n m term i j leads other = sym (leader_is n term i leads) ∙ leader_is m term j other
+
+-- behind these rows, and behind more rows that do no harm
+pub record LeadLaws (ids : List ℕ) (rows : List Row) : Type 0 where
+  pub calls : CallLaws ids rows
+  pub calls_then : (more : List Row) → DoNoHarm (world_of ids rows) more → CallLaws ids (rows ++ more)
+  pub hear : CallsAreHeard ids rows
+  pub terms : TermsStay ids rows
+  pub fall : TermsDoNotFall ids rows
+  pub begin : (more : List Row) → DoNoHarm (world_of ids rows) more → WaitsBeginThen ids (rows ++ more)
+  pub alone : (more : List Row) → DoNoHarm (world_of ids rows) more → OneLeads ids (world_of ids (rows ++ more))
+  pub node : (p : ℕ) (server : AllocatorState) → In p ids → ((world_of ids rows).member p).status ≡ Up server → server.me ≡ p
+  pub comes : NoElectionComes ids rows
+  pub entries : EntryLaws ids rows
+
+-- the laws below, of all rows that do no harm
+pub record Below : Type 0 where
+  pub me : (t : AllocatorState) (number : ℕ) (event : Event) → (step t number event).step_state.allocator.me ≡ t.me
+  pub stay : ListsStay
+  pub call : LeadersCallInTime
+  pub follow : CalmLeavesFollowers
+  pub read : Always CallsReadAsSaid
+  pub hear : Always CallsAreHeard
+  pub terms : Always TermsStay
+  pub fall : (ids : List ℕ) (rows : List Row) → TermsDoNotFall ids rows
+  pub begin : Always WaitsBeginThen
+  pub comes : Always NoElectionComes
+  pub entries : Always EntryLaws
+  pub codec : CodecLaws
+  pub invariants : InEveryRun Invariants
+  pub chosen : (ids : List ℕ) (rows : List Row) → AreMembers ids → DoNoHarm (cluster ids) rows → (choice : ℕ → Bool) × AgreesWithDisk choice (cluster ids) rows
+  pub shown : (choice : ℕ → Bool) (ids : List ℕ) (rows : List Row) → AreMembers ids → DoNoHarm (cluster ids) rows → AgreesWithDisk choice (cluster ids) rows
+      → Continues choice (transfers_of_rows (cluster ids) rows []) (world_of ids rows) (initial_world ids) (events choice (cluster ids) rows)
+  pub same : (w : Cluster) (rows : List Row) → (after_rows w rows).ids ≡ w.ids
+
+module _ (below : Below) (ids : List ℕ) (members : AreMembers ids) where
+  one_at_most : (list : List Row) → DoNoHarm (cluster ids) list → OneLeads ids (world_of ids list)
+  one_at_most list harmless =
+      let chosen = below.chosen ids list members harmless in
+      let all = events chosen.0 (cluster ids) list in
+      let shown = below.shown chosen.0 ids list members harmless chosen.1 in
+      subst (λ (l : List ℕ). OneLeads l (world_of ids list)) (below.same (cluster ids) list)
+      (one_leads chosen.0 (transfers_of_rows (cluster ids) list []) (world_of ids list) (run (initial_world ids) all) shown.shows below.codec
+      (below.invariants ids all shown.lawful))
+
+  call_laws : (list : List Row) → DoNoHarm (cluster ids) list → CallLaws ids list
+  call_laws list harmless = record {
+    me = below.me;
+    stay = below.stay;
+    call = below.call;
+    read = λ more still. below.read ids (list ++ more) members (harmless_both (cluster ids) list more harmless still);
+    follow = below.follow;
+  }
+
+  -- what stands on them stands
+  pub lead_laws : (rows : List Row) → DoNoHarm (cluster ids) rows → LeadLaws ids rows
+  lead_laws rows harmless =
+      let both = λ (more : List Row) (still : DoNoHarm (world_of ids rows) more). harmless_both (cluster ids) rows more harmless still in
+      record {
+        calls = call_laws rows harmless;
+        calls_then = λ more still. call_laws (rows ++ more) (both more still);
+        hear = below.hear ids rows members harmless;
+        terms = below.terms ids rows members harmless;
+        fall = below.fall ids rows;
+        begin = λ more still. below.begin ids (rows ++ more) members (both more still);
+        alone = λ more still. one_at_most (rows ++ more) (both more still);
+        node = (below.entries ids rows members harmless).node;
+        comes = below.comes ids rows members harmless;
+        entries = below.entries ids rows members harmless;
+      }

@@ -1,0 +1,5 @@
+pub mod Running
+pub mod Sent
+pub mod Rounds
+pub mod Calling
+pub mod Opened

@@ -1,0 +1,126 @@
+-- What a device hears in rows that do no harm has as many bytes of a unique ID as a member tells.
+use Rattle.std.proofs.Common.{◌≡◌, ℕ, Bool, false, List, [], ◌∷◌, ◌++◌, length, refl, sym, ◌∙◌, ap, subst, inl, inr, Option, None, Some}
+use Rattle.std.proofs.lemmas.Bool.Decides.{eqb_tells}
+use Rattle.alloc_exchange.specs.Exchange.{IsEndOfStage}
+use Rattle.allocatee.specs.Accepted as device
+use Rattle.allocatee.specs.Allocatee.{Device, answer_to, at_step}
+use Rattle.allocatee.specs.Judging.{arrival_judgement}
+use Rattle.can_frame.specs.declared.identifier.Ident.{Ident}
+use Rattle.can_frame.specs.declared.identifier.Kind.{Kind}
+use Rattle.can_frame.specs.declared.identifier.Kind.TheVariants.{Anonymous, Message as Broadcast, Request, Response}
+use Rattle.can_frame.specs.declared.mark.Mark.{Mark}
+use Rattle.can_frame.specs.declared.step.Judged.TheVariants.{Fine}
+use Rattle.can_frame.specs.declared.step.What.TheVariants.{Alloc}
+use Rattle.can_frame.specs.Kinds.{is_anonymous}
+use Rattle.dsdl_codec.specs.declared.allocation.Allocation.{Allocation}
+use Rattle.dsdl_codec.specs.Allocation.{allocation_of}
+use Rattle.raft_model.specs.Runs as raft
+use Rattle.replay_text.specs.declared.row.Row.{Row}
+use Rattle.replay_text.specs.declared.row.Row.TheVariants.{ARx}
+use Rattle.transfer_rx.specs.Acceptance.{first_signature}
+use Rattle.transfer_rx.specs.Reassembly.{Arrival, Delivery, Gives}
+use Rattle.transfer_rx.specs.Sound.{IsDelivered}
+use Rattle.alloc_spec.specs.Transfers.{SentTransfer}
+use Rattle.cluster_agreement.specs.Continues.{Continues}
+use Rattle.cluster_agreement.specs.Frames.{CameFrom, WasMade}
+use Rattle.cluster_agreement.specs.LawsBelow.{FrameLaws}
+use Rattle.cluster_agreement.specs.Shows.{Shows}
+use Rattle.cluster_agreement.proofs.DeliveredTransfers.{was_made}
+use Rattle.cluster_agreement.proofs.Idents.{IsWanted, one_what, wanted_is}
+use Rattle.cluster_agreement.proofs.OneRow.{is_fine, stands}
+use Rattle.cluster_agreement.proofs.OneRowMore.{grown, harmless as one_more_harmless}
+use Rattle.cluster_agreement.proofs.RowsWithoutEvents.{past_first}
+use Rattle.cluster_agreement.proofs.WholeTransfers.{forged_allocation}
+use Rattle.cluster_recovery.specs.Calm.{Timed, rows_in}
+use Rattle.calm_service.proofs.AllocationsMade.{AllMadeSized}
+use Rattle.calm_service.proofs.RequestsRows.{AllHearParts, HearsParts}
+use Rattle.cluster_spec.specs.Cluster.{AreMembers, Cluster, after_row, after_rows, arrival_at, cluster, frame_at, world_of}
+use Rattle.cluster_spec.specs.Lawful.{DoNoHarm, DoesNoHarm, absent, arrival_refusal_at, cause, no_allocatee, no_such_frame, or_else}
+use Rattle.cluster_spec.specs.Refinement.{events, transfers_of_rows}
+
+-- of what has a source a device hears Allocations alone
+only_allocations : (kind : Kind) (number s : ℕ) → first_signature device.rows kind number ≡ Some s → is_anonymous kind ≡ false → (kind ≡ Broadcast) × (number ≡ 1)
+unfolding device.rows
+only_allocations Broadcast number s e known = (refl, elim (eqb_tells 1 number) [ inl same ↦ sym same.1 | inr apart ↦ absurd (cc (rw apart.0 at e)) ])
+only_allocations Anonymous number s e known = absurd (cc (known))
+only_allocations Request number s e known = absurd (cc (e))
+only_allocations Response number s e known = absurd (cc (e))
+
+-- what is delivered to a device is not torn
+abbrev pub Untorn : Type 0
+Untorn = (d : Device) (arrival : Arrival) (delivery : Delivery) → arrival_judgement d arrival ≡ Fine → answer_to d arrival ≡ Gives delivery → delivery.whole ≡ false
+    → arrival.mark.step ≡ 0
+
+module _ (frame : FrameLaws) (untorn : Untorn) where
+  -- ---- one row
+
+  module _ (choice : ℕ → Bool) (made : List SentTransfer) (w : Cluster) (run : raft.World) (members : AreMembers w.ids) (shows : Shows choice made w run)
+      (sized : AllMadeSized made) (a : ℕ) where
+    module _ (k ms word : ℕ) (lawful : cause w (ARx a k ms word) ≡ None) (x : Device) (there : w.allocatee a ≡ Some x) (d : Delivery)
+        (gives : answer_to x (arrival_at (frame_at w.frames k) ms) ≡ Gives d) (known : is_anonymous d.ident.kind ≡ false) where
+      abbrev arrival : Arrival
+      arrival = arrival_at (frame_at w.frames k) ms
+
+      abbrev coming : Arrival
+      coming = at_step x (arrival_at (frame_at w.frames k) ms)
+
+      second : (no_such_frame w k ≡ None) × (arrival_refusal_at (w.allocatee a) (arrival_at (frame_at w.frames k) ms) ≡ None)
+      second =
+          let one = past_first (no_allocatee a) (or_else (absent w a) (or_else (no_such_frame w k) (arrival_refusal_at (w.allocatee a) (arrival_at (frame_at w.frames k) ms)))) lawful in
+          let two = past_first (absent w a) (or_else (no_such_frame w k) (arrival_refusal_at (w.allocatee a) (arrival_at (frame_at w.frames k) ms))) one.1 in
+          past_first (no_such_frame w k) (arrival_refusal_at (w.allocatee a) (arrival_at (frame_at w.frames k) ms)) two.1
+
+      fine : arrival_judgement x (arrival_at (frame_at w.frames k) ms) ≡ Fine
+      fine = is_fine (arrival_judgement x (arrival_at (frame_at w.frames k) ms))
+          (subst (λ (o : Option Device). arrival_refusal_at o (arrival_at (frame_at w.frames k) ms) ≡ None) there second.1)
+
+      its : IsDelivered device.setting x.sessions (at_step x (arrival_at (frame_at w.frames k) ms)) d
+      its = frame.delivered device.setting x.sessions (at_step x (arrival_at (frame_at w.frames k) ms)) d gives
+
+      wants : IsWanted device.rows 0 (at_step x (arrival_at (frame_at w.frames k) ms)).id its.w.ident
+      wants = wanted_is device.rows 0 (at_step x (arrival_at (frame_at w.frames k) ms)).id its.w its.accepted
+
+      broadcast : (d.ident.kind ≡ Broadcast) × (d.ident.number ≡ 1)
+      broadcast = only_allocations d.ident.kind d.ident.number wants.signature.0
+          (subst (λ (i : Ident). first_signature device.rows i.kind i.number ≡ Some wants.signature.0) (sym its.ident) wants.signature.1) known
+
+      came : CameFrom w.frames (at_step x (arrival_at (frame_at w.frames k) ms))
+      came = record { frame = frame_at w.frames k; there = stands w k second.0; id = refl; bytes = refl; mark = refl }
+
+      whose : WasMade made d
+      whose = was_made frame w.ids (λ n i. (members.nodes n i).0) (λ n i. (members.nodes n i).1) made shows.holds.transfers device.setting w.frames shows.bus x.sessions
+          (shows.asking a x there).heard (at_step x (arrival_at (frame_at w.frames k) ms)) came d gives
+          (λ torn. ap (λ (m : Mark). m.step) its.mark ∙ untorn x (arrival_at (frame_at w.frames k) ms) d fine gives torn)
+          (forged_allocation w.ids d.ident broadcast.0 broadcast.1) (inr broadcast.0)
+
+      parts : (message : Allocation) → allocation_of d.payload ≡ Some message → IsEndOfStage (length message.uid.items)
+      parts message says = sized whose.0 message whose.1 (one_what whose.0.offer.what Alloc Broadcast 1 (whose.2.kind ∙ broadcast.0) refl (whose.2.number ∙ broadcast.1) refl)
+          (ap allocation_of whose.2.payload ∙ says)
+
+    lawful_at : (k ms word : ℕ) → DoesNoHarm w (ARx a k ms word) → cause w (ARx a k ms word) ≡ None
+    lawful_at k ms word (inl e) = e
+    lawful_at k ms word (inr (stale, void)) = absurd (cc (void))
+
+    hears_parts : (row : Row) → DoesNoHarm w row → HearsParts a w row
+    hears_parts row harmless k ms word x d message is there gives known says =
+        parts k ms word (lawful_at k ms word (subst (DoesNoHarm w) is harmless)) x there d gives known message says
+
+  -- ---- all rows
+
+  module _ (ids : List ℕ) (members : AreMembers ids) (same_ids : (w : Cluster) (rows : List Row) → (after_rows w rows).ids ≡ w.ids)
+      (shown : (rows : List Row) → DoNoHarm (cluster ids) rows → (choice : ℕ → Bool)
+      × Continues choice (transfers_of_rows (cluster ids) rows []) (world_of ids rows) (raft.initial_world ids) (events choice (cluster ids) rows))
+      (sized : (rows : List Row) → DoNoHarm (cluster ids) rows → AllMadeSized (transfers_of_rows (cluster ids) rows [])) (a : ℕ) where
+    pub all_hear : (whole : List Timed) (done : List Row) (w : Cluster) → w ≡ world_of ids done → DoNoHarm (cluster ids) done → DoNoHarm w (rows_in whole) → AllHearParts a w whole
+    all_hear [] done w is before harmless = tt
+    all_hear (timed ∷ rest) done w is before harmless = (
+      subst (λ (v : Cluster). HearsParts a v timed.row) (sym is)
+          (hears_parts (shown done before).0 (transfers_of_rows (cluster ids) done []) (world_of ids done)
+          (raft.run (raft.initial_world ids) (events (shown done before).0 (cluster ids) done)) (subst AreMembers (sym (same_ids (cluster ids) done)) members)
+          (shown done before).1.shows (sized done before) a timed.row here),
+      all_hear rest (done ++ timed.row ∷ []) (after_row w timed.row) (ap (λ (v : Cluster). after_row v timed.row) is ∙ sym (grown (cluster ids) done timed.row))
+          (one_more_harmless (cluster ids) done timed.row before here) harmless.1,
+    )
+      where
+        here : DoesNoHarm (world_of ids done) timed.row
+        here = subst (λ (v : Cluster). DoesNoHarm v timed.row) is harmless.0
