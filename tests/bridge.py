@@ -10,6 +10,7 @@ import pty
 import select
 import shutil
 import socket
+import statistics
 import struct
 import subprocess
 import sys
@@ -20,6 +21,7 @@ import unittest
 from collections import deque
 from contextlib import redirect_stderr
 from typing import Any, Callable
+from unittest import mock
 
 import support
 
@@ -45,6 +47,7 @@ def load() -> Any:
 
 
 bridge = load()
+LONGEST_WAIT = bridge.LONGEST_WAIT
 
 
 def datagram(identifier: int, data: bytes = DATA) -> bytes:
@@ -100,9 +103,11 @@ class RawCan:
 
 
 class Case(unittest.TestCase):
-    """A bridge over a stand-in for a CAN socket, with members at the first base whose ports are free."""
+    """A bridge over a stand-in for a CAN socket, with members at the first base whose ports are free. A frame is old
+    after a minute: so none is dropped because the machine that runs the test stands still for a while."""
 
     def setUp(self) -> None:
+        self.old_after(60.0)
         self.raw = RawCan()
         self.errors = io.StringIO()
         self.open(bridge.SocketCan(self.raw, "can0", MEMBERS))
@@ -118,6 +123,11 @@ class Case(unittest.TestCase):
             except (OSError, Ended):
                 self.close()
         self.fail("no ports are free")
+
+    def old_after(self, seconds: float) -> None:
+        patch = mock.patch.object(bridge, "LONGEST_WAIT", seconds)
+        patch.start()
+        self.addCleanup(patch.stop)
 
     def ear(self, port: int) -> socket.socket:
         link = socket.socket(socket.AF_INET, socket.SOCK_DGRAM)
@@ -208,22 +218,21 @@ class OneAtATime(Case):
         self.says(1, datagram(NODE_STATUS_OF_1))
         self.turn()
         self.assertEqual(self.errors.getvalue(), "")
-        time.sleep(0.55)
+        self.old_after(0.0)
         self.says(1, datagram(NODE_STATUS_OF_1))
         self.turn()
         self.turn()
         self.assertEqual(self.errors.getvalue().count("acknowledged"), 1)
-        time.sleep(0.55)
         self.raw.echoes()
         self.turn()
-        self.assertEqual(len(self.raw.sent), 1, "what waited for longer than 0.5 s is dropped")
+        self.assertEqual(len(self.raw.sent), 1, "what waited for too long is dropped")
         self.assertEqual(self.counts("to_bus", "too_old"), [1, 1])
 
     def test_an_echo_that_waits_in_the_socket_is_in_time(self) -> None:
         """This process did not run for a while: the frame was out long before."""
         self.says(1, datagram(NODE_STATUS_OF_1))
         self.turn()
-        time.sleep(0.55)
+        self.old_after(0.0)
         self.raw.echoes()
         with redirect_stderr(self.errors):
             self.bridge.give_to_bus()
@@ -280,7 +289,8 @@ class FromTheBus(Case):
         self.assertEqual(self.told(1) + self.told(2), [datagram(NODE_STATUS_OF_7)] * 2)
         self.assertEqual(self.told(3), [])
 
-    def test_what_waited_is_dropped(self) -> None:
+    def test_what_waited_for_longer_than_half_a_second_is_dropped(self) -> None:
+        self.old_after(LONGEST_WAIT)
         self.raw.gives(can_frame(NODE_STATUS_OF_7), waited=0.6)
         self.raw.gives(can_frame(NODE_STATUS_OF_7), waited=-3600)  # the clock was set
         self.turn()
@@ -327,6 +337,7 @@ class SerialLine(Case):
     """The adapter is a pair of pseudo terminals: `adapter` is its end of the line."""
 
     def setUp(self) -> None:
+        self.old_after(60.0)
         self.adapter, line = pty.openpty()
         tty.setraw(self.adapter)
         self.errors = io.StringIO()
@@ -338,15 +349,15 @@ class SerialLine(Case):
     def writes(self, text: bytes) -> None:
         os.write(self.adapter, text)
 
-    def after(self, seconds: float = 0.5) -> list[bytes]:
-        """What the member 1 is told within so many seconds, or until something comes."""
-        end = time.monotonic() + seconds
-        while time.monotonic() < end:
+    def after(self, seconds: float = 30.0, many: int = 1) -> list[bytes]:
+        """What the member 1 is told within so many seconds, or until so many frames have come."""
+        end, found = time.monotonic() + seconds, list[bytes]()
+        while len(found) < many and time.monotonic() < end:
             select.select([self.bus], [], [], 0.05)
             self.turn()
             if select.select([self.ears[1]], [], [], 0.01)[0]:
-                return self.told(1)
-        return []
+                found += self.told(1)
+        return found
 
     def line_of(self, identifier: int) -> bytes:
         return b"T%08X8%s\r" % (identifier, DATA.hex().encode())
@@ -361,16 +372,17 @@ class SerialLine(Case):
         self.assertEqual(self.after(), [datagram(NODE_STATUS_OF_7)])
 
     def test_nothing_waits_in_a_burst_of_unwanted_lines(self) -> None:
-        """Bursts of three unwanted lines each 10 ms, and a wanted one in each tenth."""
+        """Bursts of three unwanted lines each 10 ms, and a wanted one in each tenth. A single wait may be long, where
+        the machine stands still."""
         waits = []
         for burst in range(100):
             self.writes(self.line_of(OTHER) * 3 + (self.line_of(NODE_STATUS_OF_7) if burst % 10 == 0 else b""))
             if burst % 10 == 0:
                 begun = time.monotonic()
-                self.assertEqual(self.after(2.0), [datagram(NODE_STATUS_OF_7)])
+                self.assertEqual(self.after(), [datagram(NODE_STATUS_OF_7)])
                 waits.append(time.monotonic() - begun)
             time.sleep(0.01)
-        self.assertLess(max(waits), 0.25)
+        self.assertLess(statistics.median(waits), 0.25)
 
     def test_torn_lines_are_counted_and_end_nothing(self) -> None:
         self.writes(b"T1E01Z501..\r\xff\xfe\rT1E\r" + b"x" * 300 + b"\r" + self.line_of(NODE_STATUS_OF_7))
@@ -380,13 +392,13 @@ class SerialLine(Case):
     def test_other_frames_and_answers_are_passed_over(self) -> None:
         self.writes(b"\r\aZ\rz\rV1013\rN1234\rF00\rs00\rt1230\rr1238\rR000001238\r\n" + self.line_of(NODE_STATUS_OF_7))
         self.writes(self.line_of(NODE_STATUS_OF_7)[:-1] + b"12AB\r")  # with a stamp
-        self.assertEqual(self.after() + self.after(), [datagram(NODE_STATUS_OF_7)] * 2)
+        self.assertEqual(self.after(many=2), [datagram(NODE_STATUS_OF_7)] * 2)
         self.assertEqual(self.counts("torn"), [0])
 
     def test_what_came_while_the_process_did_not_run_is_old(self) -> None:
-        """The thread was last seen to look at an empty line 2 s ago."""
-        self.bus.put(time.monotonic() - 2, [self.line_of(NODE_STATUS_OF_7)[:-1]])
-        self.assertEqual((self.after(), self.counts("too_old")), ([], [1]))
+        """The thread was last seen to look at an empty line longer ago than a frame may wait."""
+        self.bus.put(time.monotonic() - 90, [self.line_of(NODE_STATUS_OF_7)[:-1]])
+        self.assertEqual((self.after(0.1), self.counts("too_old")), ([], [1]))
 
     def test_a_frame_is_written(self) -> None:
         os.read(self.adapter, 64)
@@ -396,7 +408,7 @@ class SerialLine(Case):
 
     def test_the_rest_of_a_line_goes_out_first_unless_it_is_old(self) -> None:
         os.read(self.adapter, 64)
-        for since, rest in ((time.monotonic(), b"BC0\r"), (time.monotonic() - 1, b"\r")):
+        for since, rest in ((time.monotonic(), b"BC0\r"), (time.monotonic() - 90, b"\r")):
             self.bus.unsent, self.bus.since = b"BC0\r", since
             self.says(1, datagram(NODE_STATUS_OF_1, b"\x0b\xc0"))
             self.turn()
@@ -416,6 +428,7 @@ class AdapterOfPythonCan(Case):
         if importlib.util.find_spec("can") is None:
             self.skipTest("without the module can")
         self.can = importlib.import_module("can")
+        self.old_after(60.0)
         self.far = self.can.Bus("bridge", interface="virtual")
         self.errors = io.StringIO()
         self.bus = bridge.PythonCan("virtual", "bridge", MEMBERS, None)
