@@ -4,7 +4,6 @@ use Rattle.std.specs.Prelude.{max}
 use Rattle.alloc_exchange.specs.Exchange.{Accepted, answer}
 use Rattle.alloc_exchange.specs.declared.heard.Heard.TheVariants.{Whole}
 use Rattle.can_frame.specs.declared.entry.Entry.{Entry}
-use Rattle.can_frame.specs.Log.{log_limit}
 use Rattle.replay_text.specs.declared.row.Row.{Row}
 use Rattle.alloc_spec.specs.AllocatorState.{AllocatorState}
 use Rattle.alloc_spec.specs.Exchange.{may_follow}
@@ -14,13 +13,14 @@ use Rattle.cluster_calm.proofs.Pair.{same_server}
 use Rattle.calm_leader.specs.NoElection.{heard_within}
 use Rattle.calm_leader.proofs.Stretches.{end_both, world_both}
 use Rattle.calm_recovery.specs.ComeBack.{ClustersComeBack, IsBackBy, IsCalmOfTidy, SettlesBy, back_within}
+use Rattle.calm_recovery.specs.Restart.{settled_within}
 use Rattle.calm_recovery.proofs.BackFronts.{FirstLater}
 use Rattle.calm_recovery.proofs.BackGiven.{BackGiven, Scene, there, w0}
 use Rattle.calm_recovery.proofs.BackScenes.{has_called, scene}
 use Rattle.calm_recovery.proofs.BackSettles.{cut_all, lists, log, settles_or_grows}
 use Rattle.calm_rounds.specs.Rounds.{LeadersCome, led_within}
 use Rattle.calm_rounds.specs.Running.{IsLedBy}
-use Rattle.calm_service.specs.Settles.{GrowsBy, HasSettledBy, settle_within}
+use Rattle.calm_service.specs.Settles.{GrowsBy, HasSettledBy}
 use Rattle.calm_service.specs.Tidy.{AreMembersOnly, IsTidy, MembersStayTidy}
 use Rattle.calm_service.proofs.RecordedRows.{makes_none_whole}
 use Rattle.cluster_spec.specs.Cluster.{Cluster, after_rows, world_of}
@@ -45,8 +45,8 @@ none_grows g stay only first later cut its begins last by =
         (sym by.asked.comes.runs ∙ (ap (λ (v : Cluster). (v.member g.n).status) (sym (world_both (w0 g) first by.front)) ∙ is.runs))) ∙ is.requests
 
 module _ (ids : List ℕ) (rows : List Row) (given : BackGiven ids rows) (come : LeadersCome ids rows) (stay : MembersStayTidy ids rows) (group : List Party)
-    (clocks : Party → ℕ) (pace : Pace) (start : ℕ) (whole : List Timed) (k : IsCalmOfTidy ids rows group clocks pace start whole) (only : AreMembersOnly group)
-    (long : start + back_within pace (length ids) < end_of start whole) where
+    (clocks : Party → ℕ) (pace : Pace) (start longest : ℕ) (whole : List Timed) (k : IsCalmOfTidy ids rows group clocks pace start longest whole) (only : AreMembersOnly group)
+    (long : start + back_within pace (length ids) longest < end_of start whole) where
   long_led : start + led_within pace (length ids) < end_of start whole
   long_led = omega (arith, long)
 
@@ -54,14 +54,14 @@ module _ (ids : List ℕ) (rows : List Row) (given : BackGiven ids rows) (come :
   led = come group clocks pace start whole k.calm long_led
 
   abbrev g : Scene
-  g = scene ids rows given group clocks pace start whole k led
+  g = scene ids rows given group clocks pace start whole longest k led
 
   module _ (f : FirstLater pace.period (end_of start led.front) (end_of start led.front + heard_within pace + 2 * pace.delay) led.rest) where
-    long_settled : end_of start (led.front ++ f.front) + settle_within pace (2 * log_limit) log_limit < end_of start whole
+    long_settled : end_of start (led.front ++ f.front) + settled_within pace longest < end_of start whole
     long_settled = let e = end_both start led.front f.front in let a = f.near in let b = led.soon in omega (arith, e, a, b, long)
 
     settles : HasSettledBy g.n g.term (log g f.front f.rest f.split f.late) (clocks (OfMember g.n)) (end_of start (led.front ++ f.front))
-        (end_of start (led.front ++ f.front) + settle_within pace (2 * log_limit) log_limit) (there g (led.front ++ f.front)) f.rest
+        (end_of start (led.front ++ f.front) + settled_within pace longest) (there g (led.front ++ f.front)) f.rest
     settles = elim (settles_or_grows g f.front f.rest f.split f.late long_settled) [
       | inl by ↦ by
       | inr by ↦ absurd (none_grows g stay only (led.front ++ f.front) f.rest (cut_all g f.front f.rest f.split) _ _ _ by)
@@ -75,7 +75,7 @@ module _ (ids : List ℕ) (rows : List Row) (given : BackGiven ids rows) (come :
     same_world = world_both (there g led.front) f.front settles.front
         ∙ ap (λ (v : Cluster). after_rows v (rows_in settles.front)) (sym (world_both (world_of ids rows) led.front f.front))
 
-    back : SettlesBy led.n (clocks (OfMember led.n)) (end_of start led.front) (start + back_within pace (length ids))
+    back : SettlesBy led.n (clocks (OfMember led.n)) (end_of start led.front) (start + back_within pace (length ids) longest)
         (after_rows (world_of ids rows) (rows_in led.front)) led.rest
     back = record {
       front = f.front ++ settles.front;
@@ -93,9 +93,10 @@ module _ (ids : List ℕ) (rows : List Row) (given : BackGiven ids rows) (come :
           (subst (HasSettled led.n settles.log_then (end_of (end_of start (led.front ++ f.front)) settles.front + clocks (OfMember led.n))) (sym same_world) settles.settled);
     }
 
-  pub is_back : IsBackBy group clocks pace start (start + led_within pace (length ids)) (start + back_within pace (length ids)) (world_of ids rows) whole
+  pub is_back : IsBackBy group clocks pace start (start + led_within pace (length ids)) (start + back_within pace (length ids) longest) (world_of ids rows) whole
   is_back = record { led = led; settles = back (has_called g (let b = led.soon in omega (arith, b, long))) }
 
 -- the law
 pub clusters_come_back : (ids : List ℕ) (rows : List Row) → BackGiven ids rows → LeadersCome ids rows → MembersStayTidy ids rows → ClustersComeBack ids rows
-clusters_come_back ids rows given come stay group clocks pace start whole k only long = is_back ids rows given come stay group clocks pace start whole k only long
+clusters_come_back ids rows given come stay group clocks pace start longest whole k only long =
+    is_back ids rows given come stay group clocks pace start longest whole k only long

@@ -1,5 +1,5 @@
 -- What is so of members behind rows of a calm, from what is so of all lawful rows.
-use Rattle.std.proofs.Common.{◌≡◌, ℕ, Bool, List, ◌++◌, sym, subst}
+use Rattle.std.proofs.Common.{◌≡◌, ℕ, Bool, List, ◌++◌, sym, ◌∙◌, ap, subst}
 use Rattle.raft_model.specs.Fit.{IsFit}
 use Rattle.raft_model.specs.Invariants.{Invariants, SoundStore}
 use Rattle.raft_model.specs.Lists.{In}
@@ -9,8 +9,11 @@ use Rattle.replay_text.specs.declared.row.Row.{Row}
 use Rattle.alloc_spec.specs.AllocatorState.{AllocatorState}
 use Rattle.alloc_spec.specs.Transfers.{SentTransfer}
 use Rattle.cluster_agreement.specs.Shows.{Shows, ShowsMember, ShowsUp}
+use Rattle.cluster_agreement.proofs.Concatenations.{first_harmless}
+use Rattle.cluster_recovery.specs.Calm.{rows_in}
 use Rattle.cluster_recovery.proofs.Goes.{after_both}
-use Rattle.calm_leader.proofs.Stretches.{harmless_both}
+use Rattle.calm_leader.proofs.Stretches.{harmless_both, rows_both}
+use Rattle.calm_recovery.specs.ComeBack.{LogsStayWithinTheirLimit}
 use Rattle.calm_recovery.proofs.BackGiven.{BlanksAreAdded, IsFine}
 use Rattle.calm_service.specs.Settles.{LeadersAddTheirBlanks}
 use Rattle.calm_service.proofs.SettlesLaw.{is_fitting}
@@ -51,6 +54,14 @@ module _ (ids : List ℕ) (rows : List Row) (harmless : DoNoHarm (cluster ids) r
       → ((after_rows (world_of ids rows) more).member n).status ≡ Up t → IsFine t
   fine_behind shown same_members more n t fine listed up = is_fine (world_of ids (rows ++ more)) (shown (rows ++ more) (all_harmless more fine)) n t
       (subst (λ (l : List ℕ). In n l) (sym (same_members (rows ++ more))) listed) (up_all more n t up)
+
+  -- no log outgrows its limit
+  pub limit_behind : ((list : List Row) → DoNoHarm (cluster ids) list → IsShown (world_of ids list)) → ((list : List Row) → (world_of ids list).ids ≡ ids)
+      → LogsStayWithinTheirLimit ids rows
+  limit_behind shown same_members group whole listed fine front rest m server split i up =
+      (fine_behind shown same_members (rows_in front) m server
+      (first_harmless (world_of ids rows) (rows_in front) (rows_in rest) (subst (DoNoHarm (world_of ids rows)) (ap rows_in split ∙ rows_both front rest) fine))
+      (listed m i) up).fitting.last
 
   -- who leads has added its blank, behind more rows
   pub blanks_behind : ((list : List Row) → DoNoHarm (cluster ids) list → LeadersAddTheirBlanks ids list) → BlanksAreAdded ids rows

@@ -58,7 +58,8 @@ pub record Scene : Type 0 where
   pub pace : Pace
   pub start : ℕ
   pub whole : List Timed
-  pub calm : IsCalmOfTidy ids rows group clocks pace start whole
+  pub longest : ℕ
+  pub calm : IsCalmOfTidy ids rows group clocks pace start longest whole
   pub n : ℕ
   pub term : ℕ
   pub member : In (OfMember n) group

@@ -15,9 +15,9 @@ use Rattle.cluster_spec.specs.Cluster.{world_of}
 
 -- where a member leads and no election comes any more
 abbrev pub scene : (ids : List ℕ) (rows : List Row) → BackGiven ids rows → (group : List Party) (clocks : Party → ℕ) (pace : Pace) (start : ℕ)
-    (whole : List Timed) → IsCalmOfTidy ids rows group clocks pace start whole
+    (whole : List Timed) (longest : ℕ) → IsCalmOfTidy ids rows group clocks pace start longest whole
     → IsLedBy group clocks pace start (start + led_within pace (length ids)) (world_of ids rows) whole → Scene
-scene ids rows given group clocks pace start whole calm led = record {
+scene ids rows given group clocks pace start whole longest calm led = record {
   ids = ids;
   rows = rows;
   given = given;
@@ -26,6 +26,7 @@ scene ids rows given group clocks pace start whole calm led = record {
   pace = pace;
   start = start;
   whole = whole;
+  longest = longest;
   calm = calm;
   n = led.n;
   term = led.term;

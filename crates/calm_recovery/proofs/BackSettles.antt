@@ -2,7 +2,7 @@
 use Rattle.std.proofs.Common.{◌≡◌, ◌≢◌, ℕ, ◌+◌, ◌*◌, ◌<◌, ◌≤◌, arith, List, [], ◌∷◌, ◌++◌, length, append_assoc, append-nil, refl, sym, ◌∙◌, ap, subst, inl, inr}
 use Rattle.std.specs.Prelude.{◌⊎◌}
 use Rattle.can_frame.specs.declared.entry.Entry.{Entry}
-use Rattle.can_frame.specs.Log.{last_term, log_limit}
+use Rattle.can_frame.specs.Log.{last_term}
 use Rattle.raft_model.specs.Lists.{In, how_many}
 use Rattle.raft_model.specs.Server.{quorum}
 use Rattle.raft_model.specs.Server.Role.{Leader}
@@ -20,13 +20,14 @@ use Rattle.calm_leader.specs.LeadsOn.{IsLed, IsLedThroughout}
 use Rattle.calm_leader.specs.NoElection.{CallsFit, NoElection, heard_within}
 use Rattle.calm_leader.proofs.Stretches.{GoesOnFrom, calm_rest, rows_both, throughout_at, world_both}
 use Rattle.calm_recovery.specs.ComeBack.{HasRoomForBlank}
+use Rattle.calm_recovery.specs.Restart.{settled_within}
 use Rattle.calm_recovery.proofs.BackGiven.{IsFine, Scene, there, w0}
 use Rattle.calm_recovery.proofs.Fronts.{missed_rest, room_rest}
 use Rattle.calm_recovery.proofs.Others.{apart_in, as_many, not_alone, others_in}
 use Rattle.calm_rounds.specs.Running.{IsCalmOf}
 use Rattle.calm_service.specs.ServedTold.{HasRoomInSteps}
 use Rattle.calm_service.specs.Settled.{IsCalmUnder, NobodyIsMissed}
-use Rattle.calm_service.specs.Settles.{GrowsBy, HasComeToLead, HasSettledBy, IsToSettle, WaitsWithBlank, settle_within}
+use Rattle.calm_service.specs.Settles.{GrowsBy, HasComeToLead, HasSettledBy, IsToSettle, WaitsWithBlank}
 use Rattle.calm_service.specs.Tidy.{IsFit}
 use Rattle.cluster_spec.specs.Cluster.{Cluster, after_rows}
 use Rattle.cluster_spec.specs.Lawful.{DoNoHarm}
@@ -140,7 +141,7 @@ module _ (g : Scene) where
       pub is_fine : IsFine u
       is_fine = fine_at g.n g.member (g.front ++ few) later cut_all u is_fit.runs
 
-      module _ (long : end_of g.start (g.front ++ few) + settle_within g.pace (2 * log_limit) log_limit < end_of g.start g.whole) where
+      module _ (long : end_of g.start (g.front ++ few) + settled_within g.pace g.longest < end_of g.start g.whole) where
         blank_waits : u.raft_server.store.commit < length log → WaitsWithBlank g.ids g.n log u ⊎ (last_term log ≡ u.raft_server.store.term)
         blank_waits some = elim (g.given.blanks (rows_in (g.front ++ few)) g.n u (harmless_cut (g.front ++ few) later cut_all) (c.listed g.n g.member) is_fit.runs leads
             (room_at (g.front ++ few) later cut_all (omega (arith, long)) u is_fit.runs)) [
@@ -165,16 +166,20 @@ module _ (g : Scene) where
           discovery = is_fit.discovery;
         }
 
-        few_left : (m : ℕ) → calls_left u m ≤ 2 * log_limit
-        few_left m = let a = is_fine.fitting.next leads m in let b = is_fine.fitting.last in omega (arith, a, b)
+        -- its log is no longer than any log of the calm
+        short : length log ≤ g.longest
+        short = g.calm.logs (g.front ++ few) later g.n u cut_all g.member is_fit.runs
+
+        few_left : (m : ℕ) → calls_left u m ≤ 2 * g.longest
+        few_left m = let a = is_fine.fitting.next leads m in let b = short in omega (arith, a, b)
 
         module _ (one : ℕ) (next : List ℕ) (apart : (m : ℕ) → In m (one ∷ next) → In (OfMember m) g.group × (m ≢ g.n))
             (many : quorum g.ids ≤ how_many (is_one_of g.n (one ∷ next)) g.ids) where
-          to_settle : IsToSettle g.ids g.rows g.group g.clocks g.pace g.start g.n g.term log (2 * log_limit) log_limit (one ∷ next) (g.front ++ few) later
+          to_settle : IsToSettle g.ids g.rows g.group g.clocks g.pace g.start g.n g.term log (2 * g.longest) g.longest (one ∷ next) (g.front ++ few) later
           to_settle = record {
             under = under;
             new = new;
-            few = let f = is_fine.fitting.last in omega (arith, f);
+            few = let b = short in omega (arith, b);
             fits = subst (CallsFit g.n (w0 g)) cut_all (c.calls_fit g.n g.member);
             room = room_rest g.n (g.front ++ few) later (w0 g) (subst (HasRoomInSteps g.n (w0 g)) cut_all (g.calm.room g.n g.member));
             short = c.quick;
@@ -189,9 +194,9 @@ module _ (g : Scene) where
 
         abbrev pub Settles : Type 0
         Settles = HasSettledBy g.n g.term log (g.clocks (OfMember g.n)) (end_of g.start (g.front ++ few))
-            (end_of g.start (g.front ++ few) + settle_within g.pace (2 * log_limit) log_limit) (there g (g.front ++ few)) later
+            (end_of g.start (g.front ++ few) + settled_within g.pace g.longest) (there g (g.front ++ few)) later
             ⊎ GrowsBy g.n g.term log (g.clocks (OfMember g.n)) (end_of g.start (g.front ++ few))
-            (end_of g.start (g.front ++ few) + settle_within g.pace (2 * log_limit) log_limit) (there g (g.front ++ few)) later
+            (end_of g.start (g.front ++ few) + settled_within g.pace g.longest) (there g (g.front ++ few)) later
 
         -- it settles in time, or its log grows by then
         pub settles_or_grows : Settles
@@ -199,5 +204,5 @@ module _ (g : Scene) where
           where
             by : (others : List ℕ) → ((m : ℕ) → In m others → In (OfMember m) g.group × (m ≢ g.n)) → quorum g.ids ≤ how_many (is_one_of g.n others) g.ids → Settles
             by [] apart many = absurd (not_alone g.n g.ids g.given.members.once c.others many)
-            by (one ∷ next) apart many = g.given.settle g.group g.clocks g.pace g.start g.n g.term log (2 * log_limit) log_limit one next (g.front ++ few) later
+            by (one ∷ next) apart many = g.given.settle g.group g.clocks g.pace g.start g.n g.term log (2 * g.longest) g.longest one next (g.front ++ few) later
                 (to_settle one next apart many)

@@ -1,7 +1,7 @@
 -- A device that asks is served in time, whatever state the members are in.
 use Rattle.std.proofs.Common.{◌≡◌, ℕ, ◌+◌, ◌*◌, ◌<◌, ◌≤◌, arith, List, [], ◌∷◌, ◌++◌, length, append_assoc, sym, ◌∙◌, ap, subst, inl, inr}
 use Rattle.can_frame.specs.declared.entry.Entry.{Entry}
-use Rattle.can_frame.specs.Log.{HasUid, blank, log_limit}
+use Rattle.can_frame.specs.Log.{HasUid, blank}
 use Rattle.raft_core.specs.Taken.{proposal}
 use Rattle.replay_text.specs.declared.row.Row.{Row}
 use Rattle.alloc_spec.specs.AllocatorState.{AllocatorState}
@@ -13,6 +13,7 @@ use Rattle.cluster_calm.proofs.Pair.{same_server}
 use Rattle.calm_leader.specs.NoElection.{heard_within}
 use Rattle.calm_leader.proofs.Stretches.{GoesOnFrom, calm_first, end_both, end_last, not_before, world_both}
 use Rattle.calm_recovery.specs.ComeBack.{DevicesAreServed, IsCalmOfDevice, served_within, settled_in}
+use Rattle.calm_recovery.specs.Restart.{settled_within}
 use Rattle.calm_recovery.proofs.BackFronts.{FirstLater}
 use Rattle.calm_recovery.proofs.BackGiven.{BackGiven, IsFine, Scene, there, w0}
 use Rattle.calm_recovery.proofs.BackScenes.{has_called, scene}
@@ -22,7 +23,7 @@ use Rattle.calm_recovery.proofs.ServesLogs.{had_not, has_last, has_more}
 use Rattle.calm_rounds.specs.Rounds.{LeadersCome, led_within}
 use Rattle.calm_rounds.specs.Running.{IsLedBy}
 use Rattle.calm_service.specs.Asking.{HasIdBy}
-use Rattle.calm_service.specs.Settles.{GrowsBy, HasSettledBy, MayHaveBlank, settle_within}
+use Rattle.calm_service.specs.Settles.{GrowsBy, HasSettledBy, MayHaveBlank}
 use Rattle.cluster_spec.specs.Cluster.{Cluster, after_row, after_rows, world_of}
 
 -- a log, with a blank or not, has what it had
@@ -31,14 +32,14 @@ may_have had then_log term uid (inl e) h = subst (λ (l : List Entry). HasUid l 
 may_have had then_log term uid (inr e) h = subst (λ (l : List Entry). HasUid l uid) (sym e) (has_more had (blank term ∷ []) uid h)
 
 module _ (g : Scene) (s : ServesGiven g.ids g.rows) (a : ℕ) (uid : List ℕ) (preferred : ℕ)
-    (d : IsCalmOfDevice g.ids g.rows g.group g.clocks g.pace g.start a uid preferred g.whole)
+    (d : IsCalmOfDevice g.ids g.rows g.group g.clocks g.pace g.start g.longest a uid preferred g.whole)
     (old : end_of g.start g.front ≤ g.start + led_within g.pace (length g.ids))
-    (long : g.start + served_within g.pace (length g.ids) < end_of g.start g.whole) where
+    (long : g.start + served_within g.pace (length g.ids) g.longest < end_of g.start g.whole) where
   abbrev spent : ℕ
-  spent = settle_within g.pace (2 * log_limit) log_limit
+  spent = settled_within g.pace g.longest
 
   abbrev Serves : Type 0
-  Serves = HasIdBy a g.start (g.start + served_within g.pace (length g.ids)) (w0 g) g.whole
+  Serves = HasIdBy a g.start (g.start + served_within g.pace (length g.ids) g.longest) (w0 g) g.whole
 
   -- behind a front that is soon enough to settle once more
   abbrev Grows : List Timed → List Entry → List Timed → Type 0
@@ -46,7 +47,7 @@ module _ (g : Scene) (s : ServesGiven g.ids g.rows) (a : ℕ) (uid : List ℕ) (
 
   module _ (few later : List Timed) (cut : g.rest ≡ few ++ later)
       (late : end_of g.start g.front + heard_within g.pace + 2 * g.pace.delay < end_of (end_of g.start g.front) few)
-      (soon : end_of g.start (g.front ++ few) + spent ≤ g.start + led_within g.pace (length g.ids) + settled_in g.pace + settle_within g.pace (2 * log_limit) log_limit) where
+      (soon : end_of g.start (g.front ++ few) + spent ≤ g.start + led_within g.pace (length g.ids) + settled_in g.pace g.longest + settled_within g.pace g.longest) where
     goes_on : end_of g.start (g.front ++ few) + spent < end_of g.start g.whole
     goes_on = omega (arith, soon, long)
 
@@ -149,7 +150,7 @@ module _ (g : Scene) (s : ServesGiven g.ids g.rows) (a : ℕ) (uid : List ℕ) (
 
   -- the device is served behind the front at which all were called
   module _ (f : FirstLater g.pace.period (end_of g.start g.front) (end_of g.start g.front + heard_within g.pace + 2 * g.pace.delay) g.rest) where
-    soon_twice : end_of g.start (g.front ++ f.front) + 2 * spent ≤ g.start + led_within g.pace (length g.ids) + settled_in g.pace + settle_within g.pace (2 * log_limit) log_limit
+    soon_twice : end_of g.start (g.front ++ f.front) + 2 * spent ≤ g.start + led_within g.pace (length g.ids) + settled_in g.pace g.longest + settled_within g.pace g.longest
     soon_twice = let e = end_both g.start g.front f.front in let n = f.near in omega (arith, e, n, old)
 
     again : Grows (g.front ++ f.front) (log g f.front f.rest f.split f.late) f.rest → Serves
@@ -158,26 +159,26 @@ module _ (g : Scene) (s : ServesGiven g.ids g.rows) (a : ℕ) (uid : List ℕ) (
         (let e = end_more f.front f.rest f.split f.late soon by in let q = by.soon in let h = soon_twice in omega (arith, e, q, h))
         (λ twice. absurd (never_twice f.front f.rest f.split f.late soon by twice))
       where
-        soon : end_of g.start (g.front ++ f.front) + spent ≤ g.start + led_within g.pace (length g.ids) + settled_in g.pace + settle_within g.pace (2 * log_limit) log_limit
+        soon : end_of g.start (g.front ++ f.front) + spent ≤ g.start + led_within g.pace (length g.ids) + settled_in g.pace g.longest + settled_within g.pace g.longest
         soon = let h = soon_twice in omega (arith, h)
 
     pub served : Serves
     served = serves_or f.front f.rest f.split f.late (let h = soon_twice in omega (arith, h)) again
 
 module _ (ids : List ℕ) (rows : List Row) (given : BackGiven ids rows) (come : LeadersCome ids rows) (s : ServesGiven ids rows) (group : List Party)
-    (clocks : Party → ℕ) (pace : Pace) (start a : ℕ) (uid : List ℕ) (preferred : ℕ) (whole : List Timed)
-    (d : IsCalmOfDevice ids rows group clocks pace start a uid preferred whole) (long : start + served_within pace (length ids) < end_of start whole) where
+    (clocks : Party → ℕ) (pace : Pace) (start longest a : ℕ) (uid : List ℕ) (preferred : ℕ) (whole : List Timed)
+    (d : IsCalmOfDevice ids rows group clocks pace start longest a uid preferred whole) (long : start + served_within pace (length ids) longest < end_of start whole) where
   long_led : start + led_within pace (length ids) < end_of start whole
   long_led = omega (arith, long)
 
   abbrev led : IsLedBy group clocks pace start (start + led_within pace (length ids)) (world_of ids rows) whole
   led = come group clocks pace start whole d.calm.calm long_led
 
-  pub is_served : HasIdBy a start (start + served_within pace (length ids)) (world_of ids rows) whole
-  is_served = served (scene ids rows given group clocks pace start whole d.calm led) s a uid preferred d led.soon long
-      (has_called (scene ids rows given group clocks pace start whole d.calm led) (let b = led.soon in omega (arith, b, long)))
+  pub is_served : HasIdBy a start (start + served_within pace (length ids) longest) (world_of ids rows) whole
+  is_served = served (scene ids rows given group clocks pace start whole longest d.calm led) s a uid preferred d led.soon long
+      (has_called (scene ids rows given group clocks pace start whole longest d.calm led) (let b = led.soon in omega (arith, b, long)))
 
 -- the law
 pub devices_are_served : (ids : List ℕ) (rows : List Row) → BackGiven ids rows → LeadersCome ids rows → ServesGiven ids rows → DevicesAreServed ids rows
-devices_are_served ids rows given come s group clocks pace start a uid preferred whole d long =
-    is_served ids rows given come s group clocks pace start a uid preferred whole d long
+devices_are_served ids rows given come s group clocks pace start longest a uid preferred whole d long =
+    is_served ids rows given come s group clocks pace start longest a uid preferred whole d long

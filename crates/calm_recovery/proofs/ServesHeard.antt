@@ -5,7 +5,7 @@ use Rattle.std.proofs.lemmas.Nat.{mul-le}
 use Rattle.alloc_exchange.specs.Exchange.{answer}
 use Rattle.alloc_exchange.specs.declared.heard.Heard.TheVariants.{Whole}
 use Rattle.can_frame.specs.declared.entry.Entry.{Entry}
-use Rattle.can_frame.specs.Log.{HasPair, HasUid, blank, log_limit}
+use Rattle.can_frame.specs.Log.{HasPair, HasUid, blank}
 use Rattle.dsdl_codec.specs.declared.allocation.Allocation.{Allocation}
 use Rattle.raft_model.specs.Lists.{In, how_many}
 use Rattle.raft_model.specs.Server.{quorum}
@@ -22,6 +22,7 @@ use Rattle.calm_leader.specs.LeadsOn.{IsLedThroughout}
 use Rattle.calm_leader.specs.NoElection.{CallsFit, heard_within}
 use Rattle.calm_leader.proofs.Stretches.{calm_first, end_both, not_before, world_both}
 use Rattle.calm_recovery.specs.ComeBack.{IsCalmOfDevice, served_within, settled_in}
+use Rattle.calm_recovery.specs.Restart.{settled_within}
 use Rattle.calm_recovery.proofs.BackFronts.{pairs_rest}
 use Rattle.calm_recovery.proofs.BackGiven.{IsFine, Scene, there, w0}
 use Rattle.calm_recovery.proofs.BackSettles.{calm_cut, cut_all, fine_at, fit_at, goes_from, keeps, under}
@@ -35,7 +36,6 @@ use Rattle.calm_service.specs.Dialog.{HasNothingToSay, HasRoomToTell, HearsWhole
 use Rattle.calm_service.specs.Requests.{IsTellingCalm, TellBeginning, WholeIsTheDevices}
 use Rattle.calm_service.specs.Served.{HasPlaceFor, PairsFit}
 use Rattle.calm_service.specs.Settled.{IsAsked, IsCalmUnder}
-use Rattle.calm_service.specs.Settles.{settle_within}
 use Rattle.calm_service.specs.Tidy.{IsFit}
 use Rattle.cluster_spec.specs.Cluster.{Cluster, after_rows}
 use Rattle.cluster_spec.specs.Lawful.{DoNoHarm}
@@ -51,11 +51,11 @@ pub record ServesGiven (ids : List ℕ) (rows : List Row) : Type 0 where
   pub whole_is : WholeIsTheDevices ids rows
 
 -- a longer log takes longer
-serve_low : (pace : Pace) (places : ℕ) → places ≤ log_limit → serve_within pace places ≤ serve_within pace log_limit
-serve_low pace places low =
-    let few : 2 * (places + 1) + 1 ≤ 2 * (log_limit + 1) + 1 = omega (arith, low) in
-    let more = mul-le (4 * pace.delay) (2 * (places + 1) + 1) (4 * pace.delay) (2 * (log_limit + 1) + 1) (omega arith) few in
-    sum_low (4 * pace.delay * (2 * (places + 1) + 1)) (4 * pace.delay * (2 * (log_limit + 1) + 1)) more
+serve_low : (pace : Pace) (places longest : ℕ) → places ≤ longest → serve_within pace places ≤ serve_within pace longest
+serve_low pace places longest low =
+    let few : 2 * (places + 1) + 1 ≤ 2 * (longest + 1) + 1 = omega (arith, low) in
+    let more = mul-le (4 * pace.delay) (2 * (places + 1) + 1) (4 * pace.delay) (2 * (longest + 1) + 1) (omega arith) few in
+    sum_low (4 * pace.delay * (2 * (places + 1) + 1)) (4 * pace.delay * (2 * (longest + 1) + 1)) more
   where
     sum_low : (a b : ℕ) → a ≤ b → pace.period + a + 2 * pace.delay ≤ pace.period + b + 2 * pace.delay
     sum_low a b h = omega (arith, h)
@@ -64,7 +64,7 @@ same_device : (x y : Device) → Some x ≡ Some y → x ≡ y
 same_device x y e = cc e
 
 module _ (g : Scene) (s : ServesGiven g.ids g.rows) (a : ℕ) (uid : List ℕ) (preferred : ℕ)
-    (d : IsCalmOfDevice g.ids g.rows g.group g.clocks g.pace g.start a uid preferred g.whole) where
+    (d : IsCalmOfDevice g.ids g.rows g.group g.clocks g.pace g.start g.longest a uid preferred g.whole) where
   harmless_whole : (front rest : List Timed) → g.whole ≡ front ++ rest → DoNoHarm (w0 g) (rows_in (front ++ rest))
   harmless_whole front rest cut = subst (λ (l : List Timed). DoNoHarm (w0 g) (rows_in l)) cut g.calm.calm.harmless
 
@@ -102,8 +102,8 @@ module _ (g : Scene) (s : ServesGiven g.ids g.rows) (a : ℕ) (uid : List ℕ) (
       (late : end_of g.start g.front + heard_within g.pace + 2 * g.pace.delay < end_of (end_of g.start g.front) few)
       (early rest : List Timed) (split : later ≡ early ++ rest) (log : List Entry)
       (settled : HasSettled g.n log (end_of (end_of g.start (g.front ++ few)) early + g.clocks (OfMember g.n)) (after_rows (there g (g.front ++ few)) (rows_in early)))
-      (soon : end_of (end_of g.start (g.front ++ few)) early ≤ g.start + led_within g.pace (length g.ids) + settled_in g.pace + settle_within g.pace (2 * log_limit) log_limit)
-      (long : g.start + served_within g.pace (length g.ids) < end_of g.start g.whole) where
+      (soon : end_of (end_of g.start (g.front ++ few)) early ≤ g.start + led_within g.pace (length g.ids) + settled_in g.pace g.longest + settled_within g.pace g.longest)
+      (long : g.start + served_within g.pace (length g.ids) g.longest < end_of g.start g.whole) where
     -- the moment at which it has settled, and the world then
     abbrev moment : ℕ
     moment = end_of (end_of g.start (g.front ++ few)) early
@@ -134,25 +134,25 @@ module _ (g : Scene) (s : ServesGiven g.ids g.rows) (a : ℕ) (uid : List ℕ) (
     abbrev last : ℕ
     last = moment + time_to_be_heard_again g.pace
 
-    all_soon : last + serve_within g.pace log_limit ≤ g.start + served_within g.pace (length g.ids)
+    all_soon : last + serve_within g.pace g.longest ≤ g.start + served_within g.pace (length g.ids) g.longest
     all_soon = omega (arith, soon)
 
-    its_limit : length log ≤ log_limit
-    its_limit = subst (λ (l : List Entry). length l ≤ log_limit) settled.log_is (fine_at g g.n g.member ((g.front ++ few) ++ early) rest cut_early settled.server
-        (subst (λ (v : Cluster). (v.member g.n).status ≡ Up settled.server) (sym here_is) settled.runs)).fitting.last
+    is_short : length log ≤ g.longest
+    is_short = subst (λ (l : List Entry). length l ≤ g.longest) settled.log_is (g.calm.logs ((g.front ++ few) ++ early) rest g.n settled.server cut_early g.member
+        (subst (λ (v : Cluster). (v.member g.n).status ≡ Up settled.server) (sym here_is) settled.runs))
 
     abbrev served_at : ℕ
     served_at = last + serve_within g.pace (length log)
 
-    served_soon : served_at ≤ g.start + served_within g.pace (length g.ids)
-    served_soon = sums last (serve_within g.pace (length log)) (serve_within g.pace log_limit) (g.start + served_within g.pace (length g.ids))
-        (serve_low g.pace (length log) its_limit) all_soon
+    served_soon : served_at ≤ g.start + served_within g.pace (length g.ids) g.longest
+    served_soon = sums last (serve_within g.pace (length log)) (serve_within g.pace g.longest) (g.start + served_within g.pace (length g.ids) g.longest)
+        (serve_low g.pace (length log) g.longest is_short) all_soon
       where
         sums : (a b c e : ℕ) → b ≤ c → a + c ≤ e → a + b ≤ e
         sums a b c e h k = omega (arith, h, k)
 
-    before_end : (at : ℕ) → at ≤ g.start + served_within g.pace (length g.ids) → at < end_of moment rest
-    before_end at low = let e = end_is in chain at (g.start + served_within g.pace (length g.ids)) (end_of g.start g.whole) (end_of moment rest) low long e
+    before_end : (at : ℕ) → at ≤ g.start + served_within g.pace (length g.ids) g.longest → at < end_of moment rest
+    before_end at low = let e = end_is in chain at (g.start + served_within g.pace (length g.ids) g.longest) (end_of g.start g.whole) (end_of moment rest) low long e
       where
         chain : (a b c e : ℕ) → a ≤ b → b < c → e ≡ c → a < e
         chain a b c e h k same = omega (arith, h, k, same)
@@ -226,16 +226,16 @@ module _ (g : Scene) (s : ServesGiven g.ids g.rows) (a : ℕ) (uid : List ℕ) (
     -- ---- the device
 
     abbrev Serves : Type 0
-    Serves = HasIdBy a g.start (g.start + served_within g.pace (length g.ids)) (w0 g) g.whole
+    Serves = HasIdBy a g.start (g.start + served_within g.pace (length g.ids) g.longest) (w0 g) g.whole
 
-    has_id : (at : ℕ) → at ≤ g.start + served_within g.pace (length g.ids) → HasIdBy a moment at here rest → Serves
+    has_id : (at : ℕ) → at ≤ g.start + served_within g.pace (length g.ids) g.longest → HasIdBy a moment at here rest → Serves
     has_id at low by = record {
       front = ((g.front ++ few) ++ early) ++ by.front;
       rest = by.rest;
       split = cut_early ∙ (ap (λ (l : List Timed). ((g.front ++ few) ++ early) ++ l) by.split ∙ sym (append_assoc ((g.front ++ few) ++ early) by.front by.rest));
       soon =
           let e = end_both g.start ((g.front ++ few) ++ early) by.front ∙ ap (λ (m : ℕ). end_of m by.front) moment_is in
-          let q = by.soon in chain (end_of g.start (((g.front ++ few) ++ early) ++ by.front)) (end_of moment by.front) at (g.start + served_within g.pace (length g.ids)) e q low;
+          let q = by.soon in chain (end_of g.start (((g.front ++ few) ++ early) ++ by.front)) (end_of moment by.front) at (g.start + served_within g.pace (length g.ids) g.longest) e q low;
       device = by.device;
       there = ap (λ (v : Cluster). v.allocatee a) (world_both (w0 g) ((g.front ++ few) ++ early) by.front ∙ ap (λ (v : Cluster). after_rows v (rows_in by.front)) here_is)
           ∙ by.there;
@@ -271,7 +271,7 @@ module _ (g : Scene) (s : ServesGiven g.ids g.rows) (a : ℕ) (uid : List ℕ) (
         (has_pair settled.server.raft_server.store is_fine.store uid d.some store_has) in
         let quick = d.paced in
         let soon_told = all_soon in
-        let told_at : last + 2 * g.pace.delay ≤ g.start + served_within g.pace (length g.ids) = omega (arith, soon_told) in
+        let told_at : last + 2 * g.pace.delay ≤ g.start + served_within g.pace (length g.ids) g.longest = omega (arith, soon_told) in
         has_id (last + 2 * g.pace.delay) told_at
         (s.known g.group g.clocks g.pace g.start g.n a g.term uid preferred (slice_index_or settled.server.raft_server.store.log store_has.place (blank 0)).node log last
         (2 * g.pace.delay + g.clocks (OfDevice a)) (g.front ++ few) early rest under_early (omega (arith, quick)) hears pair told room
@@ -326,7 +326,7 @@ module _ (g : Scene) (s : ServesGiven g.ids g.rows) (a : ℕ) (uid : List ℕ) (
         ]
 
     -- it holds a node ID in time
-    pub serves : HasIdBy a g.start (g.start + served_within g.pace (length g.ids)) (w0 g) g.whole
+    pub serves : HasIdBy a g.start (g.start + served_within g.pace (length g.ids) g.longest) (w0 g) g.whole
     serves = by_device (here.allocatee a) refl
       where
         by_holds : (device : Device) → here.allocatee a ≡ Some device → (o : Option ℕ) → device.asking.holds ≡ o → Serves

@@ -16,11 +16,12 @@ use Rattle.calm_service.specs.Dialog.{HasRoomToTell}
 use Rattle.calm_service.specs.Requests.{TellsAt}
 use Rattle.calm_service.specs.Served.{HasPlaceFor, ListsAll, PairsFit}
 use Rattle.calm_service.specs.ServedTold.{HasRoomInSteps}
-use Rattle.calm_service.specs.Settles.{settle_within}
+use Rattle.calm_recovery.specs.Restart.{settled_within}
 use Rattle.calm_service.specs.Tidy.{AreMembersOnly, IsTidy, NoDiscoveryWaits}
 use Rattle.cluster_calm.specs.Calm.{Device as OfDevice, Member, Party}
 use Rattle.cluster_calm.specs.Comes.{Throughout}
 use Rattle.cluster_spec.specs.Cluster.{Cluster, after_rows, world_of}
+use Rattle.cluster_spec.specs.Lawful.{DoNoHarm}
 use Rattle.cluster_spec.specs.Members.MemberStatus.{Up}
 
 -- ---- where it begins
@@ -31,16 +32,29 @@ HasRoomForBlank m w = (server : AllocatorState) → (w.member m).status ≡ Up s
     server.raft_server.store.commit < length server.raft_server.store.log →
     length server.raft_server.store.log < log_limit
 
+-- behind each front of these rows no log of a member of the group has more entries than this
+abbrev pub LogsStayWithin : List Party → (longest : ℕ) → Cluster → List Timed → Type 0
+LogsStayWithin group longest w whole = (front rest : List Timed) (m : ℕ) (server : AllocatorState) →
+    whole ≡ front ++ rest → In (Member m) group → ((after_rows w (rows_in front)).member m).status ≡ Up server →
+    length server.raft_server.store.log ≤ longest
+
+-- No log has more entries than this in any rows that do no harm, however they go on.
+abbrev pub LogsStayWithinTheirLimit : List ℕ → List Row → Type 0
+LogsStayWithinTheirLimit ids rows = (group : List Party) (whole : List Timed) →
+    ((m : ℕ) → In (Member m) group → In m ids) → DoNoHarm (world_of ids rows) (rows_in whole) →
+    LogsStayWithin group log_limit (world_of ids rows) whole
+
 -- A calm as elections ask for it (`IsCalmOf`), in which the members are fit to serve when it begins: each is tidy, and
 -- no frame of a Discovery waits. Each has room in each of its steps for the frames of the next pair, and room for a
--- blank where it needs one. Which roles, terms and logs they have is not asked.
+-- blank where it needs one. No log has more entries than `longest`. Which roles, terms and logs they have is not asked.
 pub record IsCalmOfTidy (ids : List ℕ) (rows : List Row) (group : List Party) (clocks : Party → ℕ) (pace : Pace)
-    (start : ℕ) (whole : List Timed) : Type 0 where
+    (start longest : ℕ) (whole : List Timed) : Type 0 where
   pub calm : IsCalmOf ids rows group clocks pace start whole
   pub tidy : (m : ℕ) → In (Member m) group → IsTidy m (start + clocks (Member m)) (world_of ids rows)
   pub none_waits : NoDiscoveryWaits group (world_of ids rows)
   pub room : (m : ℕ) → In (Member m) group → HasRoomInSteps m (world_of ids rows) whole
   pub blanks : (m : ℕ) → In (Member m) group → Throughout (HasRoomForBlank m) (world_of ids rows) whole
+  pub logs : LogsStayWithin group longest (world_of ids rows) whole
 
 -- ---- it comes back
 
@@ -61,21 +75,21 @@ pub record IsBackBy (group : List Party) (clocks : Party → ℕ) (pace : Pace) 
       (after_rows w (rows_in led.front)) led.rest
 
 -- In milliseconds, so long it takes at most from the end of the elections until the leader has settled: until it has
--- called each other member and was answered, and until all of its log has come to them, is committed and told.
-abbrev pub settled_in : Pace → ℕ
-settled_in pace = heard_within pace + pace.period + 2 * pace.delay + settle_within pace (2 * log_limit) log_limit
+-- called each other member and was answered, and until all of its log, which has so many entries at most, has come to
+-- them, is committed and told.
+abbrev pub settled_in : Pace → (longest : ℕ) → ℕ
+settled_in pace longest = heard_within pace + pace.period + 2 * pace.delay + settled_within pace longest
 
 -- and so long from the beginning of the calm on, in a cluster of so many members
-abbrev pub back_within : Pace → (size : ℕ) → ℕ
-back_within pace size = led_within pace size + settled_in pace
+abbrev pub back_within : Pace → (size longest : ℕ) → ℕ
+back_within pace size longest = led_within pace size + settled_in pace longest
 
 -- In each such calm of members only: the cluster comes back in that time, or the calm is over by then.
 abbrev pub ClustersComeBack : List ℕ → List Row → Type 0
-ClustersComeBack ids rows = (group : List Party) (clocks : Party → ℕ) (pace : Pace) (start : ℕ)
-    (whole : List Timed) → IsCalmOfTidy ids rows group clocks pace start whole → AreMembersOnly group →
-    start + back_within pace (length ids) < end_of start whole →
-    IsBackBy group clocks pace start (start + led_within pace (length ids)) (start + back_within pace (length ids))
-    (world_of ids rows) whole
+ClustersComeBack ids rows = (group : List Party) (clocks : Party → ℕ) (pace : Pace) (start longest : ℕ)
+    (whole : List Timed) → IsCalmOfTidy ids rows group clocks pace start longest whole → AreMembersOnly group →
+    let last = start + back_within pace (length ids) longest in last < end_of start whole →
+    IsBackBy group clocks pace start (start + led_within pace (length ids)) last (world_of ids rows) whole
 
 -- ---- it serves a device
 
@@ -84,8 +98,8 @@ ClustersComeBack ids rows = (group : List Party) (clocks : Party → ℕ) (pace 
 -- can be told by each member, and each has room to tell it. Its unique ID is not all zero. Whichever log a member comes
 -- to have, it has the device's unique ID, or a place for it.
 pub record IsCalmOfDevice (ids : List ℕ) (rows : List Row) (group : List Party) (clocks : Party → ℕ) (pace : Pace)
-    (start a : ℕ) (uid : List ℕ) (preferred : ℕ) (whole : List Timed) : Type 0 where
-  pub calm : IsCalmOfTidy ids rows group clocks pace start whole
+    (start longest a : ℕ) (uid : List ℕ) (preferred : ℕ) (whole : List Timed) : Type 0 where
+  pub calm : IsCalmOfTidy ids rows group clocks pace start longest whole
   pub asks : IsAsking group a uid preferred (start + clocks (OfDevice a)) (world_of ids rows)
   pub tells : TellsAt a uid (world_of ids rows)
   pub some : uid ≢ zeros
@@ -100,13 +114,14 @@ pub record IsCalmOfDevice (ids : List ℕ) (rows : List Row) (group : List Party
 
 -- In milliseconds, so long it takes at most until the device holds a node ID. The leader may have to settle once more:
 -- where it has recorded the device's unique ID meanwhile. By then the others have nothing to tell.
-abbrev pub served_within : Pace → (size : ℕ) → ℕ
-served_within pace size = led_within pace size + settled_in pace + settle_within pace (2 * log_limit) log_limit
-    + time_to_be_heard_again pace + serve_within pace log_limit
+abbrev pub served_within : Pace → (size longest : ℕ) → ℕ
+served_within pace size longest = led_within pace size + settled_in pace longest + settled_within pace longest
+    + time_to_be_heard_again pace + serve_within pace longest
 
 -- In each such calm the device holds a node ID in that time, or the calm is over by then.
 abbrev pub DevicesAreServed : List ℕ → List Row → Type 0
-DevicesAreServed ids rows = (group : List Party) (clocks : Party → ℕ) (pace : Pace) (start a : ℕ) (uid : List ℕ)
-    (preferred : ℕ) (whole : List Timed) → IsCalmOfDevice ids rows group clocks pace start a uid preferred whole →
-    start + served_within pace (length ids) < end_of start whole →
-    HasIdBy a start (start + served_within pace (length ids)) (world_of ids rows) whole
+DevicesAreServed ids rows = (group : List Party) (clocks : Party → ℕ) (pace : Pace) (start longest a : ℕ)
+    (uid : List ℕ) (preferred : ℕ) (whole : List Timed) →
+    IsCalmOfDevice ids rows group clocks pace start longest a uid preferred whole →
+    let last = start + served_within pace (length ids) longest in last < end_of start whole →
+    HasIdBy a start last (world_of ids rows) whole

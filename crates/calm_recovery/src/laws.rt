@@ -2,6 +2,7 @@
 
 ghost use Rattle.calm_election.specs.Elections.{election_within};
 ghost use Rattle.calm_recovery.specs.ComeBack.{ClustersComeBack, DevicesAreServed};
+ghost use Rattle.calm_recovery.specs.ComeBack.{LogsStayWithinTheirLimit};
 ghost use Rattle.calm_recovery.specs.Restart.{ClustersInStepSettle, ComesBackBy, StartedClustersSettle};
 ghost use Rattle.calm_recovery.specs.Restart.{WinnersBeginAnew, settled_within};
 ghost use Rattle.calm_recovery.specs.RestartExample.{ClusterMayStart, members_only, no_entries, opened_at};
@@ -97,10 +98,14 @@ pub fn clusters_may_start()
 /// A cluster comes back in time, whatever state its members are in. In a calm of members only, in which each member
 /// runs and is fit to serve when it begins, whatever roles, terms and logs they have: within `led_within` a member
 /// leads and no election comes any more, and within `settled_in` more it has settled, with whatever log it has then; or
-/// the calm is over by then. No two members stand for election within eight delays of each other.
+/// the calm is over by then (`back`). No two members stand for election within eight delays of each other. The time
+/// depends on how many entries the logs have at most in the calm; they never have more than their limit of 127
+/// (`limit`).
 pub fn clusters_come_back()
-    ensures { (ids : List ℕ) (rows : List Row) → AreMembers ids → DoNoHarm (cluster ids) rows →
+    ensures back { (ids : List ℕ) (rows : List Row) → AreMembers ids → DoNoHarm (cluster ids) rows →
         ClustersComeBack ids rows }
+    ensures limit { (ids : List ℕ) (rows : List Row) → AreMembers ids → DoNoHarm (cluster ids) rows →
+        LogsStayWithinTheirLimit ids rows }
 {
     a_choice_fits();
     calls_return_in_rounds();
