@@ -8,9 +8,9 @@ pub mod Elected
 pub mod Following
 pub mod Fronts
 pub mod Others
+pub mod RestartCalm
 pub mod RestartComputed
 pub mod RestartMeets
-pub mod RestartMeetsRows
 pub mod RestartTests
 pub mod Returning
 pub mod Serves
@@ -19,3 +19,4 @@ pub mod ServesLogs
 pub mod Settling
 pub mod Started
 pub mod Winning
+pub mod ServiceComputed

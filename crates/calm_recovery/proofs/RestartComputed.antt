@@ -1,5 +1,5 @@
--- What is computed of the rows of `RestartExample`: each passes the tests of `RestartTests`; and the members when the
--- calm begins.
+-- What is computed of the rows of `RestartExample`: each passes the tests of `CalmTests` and of `RestartTests`; and the
+-- members when the calm begins.
 use Rattle.std.proofs.Common.{◌≡◌, ℕ, ◌+◌, arith, true, [], refl, sym, ap, subst, inl, inr, None}
 use Rattle.can_frame.specs.Cutting.{frames_of, payload_of}
 use Rattle.can_frame.specs.Identifier.{identifier_of}
@@ -18,20 +18,21 @@ use Rattle.alloc_spec.specs.AllocatorState.{AllocatorState}
 use Rattle.alloc_spec.specs.Delivered.{delivery_phase}
 use Rattle.alloc_spec.specs.Judging.{arrival_judgement, brings_void}
 use Rattle.alloc_spec.specs.Step.{all_nodes, step}
-use Rattle.cluster_calm.specs.Calm.{Device, Member, Party, no_traffic}
-use Rattle.cluster_calm.specs.CalmExample.{clocks, two}
+use Rattle.cluster_calm.specs.Calm.{Member, no_traffic}
+use Rattle.cluster_calm.specs.CalmExample.{clocks, some_uid, two}
 use Rattle.cluster_calm.proofs.Examples.{of_server}
 use Rattle.calm_election.specs.Elections.{HasJustOpened}
-use Rattle.calm_service.proofs.ServedTests.{all_lawful}
-use Rattle.calm_recovery.specs.RestartExample.{members_only, opened_at, opened_world, opening_rows, restart_rows}
-use Rattle.calm_recovery.proofs.RestartTests.{all_pass}
+use Rattle.calm_service.proofs.CalmTested.{number_in}
+use Rattle.calm_service.proofs.CalmTests.{all_lawful, all_pass, any_row}
+use Rattle.calm_recovery.specs.RestartExample.{members_only, no_entries, opened_at, opened_world, opening_rows, restart_pace, restart_rows}
+use Rattle.calm_recovery.proofs.RestartTests.{world_test}
 use Rattle.cluster_spec.specs.Cluster.{cluster}
 use Rattle.cluster_spec.specs.Members.MemberStatus.{Up}
 
 -- ---- the rows
 
 -- each row of the calm passes
-pub passed : all_pass (no_traffic opened_at) opened_world restart_rows ≡ true
+pub passed : all_pass members_only restart_pace (world_test members_only no_entries some_uid) any_row (no_traffic opened_at) opened_world restart_rows ≡ true
 unfolding step all_nodes next_query some_unknown candidates queued_frames next_out left_behind frames_of frame_step outcome fits_no_payload fits_no_part payload_of delivery_phase session_step session_for wanted identifier_of rows blocks_used bits_of crc_of divide number_of arrival_judgement brings_void
 passed = refl
 
@@ -68,11 +69,6 @@ unfolding step all_nodes next_query some_unknown candidates queued_frames next_o
 empty_2 = of_server (λ t. t.raft_server.store ≡ empty_store) (opened_world.member 2).status refl
 
 -- ---- both members
-
--- the number of a party
-abbrev pub number_in : Party → ℕ
-number_in (Member n) = n
-number_in (Device a) = a
 
 -- what holds of 1 and 2 holds of each member
 pub of_both : (Holds : ℕ → Type 0) → Holds 1 → Holds 2 → (n : ℕ) → In (Member n) members_only → Holds n

@@ -1,3 +1,4 @@
 pub mod ComeBack
 pub mod Restart
 pub mod RestartExample
+pub mod ServiceExample

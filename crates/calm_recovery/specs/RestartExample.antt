@@ -1,6 +1,6 @@
 -- Rows that meet the premises of a cluster that comes back in time: two members are opened at one moment, with empty
--- stores, and are told their list. One of them stands, wins, and leads on for as long as the law asks.
-use Rattle.std.specs.Prelude.{ℕ, ◌+◌, ◌<◌, true, List, [], ◌∷◌, ◌++◌, map}
+-- stores, and are told their list. One of them stands, wins, and leads on for as long as the laws ask.
+use Rattle.std.specs.Prelude.{ℕ, zero, suc, ◌+◌, ◌<◌, true, List, [], ◌∷◌, ◌++◌, length, map}
 use Rattle.raft_model.specs.Lists.{In}
 use Rattle.replay_text.specs.declared.row.Row.{Row}
 use Rattle.replay_text.specs.declared.row.Row.TheVariants.{Open, Rx, Send, Tick}
@@ -8,8 +8,11 @@ use Rattle.cluster_recovery.specs.Calm.{Pace, Timed, end_of}
 use Rattle.cluster_calm.specs.Calm.{Member, Party}
 use Rattle.cluster_calm.specs.CalmExample.{clocks, two}
 use Rattle.calm_election.specs.Elections.{IsAhead, election_within}
+use Rattle.calm_recovery.specs.ComeBack.{IsCalmOfTidy, back_within}
 use Rattle.calm_recovery.specs.Restart.{IsStart, settled_within}
+use Rattle.calm_rounds.specs.Rounds.{led_within}
 use Rattle.calm_rounds.specs.Running.{IsCalmOf}
+use Rattle.calm_service.specs.Tidy.{AreMembersOnly}
 use Rattle.cluster_spec.specs.Cluster.{AreMembers, Cluster, cluster, world_of}
 use Rattle.cluster_spec.specs.Lawful.{DoNoHarm}
 
@@ -31,7 +34,8 @@ members_only = Member 1 ∷ Member 2 ∷ []
 abbrev pub opened_at : ℕ
 opened_at = 0
 
--- A queue is empty within a millisecond, and a frame comes within one. At this pace the law asks for 5,976 ms.
+-- A queue is empty within a millisecond, and a frame comes within one. At this pace a cluster that starts in step comes
+-- back within 5,976 ms, and one in any state within 29,372 ms.
 abbrev pub restart_pace : Pace
 restart_pace = record { period = 490; delay = 1 }
 
@@ -69,28 +73,25 @@ abbrev pub election_rows : List Timed
 election_rows = both_read 2450 ++ to_2 2450 (3 ∷ 4 ∷ []) ++ to_1 2451 (5 ∷ [])
     ++ to_2 2452 (6 ∷ 7 ∷ []) ++ to_1 2453 (8 ∷ [])
 
--- At each of its ticks member 1 calls member 2, which answers; and now and then both send their NodeStatus.
-abbrev pub led_rows : List Timed
-led_rows = both_read 2940 ++ to_2 2940 (9 ∷ 10 ∷ 11 ∷ []) ++ to_1 2941 (12 ∷ 13 ∷ [])
-    ++ both_read 3430 ++ to_2 3430 (14 ∷ 15 ∷ []) ++ to_1 3431 (16 ∷ [])
-    ++ both_read 3920 ++ to_2 3920 (17 ∷ 18 ∷ []) ++ to_1 3921 (19 ∷ [])
-    ++ both_read 4410 ++ to_2 4410 (20 ∷ 21 ∷ 22 ∷ []) ++ to_1 4411 (23 ∷ 24 ∷ [])
+-- For three periods: at each tick member 1 calls member 2, in two frames, and it answers. At the first tick both send
+-- their NodeStatus, too. The first frame has number k.
+abbrev pub three_periods : (at k : ℕ) → List Timed
+three_periods at k = both_read at ++ to_2 at (k ∷ (k + 1) ∷ (k + 2) ∷ []) ++ to_1 (at + 1) ((k + 3) ∷ (k + 4) ∷ [])
+    ++ both_read (at + 490) ++ to_2 (at + 490) ((k + 5) ∷ (k + 6) ∷ []) ++ to_1 (at + 491) ((k + 7) ∷ [])
+    ++ both_read (at + 980) ++ to_2 (at + 980) ((k + 8) ∷ (k + 9) ∷ []) ++ to_1 (at + 981) ((k + 10) ∷ [])
 
--- So it goes on until the time of the law is over.
-abbrev pub last_rows : List Timed
-last_rows = both_read 4900 ++ to_2 4900 (25 ∷ 26 ∷ []) ++ to_1 4901 (27 ∷ [])
-    ++ both_read 5390 ++ to_2 5390 (28 ∷ 29 ∷ []) ++ to_1 5391 (30 ∷ [])
-    ++ both_read 5880 ++ to_2 5880 (31 ∷ 32 ∷ 33 ∷ []) ++ to_1 5881 (34 ∷ 35 ∷ [])
-    ++ both_read 5977
+-- so it goes on, so many times
+abbrev pub led_rows : (at k times : ℕ) → List Timed
+led_rows at k zero = []
+led_rows at k (suc times) = three_periods at k ++ led_rows (at + 1470) (k + 11) times
 
+-- It goes on until the time of the laws is over.
 abbrev pub restart_rows : List Timed
-restart_rows = waiting_rows ++ election_rows ++ led_rows ++ last_rows
+restart_rows = waiting_rows ++ election_rows ++ led_rows 2940 9 18 ++ both_read 29400
 
 -- ---- the premises
 
--- The rows meet each premise of `ClustersInStepSettle`. They are such a calm too (`rounds`) as the laws on members with
--- any roles, terms and logs ask for, and so meet all premises of `LeadersCome` but one: they are shorter than that law
--- gives a leader to come.
+-- The rows meet each premise of `ClustersInStepSettle`, of `LeadersCome` (`rounds`) and of `ClustersComeBack`.
 pub record ClusterMayStart : Type 0 where
   pub members : AreMembers two
   pub before : DoNoHarm (cluster two) opening_rows
@@ -99,3 +100,7 @@ pub record ClusterMayStart : Type 0 where
   pub long : opened_at + election_within restart_pace + settled_within restart_pace no_entries
       < end_of opened_at restart_rows
   pub rounds : IsCalmOf two opening_rows members_only clocks restart_pace opened_at restart_rows
+  pub long_to_be_led : opened_at + led_within restart_pace (length two) < end_of opened_at restart_rows
+  pub tidy : IsCalmOfTidy two opening_rows members_only clocks restart_pace opened_at no_entries restart_rows
+  pub only : AreMembersOnly members_only
+  pub long_to_be_back : opened_at + back_within restart_pace (length two) no_entries < end_of opened_at restart_rows

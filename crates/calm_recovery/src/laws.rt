@@ -1,17 +1,22 @@
 //! The laws of this crate, each the contract of a function that does nothing.
 
 ghost use Rattle.calm_election.specs.Elections.{election_within};
-ghost use Rattle.calm_recovery.specs.ComeBack.{ClustersComeBack, DevicesAreServed};
-ghost use Rattle.calm_recovery.specs.ComeBack.{LogsStayWithinTheirLimit};
+ghost use Rattle.calm_recovery.specs.ComeBack.{ClustersComeBack, DevicesAreServed, IsBackBy};
+ghost use Rattle.calm_recovery.specs.ComeBack.{LogsStayWithinTheirLimit, back_within, served_within};
 ghost use Rattle.calm_recovery.specs.Restart.{ClustersInStepSettle, ComesBackBy, StartedClustersSettle};
 ghost use Rattle.calm_recovery.specs.Restart.{WinnersBeginAnew, settled_within};
 ghost use Rattle.calm_recovery.specs.RestartExample.{ClusterMayStart, members_only, no_entries, opened_at};
 ghost use Rattle.calm_recovery.specs.RestartExample.{opened_world, restart_pace, restart_rows};
-ghost use Rattle.cluster_calm.specs.CalmExample.{clocks};
+ghost use Rattle.calm_recovery.specs.ServiceExample.{DevicesMayBeServedEarly, one_entry};
+ghost use Rattle.calm_recovery.specs.ServiceExample.{power_on_calm, power_on_world};
+ghost use Rattle.calm_rounds.specs.Rounds.{led_within};
+ghost use Rattle.calm_service.specs.Asking.{HasIdBy};
+ghost use Rattle.calm_service.specs.ServedExample.{served_pace};
+ghost use Rattle.cluster_calm.specs.CalmExample.{clocks, two};
 ghost use Rattle.cluster_spec.specs.Cluster.{AreMembers, cluster};
 ghost use Rattle.cluster_spec.specs.Lawful.{DoNoHarm};
 ghost use Rattle.replay_text.specs.declared.row.Row.{Row};
-ghost use Rattle.std.specs.Prelude.{List, ℕ, ◌+◌};
+ghost use Rattle.std.specs.Prelude.{List, length, ℕ, ◌+◌};
 
 use alloc_spec_laws::laws::members_of_a_step;
 use calm_election::laws::{elections_end, logs_stay_in_calm, terms_do_not_fall};
@@ -22,8 +27,8 @@ use calm_rounds::laws::{
 use calm_service::laws::{
     asking_devices_are_heard_out_in_calm, discoveries_miss_nobody,
     heard_devices_are_served_in_calm, heard_known_devices_are_told_in_calm, leaders_settle_in_calm,
-    members_stay_tidy, recorded_devices_are_served_in_calm, requests_are_the_devices,
-    who_follows_falls_silent, who_leads_has_come_to_lead,
+    members_stay_tidy, opened_members_are_tidy, recorded_devices_are_served_in_calm,
+    requests_are_the_devices, who_follows_falls_silent, who_leads_has_come_to_lead,
 };
 use cluster_agreement::below::what_a_step_keeps;
 use cluster_agreement::headline::{a_choice_fits, rows_are_shown, rows_grow_by_one};
@@ -80,21 +85,6 @@ pub fn clusters_in_step_settle()
     started_clusters_settle();
 }
 
-/// The premises of [`clusters_in_step_settle`] can be met together (`premises`): two members are opened at one moment,
-/// with empty stores, and are told their list. The rows are calm, do no harm, and go on for longer than the law asks;
-/// in them one member stands, wins, and leads on. So the cluster comes back in time (`back`). The rows are also such a
-/// calm as `calm_rounds` asks for in its laws on members with any roles, terms and logs, though shorter than the time
-/// in which a leader comes by [`calm_rounds::laws::leaders_come`].
-pub fn clusters_may_start()
-    ensures premises { ClusterMayStart }
-    ensures back { ComesBackBy members_only clocks restart_pace opened_at (opened_at + election_within restart_pace)
-        (opened_at + election_within restart_pace + settled_within restart_pace no_entries) opened_world restart_rows }
-{
-    calm_can_be();
-    clusters_in_step_settle();
-    opened_members_go_on_calmly();
-}
-
 /// A cluster comes back in time, whatever state its members are in. In a calm of members only, in which each member
 /// runs and is fit to serve when it begins, whatever roles, terms and logs they have: within `led_within` a member
 /// leads and no election comes any more, and within `settled_in` more it has settled, with whatever log it has then; or
@@ -146,4 +136,37 @@ pub fn devices_are_served()
     rows_grow_by_one();
     who_follows_falls_silent();
     who_leads_has_come_to_lead();
+}
+
+/// The premises of [`clusters_in_step_settle`], of [`calm_rounds::laws::leaders_come`] and of [`clusters_come_back`] can
+/// be met together (`premises`): two members are opened at one moment, with empty stores, and are told their list. The
+/// rows are calm, do no harm, and go on for longer than the laws ask; in them one member stands, wins, and leads on. So
+/// the cluster comes back in time, by each law (`back` by the first, `from_any_state` by the last).
+pub fn clusters_may_start()
+    ensures premises { ClusterMayStart }
+    ensures back { ComesBackBy members_only clocks restart_pace opened_at (opened_at + election_within restart_pace)
+        (opened_at + election_within restart_pace + settled_within restart_pace no_entries) opened_world restart_rows }
+    ensures from_any_state { IsBackBy members_only clocks restart_pace opened_at (opened_at + led_within restart_pace (length two))
+        (opened_at + back_within restart_pace (length two) no_entries) opened_world restart_rows }
+{
+    calm_can_be();
+    clusters_come_back();
+    clusters_in_step_settle();
+    opened_members_are_tidy();
+    opened_members_go_on_calmly();
+}
+
+/// The premises of [`devices_are_served`] can be met together (`premises`): two members and a device are opened at one
+/// moment. The device asks before anybody leads; then a member is elected and serves it; and the calm goes on for
+/// longer than the law asks. So the device holds a node ID in time (`served`).
+pub fn devices_may_be_served_early()
+    ensures premises { DevicesMayBeServedEarly }
+    ensures served { HasIdBy 1 opened_at (opened_at + served_within served_pace (length two) one_entry) power_on_world
+        power_on_calm }
+{
+    calm_can_be();
+    devices_are_served();
+    opened_members_are_tidy();
+    opened_members_go_on_calmly();
+    requests_are_the_devices();
 }

@@ -10,9 +10,11 @@
 //! who the members are. Where one of them wins an election ([`calm_election::laws::elections_end`] and
 //! [`calm_election::laws::who_is_ahead_wins`] say when), it begins anew ([`laws::winners_begin_anew`]), no other
 //! election comes, and it settles in time ([`laws::started_clusters_settle`], `specs/Restart`). So does a cluster
-//! whose members are in step when they start ([`laws::clusters_in_step_settle`]). The premises of that law can be met
-//! ([`laws::clusters_may_start`], `specs/RestartExample`); the same rows meet what elections in any state ask, but
-//! that they are not as long.
+//! whose members are in step when they start ([`laws::clusters_in_step_settle`]).
+//!
+//! The premises of these laws can be met: those on clusters by two members that are started
+//! ([`laws::clusters_may_start`], `specs/RestartExample`), and those on a device by the same beside a device
+//! ([`laws::devices_may_be_served_early`], `specs/ServiceExample`). The rows are computed.
 //!
 //! Why it holds: behind the row in which the winner comes to lead all others follow (`proofs/Following`), and hear it
 //! before their waits are over (`proofs/Elected`); each member was fit to serve from its opening on

@@ -56,9 +56,11 @@ pub mod ServedTold
 pub mod ServedToldWhole
 pub mod ServedToldRows
 pub mod ServedToldLaw
+pub mod CalmTests
+pub mod CalmTested
+pub mod CalmTestedRows
 pub mod ServedTests
 pub mod ServedMeets
-pub mod ServedMeetsRows
 pub mod ServedComputed
 pub mod SettlesOffice
 pub mod SettlesRows

@@ -1,7 +1,7 @@
 -- What is computed of the rows of `ServedExample`: each passes the tests of `ServedTests`; and the members when the calm
 -- begins.
 use Rattle.std.proofs.Common.{◌≡◌, ℕ, ◌+◌, ◌≤◌, arith, Bool, true, List, [], ◌∷◌, refl, sym, ap, subst, inl, inr, None}
-use Rattle.std.specs.Prelude.{◌==◌, ◌&&◌, ◌||◌, not}
+use Rattle.std.specs.Prelude.{◌==◌, ◌&&◌, ◌||◌, not, slice_index_or}
 use Rattle.alloc_exchange.specs.Exchange.{after as exchange_after, answer as exchange_answer}
 use Rattle.can_frame.specs.declared.step.What.TheVariants.{Alloc, App, AppQ}
 use Rattle.can_frame.specs.Cutting.{frames_of, payload_of}
@@ -31,23 +31,25 @@ use Rattle.allocatee.specs.Asking.{after_allocation, clock_phase as device_clock
 use Rattle.allocatee.specs.Judging.{arrival_judgement as device_judgement}
 use Rattle.cluster_recovery.specs.Calm.{HasSettled}
 use Rattle.cluster_calm.specs.Calm.{AreRunning, Device, IsRunning, Member, Party, no_traffic}
-use Rattle.cluster_calm.specs.CalmExample.{group, two}
+use Rattle.cluster_calm.specs.CalmExample.{group, some_uid, two}
 use Rattle.cluster_calm.specs.Calls.{Lists}
 use Rattle.cluster_calm.specs.Comes.{AreReady, MayComeFirst}
 use Rattle.cluster_calm.specs.Sessions.{Admits, AllAdmit}
 use Rattle.cluster_calm.proofs.Examples.{of_server, server_in, up_is}
 use Rattle.calm_leader.specs.Entries.{AreInStep, NoCallPends}
 use Rattle.calm_service.specs.Dialog.{HasNothingToSay}
-use Rattle.calm_service.specs.ServedExample.{before_rows, before_world, first_log, served_rows, served_start}
-use Rattle.calm_service.proofs.ServedMeets.{nil_is, or_true}
-use Rattle.calm_service.proofs.ServedTests.{all_lawful, all_pass, is_nil}
+use Rattle.calm_service.specs.Served.{HasPlaceFor}
+use Rattle.calm_service.specs.ServedExample.{before_rows, before_world, first_log, served_pace, served_rows, served_start}
+use Rattle.calm_service.proofs.CalmTested.{nil_is, number_in, or_true}
+use Rattle.calm_service.proofs.CalmTests.{all_lawful, all_pass, is_nil}
+use Rattle.calm_service.proofs.ServedTests.{receipt_test, world_test}
 use Rattle.cluster_spec.specs.Cluster.{cluster}
 use Rattle.cluster_spec.specs.Members.MemberStatus.{Up}
 
 -- ---- the rows
 
 -- each row of the calm passes
-pub passed : all_pass (no_traffic served_start) before_world served_rows ≡ true
+pub passed : all_pass group served_pace world_test receipt_test (no_traffic served_start) before_world served_rows ≡ true
 unfolding step all_nodes next_query some_unknown candidates queued_frames next_out left_behind frames_of frame_step outcome fits_no_payload fits_no_part payload_of delivery_phase session_step session_for wanted identifier_of rows blocks_used bits_of crc_of divide number_of device_step device_rows device_clock after_allocation arrival_judgement brings_void device_judgement exchange_answer exchange_after
 passed = refl
 
@@ -75,11 +77,6 @@ running_1 = record { server = server_in (before_world.member 1).status; runs = u
 running_2 : IsRunning 2 before_world
 unfolding step all_nodes next_query some_unknown candidates queued_frames next_out left_behind frames_of frame_step outcome fits_no_payload fits_no_part payload_of delivery_phase session_step session_for wanted identifier_of rows blocks_used bits_of crc_of divide number_of device_step device_rows device_clock after_allocation arrival_judgement brings_void device_judgement exchange_answer exchange_after
 running_2 = record { server = server_in (before_world.member 2).status; runs = up_2; faults = 0; disk = refl }
-
--- the number of a party
-abbrev number_in : Party → ℕ
-number_in (Member n) = n
-number_in (Device a) = a
 
 -- what holds of 1 and 2 holds of each member
 pub of_members : (Holds : ℕ → Type 0) → Holds 1 → Holds 2 → (n : ℕ) → In (Member n) group → Holds n
@@ -212,3 +209,36 @@ in_step = of_server (λ t. t.raft_server.memory.next 2 ≤ t.raft_server.memory.
 pub none_pends : NoCallPends 1 2 before_world
 unfolding step all_nodes next_query some_unknown candidates queued_frames next_out left_behind frames_of frame_step outcome fits_no_payload fits_no_part payload_of delivery_phase session_step session_for wanted identifier_of rows blocks_used bits_of crc_of divide number_of device_step device_rows device_clock after_allocation arrival_judgement brings_void device_judgement exchange_answer exchange_after
 none_pends = of_server (λ t. t.raft_server.memory.pending 2 ≡ None) (before_world.member 1).status refl
+
+-- ---- the device
+
+-- the number of a device
+abbrev device_of : Party → ℕ
+device_of (Member n) = 0
+device_of (Device a) = a
+
+-- device 1 is the only one of the group
+pub one_device : (b : ℕ) → In (Device b) group → b ≡ 1
+one_device b (inl i) = absurd (cc i)
+one_device b (inr (inl i)) = absurd (cc i)
+one_device b (inr (inr (inl i))) = ap device_of i
+one_device b (inr (inr (inr i))) = absurd i
+
+-- node ID 125 is left
+not_listed : In 125 two → ⊥
+not_listed (inl i) = omega (arith, i)
+not_listed (inr (inl i)) = omega (arith, i)
+not_listed (inr (inr i)) = i
+
+-- there is a place for the device in an empty log
+pub place : HasPlaceFor two first_log some_uid
+place = record {
+  whole = refl;
+  device = λ same. absurd (omega (arith, ap (λ (l : List ℕ). slice_index_or l 0 0) same));
+  new = λ has. absurd (omega (arith, has.within));
+  left = (
+    125,
+    record { least = omega arith; most = omega arith; other = not_listed; free = λ has. absurd (omega (arith, has.within)) },
+  );
+  room = omega arith;
+}

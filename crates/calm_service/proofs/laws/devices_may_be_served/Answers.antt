@@ -1,45 +1,43 @@
-use Rattle.std.proofs.Common.{◌≡◌, ◌≢◌, ℕ, ◌+◌, List, [], ◌∷◌, arith, refl, ap, sym, subst, inl, inr}
-use Rattle.std.specs.Prelude.{slice_index_or}
+use Rattle.std.proofs.Common.{◌≢◌, ℕ, ◌+◌, [], ◌∷◌, arith, refl, sym, subst, inl, inr}
 use Rattle.raft_model.specs.Lists.{In}
-use Rattle.cluster_calm.specs.Calm.{Device, Member, Party, no_traffic}
+use Rattle.cluster_recovery.specs.Calm.{rows_in}
+use Rattle.cluster_calm.specs.Calm.{Member}
 use Rattle.cluster_calm.specs.CalmExample.{clocks, group, receiver, sender, some_uid, two}
-use Rattle.cluster_calm.specs.Comes.{HasMemory}
+use Rattle.cluster_calm.specs.Comes.{HasMemory, Throughout}
 use Rattle.cluster_calm.specs.Devices.{DeviceHasMemory}
 use Rattle.calm_leader.specs.CallsComeBack.{HasPlace}
 use Rattle.calm_leader.specs.Entries.{AreInStep, CanExchange, NoCallPends}
 use Rattle.calm_service.specs.Dialog.{HasNothingToSay, HasRoomToTell}
+use Rattle.calm_service.specs.Settled.{NobodyIsMissed}
 use Rattle.calm_service.specs.ServedExample.{DevicesMayBeServed, before_rows, before_world, first_log, served_pace, served_rows, served_start}
-use Rattle.calm_service.proofs.ServedComputed.{first_answer, first_call, in_step, lawful_before, lists_1, lists_2, none_pends, none_waits, nothing_to_say, of_members, passed, ready_answers, ready_calls, running, settled}
-use Rattle.calm_service.proofs.ServedMeetsRows.{AllMeet, all_meet, are_calm, calls_fit, do_no_harm, has_room_in_steps, lawful_rows, led_behind, nobody_is_missed, pairs_fit, sends_short, throughout}
+use Rattle.calm_service.proofs.ServedComputed.{first_answer, first_call, in_step, lawful_before, lists_1, lists_2, none_pends, none_waits, nothing_to_say, of_members, one_device, passed, place, ready_answers, ready_calls, running, settled}
+use Rattle.calm_service.proofs.CalmTestedRows.{Worked, are_calm, behind, calls_fit, do_no_harm, has_room_in_steps, lawful_rows, of_rows, pairs_fit, sends_short, throughout}
+use Rattle.calm_service.proofs.ServedMeets.{WorldMeets, misses, world_is}
+use Rattle.calm_service.proofs.ServedTests.{receipt_test, world_test}
 use Rattle.calm_service.proofs.laws.devices_may_be_served.Goals as goal
-use Rattle.cluster_spec.specs.Cluster.{AreMembers, cluster}
+use Rattle.cluster_spec.specs.Cluster.{AreMembers, Cluster, after_rows, cluster}
 
--- each row of the calm is as asked
-all : AllMeet (no_traffic served_start) before_world served_rows
-all = all_meet served_rows (no_traffic served_start) before_world passed
+-- the rows, which pass
+abbrev worked : Worked
+worked = record {
+  group = group;
+  pace = served_pace;
+  world_test = world_test;
+  row_more = receipt_test;
+  start = served_start;
+  world = before_world;
+  rows = served_rows;
+  passed = passed;
+}
 
--- the number of a device
-abbrev device_of : Party → ℕ
-device_of (Member n) = 0
-device_of (Device a) = a
+-- what follows of each world holds throughout
+holds : (Holds : Cluster → Type 0) → ((w : Cluster) → WorldMeets w → Holds w) → Throughout Holds before_world served_rows
+holds Holds of_world = throughout worked Holds (λ w e. of_world w (world_is w e))
 
 -- the one follower
 of_follower : (Holds : ℕ → Type 0) → Holds 2 → (m : ℕ) → In m (2 ∷ []) → Holds m
 of_follower Holds second m (inl i) = subst Holds (sym i) second
 of_follower Holds second m (inr i) = absurd i
-
--- device 1 is the only one of the group
-one_device : (b : ℕ) → In (Device b) (Member 1 ∷ Member 2 ∷ Device 1 ∷ []) → b ≡ 1
-one_device b (inl i) = absurd (cc i)
-one_device b (inr (inl i)) = absurd (cc i)
-one_device b (inr (inr (inl i))) = ap device_of i
-one_device b (inr (inr (inr i))) = absurd i
-
--- node ID 125 is left
-not_listed : In 125 two → ⊥
-not_listed (inl i) = omega (arith, i)
-not_listed (inr (inl i)) = omega (arith, i)
-not_listed (inr (inr i)) = i
 
 -- the premises, from what `calm_can_be` says of the members and the group
 premises : AreMembers two → ((p : ℕ) → In (Member p) group → In p two) → DevicesMayBeServed
@@ -50,11 +48,11 @@ premises members listed = record {
     listed = listed;
     running = running;
     member = inl refl;
-    calm = are_calm served_rows (no_traffic served_start) before_world all;
-    harmless = do_no_harm served_rows (no_traffic served_start) before_world all;
-    led = λ front rest split. led_behind front rest served_rows (no_traffic served_start) before_world split all;
+    calm = are_calm worked;
+    harmless = do_no_harm worked;
+    led = λ front rest split. (world_is (after_rows before_world (rows_in front)) (behind worked front rest split)).led;
     lists = λ m i differs. lists_1 m (listed m i);
-    missed = nobody_is_missed served_rows (no_traffic served_start) before_world all;
+    missed = of_rows worked (NobodyIsMissed 1) (λ w. tt) (λ traffic w timed rest meets others. (misses w timed.row meets.more, others));
   };
   come = record {
     of_group = inr (inr (inl refl));
@@ -67,22 +65,13 @@ premises members listed = record {
     none_waits = none_waits;
     others = of_members (λ m. m ≢ 1 → HasNothingToSay m (served_start + clocks (Member m)) before_world) (λ other. absurd (other refl)) (λ other. nothing_to_say);
   };
-  place = record {
-    whole = refl;
-    device = λ same. absurd (omega (arith, ap (λ (l : List ℕ). slice_index_or l 0 0) same));
-    new = λ has. absurd (omega (arith, has.within));
-    left = (
-      125,
-      record { least = omega arith; most = omega arith; other = not_listed; free = λ has. absurd (omega (arith, has.within)) },
-    );
-    room = omega arith;
-  };
+  place = place;
   lists = lists_1;
   room = record {
-    memory = throughout (DeviceHasMemory 1) (λ w meets. meets.device) served_rows (no_traffic served_start) before_world all;
-    room = throughout (HasRoomToTell 1) (λ w meets. meets.tells) served_rows (no_traffic served_start) before_world all;
+    memory = holds (DeviceHasMemory 1) (λ w meets. meets.device);
+    room = holds (HasRoomToTell 1) (λ w meets. meets.tells);
   };
-  calls_fit = calls_fit served_rows (no_traffic served_start) before_world all;
+  calls_fit = calls_fit worked 1;
   followers = record {
     apart = of_follower (λ m. In (Member m) group × (m ≢ 1)) (inr (inl refl), λ same. absurd (omega (arith, same)));
     many = omega arith;
@@ -93,19 +82,19 @@ premises members listed = record {
       first_call = first_call;
       answers = ready_answers;
       first_answer = first_answer;
-      memory = throughout (HasMemory 1) (λ w meets. meets.memory) served_rows (no_traffic served_start) before_world all;
-      its_memory = throughout (HasMemory 2) (λ w meets. meets.its_memory) served_rows (no_traffic served_start) before_world all;
-      place = throughout (HasPlace 2) (λ w meets. meets.place) served_rows (no_traffic served_start) before_world all;
+      memory = holds (HasMemory 1) (λ w meets. meets.memory);
+      its_memory = holds (HasMemory 2) (λ w meets. meets.its_memory);
+      place = holds (HasPlace 2) (λ w meets. meets.place);
     });
     in_step = of_follower (λ m. AreInStep 1 m before_world) in_step;
     none_pends = of_follower (λ m. NoCallPends 1 m before_world) none_pends;
     have = λ m i leader up. omega arith;
   };
   quick = omega arith;
-  pairs_fit = pairs_fit served_rows (no_traffic served_start) before_world all;
-  short = sends_short served_rows (no_traffic served_start) before_world all;
+  pairs_fit = pairs_fit worked 1;
+  short = sends_short worked 1;
   long = omega arith;
-  room_in_steps = has_room_in_steps served_rows (no_traffic served_start) before_world all;
+  room_in_steps = has_room_in_steps worked 1;
   room_in_log = omega arith;
   long_to_commit = omega arith;
 }

@@ -1,0 +1,111 @@
+use Rattle.std.proofs.Common.{◌≡◌, ◌⊎◌, ℕ, arith, List, refl, subst, sym, ◌∙◌, inl, inr, Some}
+use Rattle.can_frame.specs.declared.entry.Entry.{Entry}
+use Rattle.raft_model.specs.Lists.{In}
+use Rattle.allocatee.specs.Allocatee.{Device as AskingDevice, opening}
+use Rattle.cluster_calm.specs.Calm.{Member}
+use Rattle.cluster_calm.specs.CalmExample.{clocks, group, some_uid, two}
+use Rattle.calm_service.specs.Requests.{DevicesThatComeTell, TellsParts}
+use Rattle.calm_service.specs.Served.{HasPlaceFor}
+use Rattle.calm_service.specs.ServedExample.{served_pace}
+use Rattle.calm_service.specs.Tidy.{OpenedMembersAreReady}
+use Rattle.calm_service.proofs.CalmTestedRows.{lawful_rows}
+use Rattle.calm_service.proofs.ServedComputed.{of_members, one_device, place}
+use Rattle.calm_recovery.specs.RestartExample.{opened_at}
+use Rattle.calm_recovery.specs.ServiceExample.{DevicesMayBeServedEarly, one_entry, power_on_calm, power_on_rows}
+use Rattle.calm_recovery.proofs.RestartCalm.{Restarted, are_ready, device_has_memory, is_tidy, pairs_all_fit, rooms_to_tell, tells_short, world_behind}
+use Rattle.calm_recovery.proofs.ServiceComputed.{can_tell, has_come, lawful_before, opened, passed}
+use Rattle.calm_recovery.proofs.laws.devices_may_be_served_early.Goals as goal
+use Rattle.calm_rounds.specs.Opened.{OpenedMembersGoOn}
+use Rattle.cluster_spec.specs.Cluster.{AreMembers, cluster}
+use Rattle.cluster_spec.specs.Lawful.{DoNoHarm}
+
+-- the members of the group
+of_two : (n : ℕ) → In (Member n) group → (n ≡ 1) ⊎ (n ≡ 2)
+of_two = of_members (λ n. (n ≡ 1) ⊎ (n ≡ 2)) (inl refl) (inr refl)
+
+listed : (n : ℕ) → In (Member n) group → In n two
+listed = of_members (λ n. In n two) (inl refl) (inr (inl refl))
+
+-- the rows, which pass
+abbrev worked : Restarted
+worked = record {
+  group = group;
+  pace = served_pace;
+  longest = one_entry;
+  uid = some_uid;
+  opening = power_on_rows;
+  start = opened_at;
+  rows = power_on_calm;
+  passed = passed;
+  of_two = of_two;
+  many = omega arith;
+  opened = opened;
+  quick = omega arith;
+  soon = omega arith;
+  room = omega arith;
+}
+
+-- the rows before the calm do no harm
+before : DoNoHarm (cluster two) power_on_rows
+before = lawful_rows power_on_rows (cluster two) lawful_before
+
+-- a device that is the same tells its parts
+same_tells : (d : AskingDevice) → opening some_uid 0 0 0 ≡ d → TellsParts some_uid (opening some_uid 0 0 0).asking → TellsParts some_uid d.asking
+same_tells d same = subst (λ (x : AskingDevice). TellsParts some_uid x.asking) same
+
+same_device : (x y : AskingDevice) → Some x ≡ Some y → x ≡ y
+same_device x y e = cc e
+
+-- the premises, from what other laws say of members that were just opened, and of a device that has just come
+premises : AreMembers two → OpenedMembersGoOn two power_on_rows → OpenedMembersAreReady two → DevicesThatComeTell → DevicesMayBeServedEarly
+premises members go_on ready tell = record {
+  members = members;
+  before = before;
+  calm = record {
+    calm = is_tidy worked go_on ready listed;
+    asks = record {
+      of_group = inr (inr (inl refl));
+      alone = one_device;
+      whole = refl;
+      small = omega arith;
+      device = opening some_uid 0 0 0;
+      there = has_come;
+      its_uid = refl;
+      prefers = refl;
+      clock = omega arith;
+    };
+    tells = λ d there. same_tells d (same_device (opening some_uid 0 0 0) d (sym has_come ∙ there)) (tell some_uid 0 0 0 (omega arith));
+    some = place.device;
+    told = λ m i. record {
+      of_group = inr (inr (inl refl));
+      ready = (can_tell m i).0;
+      begins = (can_tell m i).1;
+      memory = device_has_memory worked;
+      short = tells_short worked m;
+    };
+    room = rooms_to_tell worked;
+    fits = λ m i. pairs_all_fit worked m;
+    lists = λ m i. (are_ready worked ready listed m i).lists;
+    place = λ front rest m server split i up has_not. elim ((world_behind worked front rest split).members m i server up).log [
+      | inl none ↦ subst (λ (log : List Entry). HasPlaceFor two log some_uid) (sym none) place
+      | inr has ↦ absurd (has_not has)
+    ];
+    paced = omega arith;
+  };
+  long = omega arith;
+}
+
+-- they hold
+hold : goal.After-requests_are_the_devices → DevicesMayBeServedEarly
+hold c =
+    let members = c.calm_can_be.ensures.members in
+    premises members (c.opened_members_go_on_calmly.ensures two power_on_rows members before) (c.opened_members_are_tidy.ensures.opened two members)
+    c.requests_are_the_devices.ensures.comes
+
+pub returns-clause-premises : goal.returns-clause-premises
+returns-clause-premises c = hold c
+
+pub returns-clause-served : goal.returns-clause-served
+returns-clause-served c =
+    let p = hold c in
+    c.devices_are_served.ensures two power_on_rows p.members p.before group clocks served_pace opened_at one_entry 1 some_uid 0 power_on_calm p.calm p.long
