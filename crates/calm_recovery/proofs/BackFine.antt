@@ -1,8 +1,9 @@
 -- What is so of members behind rows of a calm, from what is so of all lawful rows.
-use Rattle.std.proofs.Common.{◌≡◌, ℕ, Bool, List, ◌++◌, sym, ◌∙◌, ap, subst}
+use Rattle.std.proofs.Common.{◌≡◌, ℕ, Bool, List, ◌++◌, length, sym, ◌∙◌, ap, subst}
 use Rattle.raft_model.specs.Fit.{IsFit}
 use Rattle.raft_model.specs.Invariants.{Invariants, SoundStore}
-use Rattle.raft_model.specs.Lists.{In}
+use Rattle.raft_model.specs.Lists.{In, how_many}
+use Rattle.raft_model.specs.Members.{IsAll}
 use Rattle.raft_model.specs.Runs as raft
 use Rattle.raft_model.specs.Server.{RaftServer}
 use Rattle.replay_text.specs.declared.row.Row.{Row}
@@ -14,7 +15,8 @@ use Rattle.cluster_recovery.specs.Calm.{rows_in}
 use Rattle.cluster_recovery.proofs.Goes.{after_both}
 use Rattle.calm_leader.proofs.Stretches.{harmless_both, rows_both}
 use Rattle.calm_recovery.specs.ComeBack.{LogsStayWithinTheirLimit}
-use Rattle.calm_recovery.proofs.BackGiven.{BlanksAreAdded, IsFine}
+use Rattle.calm_election.proofs.ElectionsEnd.{lists_all}
+use Rattle.calm_recovery.proofs.BackGiven.{BlanksAreAdded, IsFine, WhoKnowsAllListsAll}
 use Rattle.calm_service.specs.Settles.{LeadersAddTheirBlanks}
 use Rattle.calm_service.proofs.SettlesLaw.{is_fitting}
 use Rattle.cluster_spec.specs.Cluster.{Cluster, after_rows, cluster, world_of}
@@ -31,14 +33,17 @@ pub record IsShown (w : Cluster) : Type 0 where
   pub invariants : Invariants run
   pub fit : (member : ℕ) → IsFit member (run.server member)
 
+-- so it shows each member that runs
+shown_up : (w : Cluster) (is : IsShown w) (n : ℕ) (t : AllocatorState) → In n w.ids → (w.member n).status ≡ Up t
+    → ShowsUp is.made w.ids w.frames is.run n t (w.member n).disk
+shown_up w is n t listed up =
+    subst (λ (status : MemberStatus). ShowsMember is.choice is.made w.ids w.frames is.run n status (w.member n).disk) up (is.shows.lives n listed)
+
 is_fine : (w : Cluster) → IsShown w → (n : ℕ) (t : AllocatorState) → In n w.ids → (w.member n).status ≡ Up t → IsFine t
 is_fine w is n t listed up = record {
   fitting = is_fitting is.choice is.made w is.run is.shows is.invariants is.fit n t listed up;
-  store = subst (λ (s : RaftServer). SoundStore s.store) shown.runs.raft_server (is.invariants.stores n);
+  store = subst (λ (s : RaftServer). SoundStore s.store) (shown_up w is n t listed up).runs.raft_server (is.invariants.stores n);
 }
-  where
-    shown : ShowsUp is.made w.ids w.frames is.run n t (w.member n).disk
-    shown = subst (λ (status : MemberStatus). ShowsMember is.choice is.made w.ids w.frames is.run n status (w.member n).disk) up (is.shows.lives n listed)
 
 module _ (ids : List ℕ) (rows : List Row) (harmless : DoNoHarm (cluster ids) rows) where
   all_harmless : (more : List Row) → DoNoHarm (world_of ids rows) more → DoNoHarm (cluster ids) (rows ++ more)
@@ -54,6 +59,17 @@ module _ (ids : List ℕ) (rows : List Row) (harmless : DoNoHarm (cluster ids) r
       → ((after_rows (world_of ids rows) more).member n).status ≡ Up t → IsFine t
   fine_behind shown same_members more n t fine listed up = is_fine (world_of ids (rows ++ more)) (shown (rows ++ more) (all_harmless more fine)) n t
       (subst (λ (l : List ℕ). In n l) (sym (same_members (rows ++ more))) listed) (up_all more n t up)
+
+  -- who knows all members lists each
+  pub lists_behind : ((list members : List ℕ) (test : ℕ → Bool) → IsAll list members → how_many test list ≡ how_many test members)
+      → ((list : List Row) → DoNoHarm (cluster ids) list → IsShown (world_of ids list)) → ((list : List Row) → (world_of ids list).ids ≡ ids)
+      → WhoKnowsAllListsAll ids rows
+  lists_behind count shown same_members more n t fine listed up knows =
+      let all = rows ++ more in
+      let same = same_members all in
+      let its = shown_up (world_of ids all) (shown all (all_harmless more fine)) n t (subst (λ (l : List ℕ). In n l) (sym same) listed) (up_all more n t up) in
+      lists_all count ids t knows (its.runs.size ∙ ap (λ (l : List ℕ). length l) same)
+      (λ node i. subst (λ (l : List ℕ). In node l) same (its.works.among node i))
 
   -- no log outgrows its limit
   pub limit_behind : ((list : List Row) → DoNoHarm (cluster ids) list → IsShown (world_of ids list)) → ((list : List Row) → (world_of ids list).ids ≡ ids)

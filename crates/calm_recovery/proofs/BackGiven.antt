@@ -1,12 +1,12 @@
 -- What the return of a cluster stands on, and a leader from which on no election comes.
-use Rattle.std.proofs.Common.{◌≡◌, ℕ, ◌<◌, List, ◌++◌, length}
+use Rattle.std.proofs.Common.{◌≡◌, ℕ, ◌<◌, true, List, ◌++◌, length}
 use Rattle.std.specs.Prelude.{◌⊎◌}
 use Rattle.can_frame.specs.Log.{last_term, log_limit}
 use Rattle.raft_model.specs.Invariants.{SoundStore}
 use Rattle.raft_model.specs.Lists.{In}
 use Rattle.raft_model.specs.Server.Role.{Leader}
 use Rattle.replay_text.specs.declared.row.Row.{Row}
-use Rattle.alloc_spec.specs.AllocatorState.{AllocatorState}
+use Rattle.alloc_spec.specs.AllocatorState.{AllocatorState, knows_all, members_of}
 use Rattle.cluster_recovery.specs.Calm.{Pace, Timed, end_of, rows_in}
 use Rattle.cluster_calm.specs.Calm.{Member as OfMember, Party}
 use Rattle.calm_leader.specs.NoElection.{NoElection}
@@ -33,11 +33,17 @@ BlanksAreAdded ids rows = (more : List Row) (n : ℕ) (t : AllocatorState) → D
     (t.raft_server.store.commit ≡ length t.raft_server.store.log)
     ⊎ (WaitsWithBlank ids n t.raft_server.store.log t ⊎ (last_term t.raft_server.store.log ≡ t.raft_server.store.term))
 
+-- a member that knows all members lists each
+abbrev pub WhoKnowsAllListsAll : List ℕ → List Row → Type 0
+WhoKnowsAllListsAll ids rows = (more : List Row) (n : ℕ) (t : AllocatorState) → DoNoHarm (world_of ids rows) more → In n ids →
+    ((after_rows (world_of ids rows) more).member n).status ≡ Up t → knows_all t ≡ true → (p : ℕ) → In p ids → In p (members_of t)
+
 -- what it stands on
 pub record BackGiven (ids : List ℕ) (rows : List Row) : Type 0 where
   pub members : AreMembers ids
   pub fine : (more : List Row) (n : ℕ) (t : AllocatorState) → DoNoHarm (world_of ids rows) more → In n ids →
       ((after_rows (world_of ids rows) more).member n).status ≡ Up t → IsFine t
+  pub lists : WhoKnowsAllListsAll ids rows
   pub blanks : BlanksAreAdded ids rows
   pub calling : LeadersGoOnCalling ids rows
   pub return : CallsReturnInRounds ids rows

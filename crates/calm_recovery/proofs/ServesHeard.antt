@@ -33,8 +33,8 @@ use Rattle.calm_service.specs.Asking.{AskingDevicesAreHeardOut, HasIdBy, HasNoId
 use Rattle.calm_service.specs.AskingKnown.{HeardKnownDevicesAreTold, RecordedDevicesAreServed, WhoFollowsFallsSilent}
 use Rattle.calm_service.specs.AskingServed.{CanBeTold, CanCommitWith, HeardDevicesAreServed, serve_within}
 use Rattle.calm_service.specs.Dialog.{HasNothingToSay, HasRoomToTell, HearsWholeBy}
-use Rattle.calm_service.specs.Requests.{IsTellingCalm, TellBeginning, WholeIsTheDevices}
-use Rattle.calm_service.specs.Served.{HasPlaceFor, PairsFit}
+use Rattle.calm_service.specs.Requests.{DevicesTellParts, IsTellingCalm, TellBeginning, TellsAt, TellsParts, WholeIsTheDevices}
+use Rattle.calm_service.specs.Served.{HasPlaceFor, ListsAll, PairsFit}
 use Rattle.calm_service.specs.Settled.{IsAsked, IsCalmUnder}
 use Rattle.calm_service.specs.Tidy.{IsFit}
 use Rattle.cluster_spec.specs.Cluster.{Cluster, after_rows}
@@ -49,6 +49,7 @@ pub record ServesGiven (ids : List ℕ) (rows : List Row) : Type 0 where
   pub known : HeardKnownDevicesAreTold ids rows
   pub recorded : RecordedDevicesAreServed ids rows
   pub whole_is : WholeIsTheDevices ids rows
+  pub tell : DevicesTellParts ids rows
 
 -- a longer log takes longer
 serve_low : (pace : Pace) (places longest : ℕ) → places ≤ longest → serve_within pace places ≤ serve_within pace longest
@@ -68,6 +69,17 @@ module _ (g : Scene) (s : ServesGiven g.ids g.rows) (a : ℕ) (uid : List ℕ) (
   harmless_whole : (front rest : List Timed) → g.whole ≡ front ++ rest → DoNoHarm (w0 g) (rows_in (front ++ rest))
   harmless_whole front rest cut = subst (λ (l : List Timed). DoNoHarm (w0 g) (rows_in l)) cut g.calm.calm.harmless
 
+  -- each member lists all
+  lists_all : (m : ℕ) → In (OfMember m) g.group → ListsAll m g.ids (w0 g)
+  lists_all m i p j server up = g.given.lists [] m server tt (g.calm.calm.listed m i) up (g.calm.calm.complete m server i up) p j
+
+  -- the device tells parts of its unique ID
+  tells : TellsAt a uid (w0 g)
+  tells x there =
+      let same : d.asks.device ≡ x = same_device d.asks.device x (sym d.asks.there ∙ there) in
+      subst (λ (y : Device). TellsParts uid y.asking) same (subst (λ (u : List ℕ). TellsParts u d.asks.device.asking) d.asks.its_uid
+      (s.tell a d.asks.device d.asks.there (ap length d.asks.its_uid ∙ d.asks.whole) (subst (λ (p : ℕ). p < 128) (sym d.asks.prefers) d.asks.small)))
+
   -- what a request makes whole is the device's unique ID
   pub whole_is : (m : ℕ) → In (OfMember m) g.group → (front rest : List Timed) (timed : Timed) → g.whole ≡ front ++ timed ∷ rest
       → (message : Allocation) (asked : IsAsked m message (there g front) timed.row) (follow : Bool) (whole : List ℕ) (node : ℕ)
@@ -82,7 +94,7 @@ module _ (g : Scene) (s : ServesGiven g.ids g.rows) (a : ℕ) (uid : List ℕ) (
         alone = d.asks.alone;
         size = d.asks.whole;
         calm = calm_cut g front (timed ∷ rest) cut;
-        device = d.tells;
+        device = tells;
         harmless = harmless_whole front (timed ∷ rest) cut;
         begins = λ p j server up.
             let is = g.calm.tidy p j in
@@ -280,7 +292,7 @@ module _ (g : Scene) (s : ServesGiven g.ids g.rows) (a : ℕ) (uid : List ℕ) (
         let by = commits in
         let served = s.served g.group g.clocks g.pace g.start g.n a g.term uid preferred log by.0 by.1 last (2 * g.pace.delay + g.clocks (OfDevice a)) (g.front ++ few) early rest
         under_early hears (place new)
-        (d.lists g.n g.member) fits pairs told by.2 g.calm.calm.quick (before_end served_at served_soon) in
+        (lists_all g.n g.member) fits pairs told by.2 g.calm.calm.quick (before_end served_at served_soon) in
         has_id served_at served_soon (record {
           front = served.front;
           rest = served.rest;
@@ -314,7 +326,7 @@ module _ (g : Scene) (s : ServesGiven g.ids g.rows) (a : ℕ) (uid : List ℕ) (
         by (inr new) =
             let them = commits in
             has_id served_at served_soon (s.recorded g.group g.clocks g.pace g.start g.n a g.term uid preferred log them.0 them.1 last (g.front ++ few) early rest
-            under_early d.asks r is_uid (place new) (d.lists g.n g.member) fits pairs told them.2 g.calm.calm.quick (before_end served_at served_soon))
+            under_early d.asks r is_uid (place new) (lists_all g.n g.member) fits pairs told them.2 g.calm.calm.quick (before_end served_at served_soon))
 
     asks : HasNoId a here → Serves
     asks none = elim (s.heard_out g.group g.clocks g.pace g.start g.n a g.term uid preferred log (g.front ++ few) early rest under_early d.asks told.ready told.begins none

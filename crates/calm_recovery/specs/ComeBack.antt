@@ -13,8 +13,7 @@ use Rattle.calm_rounds.specs.Running.{IsCalmOf, IsLedBy}
 use Rattle.calm_service.specs.Asking.{HasIdBy, IsAsking, time_to_be_heard_again}
 use Rattle.calm_service.specs.AskingServed.{CanBeTold, serve_within}
 use Rattle.calm_service.specs.Dialog.{HasRoomToTell}
-use Rattle.calm_service.specs.Requests.{TellsAt}
-use Rattle.calm_service.specs.Served.{HasPlaceFor, ListsAll, PairsFit}
+use Rattle.calm_service.specs.Served.{HasPlaceFor, PairsFit}
 use Rattle.calm_service.specs.ServedTold.{HasRoomInSteps}
 use Rattle.calm_recovery.specs.Restart.{settled_within}
 use Rattle.calm_service.specs.Tidy.{AreMembersOnly, IsTidy, NoDiscoveryWaits}
@@ -93,20 +92,17 @@ ClustersComeBack ids rows = (group : List Party) (clocks : Party → ℕ) (pace 
 
 -- ---- it serves a device
 
--- In such a calm device a of the group asks, the only one: from its beginning on, or since before. When it begins, each
--- frame that waits in its queue tells a part of its unique ID, and so will the follow-up that it waits for, if any. It
--- can be told by each member, and each has room to tell it. Its unique ID is not all zero. Whichever log a member comes
--- to have, it has the device's unique ID, or a place for it.
+-- In such a calm device a of the group asks, the only one: from its beginning on, or since before. It can be told by
+-- each member, and each has room to tell it. Its unique ID is not all zero. Whichever log a member comes to have, it has
+-- the device's unique ID, or a place for it.
 pub record IsCalmOfDevice (ids : List ℕ) (rows : List Row) (group : List Party) (clocks : Party → ℕ) (pace : Pace)
     (start longest a : ℕ) (uid : List ℕ) (preferred : ℕ) (whole : List Timed) : Type 0 where
   pub calm : IsCalmOfTidy ids rows group clocks pace start longest whole
   pub asks : IsAsking group a uid preferred (start + clocks (OfDevice a)) (world_of ids rows)
-  pub tells : TellsAt a uid (world_of ids rows)
   pub some : uid ≢ zeros
   pub told : (m : ℕ) → In (Member m) group → CanBeTold group m a (world_of ids rows) whole
   pub room : (m : ℕ) → In (Member m) group → Throughout (HasRoomToTell m) (world_of ids rows) whole
   pub fits : (m : ℕ) → In (Member m) group → PairsFit m (world_of ids rows) whole
-  pub lists : (m : ℕ) → In (Member m) group → ListsAll m ids (world_of ids rows)
   pub place : (front rest : List Timed) (m : ℕ) (server : AllocatorState) → whole ≡ front ++ rest →
       In (Member m) group → ((after_rows (world_of ids rows) (rows_in front)).member m).status ≡ Up server →
       (HasUid server.raft_server.store.log uid → ⊥) → HasPlaceFor ids server.raft_server.store.log uid

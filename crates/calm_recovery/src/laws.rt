@@ -102,6 +102,7 @@ pub fn clusters_come_back()
     discoveries_miss_nobody();
     law_every_run();
     law_fit();
+    law_members();
     leaders_come();
     leaders_go_on_calling();
     leaders_settle_in_calm();
@@ -126,6 +127,7 @@ pub fn devices_are_served()
     heard_known_devices_are_told_in_calm();
     law_every_run();
     law_fit();
+    law_members();
     leaders_come();
     leaders_go_on_calling();
     leaders_settle_in_calm();
@@ -168,5 +170,4 @@ pub fn devices_may_be_served_early()
     devices_are_served();
     opened_members_are_tidy();
     opened_members_go_on_calmly();
-    requests_are_the_devices();
 }

@@ -130,7 +130,7 @@ module _ (laws : CalmLaws) (requests : RequestsAreRequests) (group : List Party)
           let own : b ≡ a = alone b i in
           inr (sends_part requests uid whole a w s.device g (subst (λ (c : ℕ). next_from (w.allocatee c) ≡ Some g) own next)));
       begins = λ p i. begins_then p i;
-      device = tells_then requests uid whole a w s.device group clocks pace traffic timed.at timed.row calm hears;
+      device = tells_then requests uid whole a group clocks pace traffic w timed.at timed.row s.device calm hears;
     }
 
   -- behind each front

@@ -45,6 +45,11 @@ comes_telling uid preferred now word few = record {
   waits = λ frame i. absurd i;
 }
 
+-- an Allocation that comes of a source has as many bytes as a member tells
+abbrev pub IsSized : Answer → Type 0
+IsSized answer = (delivery : Delivery) (message : Allocation) → answer ≡ Gives delivery → is_anonymous delivery.ident.kind ≡ false → allocation_of delivery.payload ≡ Some message
+    → IsEndOfStage (length message.uid.items)
+
 module _ (requests : RequestsAreRequests) (uid : List ℕ) (whole : length uid ≡ 16) where
   abbrev Tells : Asking → Type 0
   Tells a = TellsParts uid a
@@ -161,11 +166,6 @@ module _ (requests : RequestsAreRequests) (uid : List ℕ) (whole : length uid �
       (λ f. interrupted word a h) (λ f. answered word message (sized f) (after_interruption word a) (interrupted word a h)))
 
   -- ---- a step of it
-
-  -- an Allocation that comes of a source has as many bytes as a member tells
-  abbrev pub IsSized : Answer → Type 0
-  IsSized answer = (delivery : Delivery) (message : Allocation) → answer ≡ Gives delivery → is_anonymous delivery.ident.kind ≡ false → allocation_of delivery.payload ≡ Some message
-      → IsEndOfStage (length message.uid.items)
 
   read : (word : ℕ) (anonymous : Bool) (o : Option Allocation) (a : Asking) → ((message : Allocation) → anonymous ≡ false → o ≡ Some message → IsEndOfStage (length message.uid.items))
       → Tells a → Tells (after_reading word anonymous o a)

@@ -31,9 +31,10 @@ use Rattle.cluster_agreement.proofs.OneRow.{is_fine, stands}
 use Rattle.cluster_agreement.proofs.OneRowMore.{grown, harmless as one_more_harmless}
 use Rattle.cluster_agreement.proofs.RowsWithoutEvents.{past_first}
 use Rattle.cluster_agreement.proofs.WholeTransfers.{forged_allocation}
+use Rattle.cluster_progress.specs.Devices.{RequestsAreRequests}
 use Rattle.cluster_recovery.specs.Calm.{Timed, rows_in}
 use Rattle.calm_service.proofs.AllocationsMade.{AllMadeSized}
-use Rattle.calm_service.proofs.RequestsRows.{AllHearParts, HearsParts}
+use Rattle.calm_service.proofs.RequestsRows.{AllHearParts, HearsParts, HoldsAt, IsTelling, telling_on}
 use Rattle.cluster_spec.specs.Cluster.{AreMembers, Cluster, after_row, after_rows, arrival_at, cluster, frame_at, world_of}
 use Rattle.cluster_spec.specs.Lawful.{DoNoHarm, DoesNoHarm, absent, arrival_refusal_at, cause, no_allocatee, no_such_frame, or_else}
 use Rattle.cluster_spec.specs.Refinement.{events, transfers_of_rows}
@@ -124,3 +125,20 @@ module _ (frame : FrameLaws) (untorn : Untorn) where
       where
         here : DoesNoHarm (world_of ids done) timed.row
         here = subst (λ (v : Cluster). DoesNoHarm v timed.row) is harmless.0
+
+    -- ---- rows without moments
+
+    -- the rows, all at one moment
+    abbrev at_once : List Row → List Timed
+    at_once [] = []
+    at_once (row ∷ rows) = record { at = 0; row = row } ∷ at_once rows
+
+    same_rows : (rows : List Row) → rows_in (at_once rows) ≡ rows
+    same_rows [] = refl
+    same_rows (row ∷ rows) = ap (λ (l : List Row). row ∷ l) (same_rows rows)
+
+    -- so a device tells parts of its unique ID behind all rows that do no harm
+    pub all_tell : RequestsAreRequests → (rows : List Row) → DoNoHarm (cluster ids) rows → HoldsAt IsTelling a (world_of ids rows).allocatee
+    all_tell requests rows harmless = subst (λ (l : List Row). HoldsAt IsTelling a (after_rows (cluster ids) l).allocatee) (same_rows rows)
+        (telling_on requests a (at_once rows) (cluster ids)
+        (all_hear (at_once rows) [] (cluster ids) refl tt (subst (DoNoHarm (cluster ids)) (sym (same_rows rows)) harmless)) (λ d e. absurd (cc (e))))

@@ -73,6 +73,12 @@ abbrev pub DevicesThatComeTell : Type 0
 DevicesThatComeTell = (uid : List ℕ) (preferred now word : ℕ) → preferred < 128 →
     TellsParts uid (opening uid preferred now word).asking
 
+-- By these rows each device whose unique ID has 16 bytes, and which prefers a node ID of seven bits, tells parts of its
+-- unique ID: whatever it was told, and by whom.
+abbrev pub DevicesTellParts : List ℕ → List Row → Type 0
+DevicesTellParts ids rows = (a : ℕ) (d : Device) → (world_of ids rows).allocatee a ≡ Some d →
+    length d.asking.uid ≡ 16 → d.asking.preferred < 128 → TellsParts d.asking.uid d.asking
+
 -- each Allocation that a member has made by these rows has 6, 12 or 16 bytes of a unique ID
 abbrev pub AllocationsHaveParts : List ℕ → List Row → Type 0
 AllocationsHaveParts ids rows = (x : SentTransfer) (message : Allocation) →

@@ -7,8 +7,9 @@ ghost use Rattle.calm_service.specs.AskingServed.{HeardDevicesAreServed};
 ghost use Rattle.calm_service.specs.Dialog.{DevicesAreHeardOut, KnownDevicesAreTold};
 ghost use Rattle.calm_service.specs.Recorded.{EachRowKeepsTheLog, LeaderSettles, LogStaysUnasked};
 ghost use Rattle.calm_service.specs.Recorded.{LogStaysUncommitted, SettledLeads};
-ghost use Rattle.calm_service.specs.Requests.{AllocationsHaveParts, DevicesGoOnTelling, DevicesThatComeTell};
-ghost use Rattle.calm_service.specs.Requests.{PartsAreJoined, RequestsAreTheDevices, WholeIsTheDevices};
+ghost use Rattle.calm_service.specs.Requests.{AllocationsHaveParts, DevicesGoOnTelling, DevicesTellParts};
+ghost use Rattle.calm_service.specs.Requests.{DevicesThatComeTell, PartsAreJoined, RequestsAreTheDevices};
+ghost use Rattle.calm_service.specs.Requests.{WholeIsTheDevices};
 ghost use Rattle.calm_service.specs.Served.{IsServedBy, LeadersLoseNothing, NewDevicesAreRecorded};
 ghost use Rattle.calm_service.specs.Served.{NewDevicesAreServed, NewPairsAreCommitted, NewPairsAreOffered};
 ghost use Rattle.calm_service.specs.Served.{time_to_be_committed, time_to_be_served};
@@ -495,15 +496,18 @@ pub fn heard_devices_are_served_in_calm()
 /// The requests that members accept in a calm tell the unique ID of its only device, part by part. Where those that
 /// were accepted tell a beginning of it, and a request tells a part, so do those that are accepted behind it, and what
 /// it makes whole is the unique ID (`joined`). In a calm that does no harm, whose only device tells parts when it
-/// begins, as one does that has just come (`comes`): where the requests that each member has accepted tell a beginning
-/// then, they do behind each front (`accepted`), and what a request that comes to any member makes whole is the
-/// device's unique ID (`whole`), whoever leads. The device goes on to tell parts (`tells`): each of its follow-ups
-/// follows 6 or 12 bytes, since each Allocation that a member ever made has 6, 12 or 16 (`made`).
+/// begins, as one does that has just come (`comes`), and each one in any rows that do no harm (`always`): where the
+/// requests that each member has accepted tell a beginning then, they do behind each front (`accepted`), and what a
+/// request that comes to any member makes whole is the device's unique ID (`whole`), whoever leads. The device goes on
+/// to tell parts (`tells`): each of its follow-ups follows 6 or 12 bytes, since each Allocation that a member ever made
+/// has 6, 12 or 16 (`made`).
 pub fn requests_are_the_devices()
     ensures joined { PartsAreJoined }
     ensures made { (ids : List ℕ) (rows : List Row) → AreMembers ids → DoNoHarm (cluster ids) rows →
         AllocationsHaveParts ids rows }
     ensures comes { DevicesThatComeTell }
+    ensures always { (ids : List ℕ) (rows : List Row) → AreMembers ids → DoNoHarm (cluster ids) rows →
+        DevicesTellParts ids rows }
     ensures accepted { (ids : List ℕ) (rows : List Row) → AreMembers ids → DoNoHarm (cluster ids) rows →
         RequestsAreTheDevices ids rows }
     ensures tells { (ids : List ℕ) (rows : List Row) → AreMembers ids → DoNoHarm (cluster ids) rows →

@@ -2,7 +2,7 @@ use Rattle.std.proofs.Common.{ℕ, List, []}
 use Rattle.raft_model.specs.Runs.{initial_world, run}
 use Rattle.replay_text.specs.declared.row.Row.{Row}
 use Rattle.calm_recovery.proofs.Back.{clusters_come_back}
-use Rattle.calm_recovery.proofs.BackFine.{IsShown, blanks_behind, fine_behind, limit_behind}
+use Rattle.calm_recovery.proofs.BackFine.{IsShown, blanks_behind, fine_behind, limit_behind, lists_behind}
 use Rattle.calm_recovery.proofs.laws.clusters_come_back.Goals as goal
 use Rattle.cluster_spec.specs.Cluster.{AreMembers, cluster, world_of}
 use Rattle.cluster_spec.specs.Lawful.{DoNoHarm}
@@ -26,6 +26,7 @@ pub returns-clause-back : goal.returns-clause-back
 returns-clause-back c ids rows members harmless = clusters_come_back ids rows (record {
   members = members;
   fine = fine_behind ids rows harmless (shown c ids members) (c.rows_grow_by_one.ensures.members (cluster ids));
+  lists = lists_behind ids rows harmless c.law_members.ensures.count (shown c ids members) (c.rows_grow_by_one.ensures.members (cluster ids));
   blanks = blanks_behind ids rows harmless (λ list fine. c.who_leads_has_come_to_lead.ensures.blank ids list members fine);
   calling = c.leaders_go_on_calling.ensures ids rows members harmless;
   return = c.calls_return_in_rounds.ensures ids rows members harmless;

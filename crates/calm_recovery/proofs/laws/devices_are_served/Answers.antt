@@ -2,7 +2,7 @@ use Rattle.std.proofs.Common.{List, []}
 use Rattle.raft_model.specs.Runs.{initial_world, run}
 use Rattle.replay_text.specs.declared.row.Row.{Row}
 use Rattle.calm_recovery.proofs.Serves.{devices_are_served}
-use Rattle.calm_recovery.proofs.BackFine.{IsShown, blanks_behind, fine_behind}
+use Rattle.calm_recovery.proofs.BackFine.{IsShown, blanks_behind, fine_behind, lists_behind}
 use Rattle.calm_recovery.proofs.laws.devices_are_served.Goals as goal
 use Rattle.cluster_spec.specs.Cluster.{cluster, world_of}
 use Rattle.cluster_spec.specs.Lawful.{DoNoHarm}
@@ -25,6 +25,7 @@ returns c = λ ids rows members harmless.
     devices_are_served ids rows (record {
       members = members;
       fine = fine_behind ids rows harmless shown_at (c.rows_grow_by_one.ensures.members (cluster ids));
+      lists = lists_behind ids rows harmless c.law_members.ensures.count shown_at (c.rows_grow_by_one.ensures.members (cluster ids));
       blanks = blanks_behind ids rows harmless (λ list fine. c.who_leads_has_come_to_lead.ensures.blank ids list members fine);
       calling = c.leaders_go_on_calling.ensures ids rows members harmless;
       return = c.calls_return_in_rounds.ensures ids rows members harmless;
@@ -39,4 +40,5 @@ returns c = λ ids rows members harmless.
       known = c.heard_known_devices_are_told_in_calm.ensures ids rows members harmless;
       recorded = c.recorded_devices_are_served_in_calm.ensures ids rows members harmless;
       whole_is = c.requests_are_the_devices.ensures.whole ids rows members harmless;
+      tell = c.requests_are_the_devices.ensures.always ids rows members harmless;
     })

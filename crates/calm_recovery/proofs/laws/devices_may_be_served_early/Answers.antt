@@ -4,7 +4,6 @@ use Rattle.raft_model.specs.Lists.{In}
 use Rattle.allocatee.specs.Allocatee.{Device as AskingDevice, opening}
 use Rattle.cluster_calm.specs.Calm.{Member}
 use Rattle.cluster_calm.specs.CalmExample.{clocks, group, some_uid, two}
-use Rattle.calm_service.specs.Requests.{DevicesThatComeTell, TellsParts}
 use Rattle.calm_service.specs.Served.{HasPlaceFor}
 use Rattle.calm_service.specs.ServedExample.{served_pace}
 use Rattle.calm_service.specs.Tidy.{OpenedMembersAreReady}
@@ -49,16 +48,9 @@ worked = record {
 before : DoNoHarm (cluster two) power_on_rows
 before = lawful_rows power_on_rows (cluster two) lawful_before
 
--- a device that is the same tells its parts
-same_tells : (d : AskingDevice) → opening some_uid 0 0 0 ≡ d → TellsParts some_uid (opening some_uid 0 0 0).asking → TellsParts some_uid d.asking
-same_tells d same = subst (λ (x : AskingDevice). TellsParts some_uid x.asking) same
-
-same_device : (x y : AskingDevice) → Some x ≡ Some y → x ≡ y
-same_device x y e = cc e
-
--- the premises, from what other laws say of members that were just opened, and of a device that has just come
-premises : AreMembers two → OpenedMembersGoOn two power_on_rows → OpenedMembersAreReady two → DevicesThatComeTell → DevicesMayBeServedEarly
-premises members go_on ready tell = record {
+-- the premises, from what other laws say of members that were just opened
+premises : AreMembers two → OpenedMembersGoOn two power_on_rows → OpenedMembersAreReady two → DevicesMayBeServedEarly
+premises members go_on ready = record {
   members = members;
   before = before;
   calm = record {
@@ -74,7 +66,6 @@ premises members go_on ready tell = record {
       prefers = refl;
       clock = omega arith;
     };
-    tells = λ d there. same_tells d (same_device (opening some_uid 0 0 0) d (sym has_come ∙ there)) (tell some_uid 0 0 0 (omega arith));
     some = place.device;
     told = λ m i. record {
       of_group = inr (inr (inl refl));
@@ -85,7 +76,6 @@ premises members go_on ready tell = record {
     };
     room = rooms_to_tell worked;
     fits = λ m i. pairs_all_fit worked m;
-    lists = λ m i. (are_ready worked ready listed m i).lists;
     place = λ front rest m server split i up has_not. elim ((world_behind worked front rest split).members m i server up).log [
       | inl none ↦ subst (λ (log : List Entry). HasPlaceFor two log some_uid) (sym none) place
       | inr has ↦ absurd (has_not has)
@@ -96,11 +86,10 @@ premises members go_on ready tell = record {
 }
 
 -- they hold
-hold : goal.After-requests_are_the_devices → DevicesMayBeServedEarly
+hold : goal.After-opened_members_go_on_calmly → DevicesMayBeServedEarly
 hold c =
     let members = c.calm_can_be.ensures.members in
     premises members (c.opened_members_go_on_calmly.ensures two power_on_rows members before) (c.opened_members_are_tidy.ensures.opened two members)
-    c.requests_are_the_devices.ensures.comes
 
 pub returns-clause-premises : goal.returns-clause-premises
 returns-clause-premises c = hold c

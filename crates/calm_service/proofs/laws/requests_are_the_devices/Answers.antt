@@ -11,7 +11,7 @@ use Rattle.calm_service.specs.Requests.{AllocationsHaveParts}
 use Rattle.calm_service.proofs.AllocationsMade.{all_made_sized}
 use Rattle.calm_service.proofs.RequestsCalm.{are_the_devices, goes_on_telling, wholes_are}
 use Rattle.calm_service.proofs.RequestsDevice.{comes_telling}
-use Rattle.calm_service.proofs.RequestsHeard.{all_hear}
+use Rattle.calm_service.proofs.RequestsHeard.{all_hear, all_tell}
 use Rattle.calm_service.proofs.RequestsRows.{AllHearParts}
 use Rattle.calm_service.proofs.RequestsTell.{begin_behind, whole_is}
 use Rattle.calm_service.proofs.laws.requests_are_the_devices.Goals as goal
@@ -73,6 +73,10 @@ returns-clause-made c ids rows members harmless = made c ids members rows harmle
 
 pub returns-clause-comes : goal.returns-clause-comes
 returns-clause-comes c = comes_telling
+
+pub returns-clause-always : goal.returns-clause-always
+returns-clause-always c ids rows members harmless a = all_tell c.what_is_said_of_frames.ensures c.what_is_fine_is_not_torn.ensures ids members
+    c.rows_grow_by_one.ensures.members (shown c ids members) (made c ids members) a c.requests_of_devices_are_requests.ensures rows harmless
 
 pub returns-clause-accepted : goal.returns-clause-accepted
 returns-clause-accepted c ids rows members harmless = are_the_devices (laws c) c.requests_of_devices_are_requests.ensures ids members rows
