@@ -1,25 +1,36 @@
--- Who asks for votes in a calm, and who answers: what is given of the two and of each row, and that an answer is sent.
-use Rattle.std.proofs.Common.{◌≡◌, ◌≢◌, ℕ, ◌+◌, ◌*◌, ◌<◌, ◌≤◌, arith, true, List, [], ◌∷◌, ◌++◌, length, ◌∙◌, ap}
-use Rattle.std.specs.Prelude.{⊤}
+-- A member that asks another one for its vote, in a calm, as one that asks and one that answers: an answer is sent, and
+-- says a term; and nothing is under way when the calm begins.
+use Rattle.std.proofs.Common.{◌≡◌, ◌≢◌, ℕ, ◌+◌, ◌*◌, ◌<◌, ◌≤◌, arith, true, List, length, refl, sym, ◌∙◌, ap, inl, inr, Some}
 use Rattle.std.proofs.lemmas.Bool.{le-leb}
-use Rattle.can_frame.specs.declared.step.What.TheVariants.{VoteQ}
+use Rattle.can_frame.specs.declared.step.What.TheVariants.{Alloc, Vote, VoteQ}
 use Rattle.dsdl_codec.specs.declared.vote_request.VoteRequest.{VoteRequest}
 use Rattle.raft_model.specs.Lists.{In}
 use Rattle.raft_model.specs.Messages.{Answer}
+use Rattle.raft_model.specs.Messages.Message.{Answers}
+use Rattle.raft_model.specs.Moves.Elections.{with_term}
+use Rattle.raft_model.specs.Server.{Store}
 use Rattle.replay_text.specs.declared.row.Row.{Row}
+use Rattle.transfer_rx.specs.Keys.{key_of}
 use Rattle.transfer_tx.specs.Queue.{Queued}
 use Rattle.alloc_spec.specs.AllocatorState.{AllocatorState, members_of}
 use Rattle.alloc_spec.specs.Step.{Event, step}
-use Rattle.alloc_spec.specs.Transfers.{Offer, SentTransfer, has_room}
+use Rattle.alloc_spec.specs.Transfers.{Offer, SentTransfer, has_room, ident_of, kind_of, number_of}
 use Rattle.alloc_spec_laws.specs.Apart.{AreAllApart}
 use Rattle.alloc_spec_laws.specs.Saying.{vote_bytes}
-use Rattle.calm_election.specs.Votes.{AnswersVote, VoteReadsAsSaid, VotesAreAnswered, vote_asked_by, vote_by}
+use Rattle.alloc_spec_laws.proofs.Choices.{lt_tells}
+use Rattle.calm_election.specs.Votes.{AnswersVote, CanAsk, VoteComes, VoteReadsAsSaid, VotesAreAnswered, vote_asked_by, vote_by}
+use Rattle.calm_election.proofs.Exchange.{AllGiven, Exchange, IsAnswered}
+use Rattle.calm_election.proofs.ExchangeAnswers.{IsSilent}
+use Rattle.calm_election.proofs.ExchangeStart.{Fresh}
+use Rattle.calm_election.proofs.VotesTaken.{raised_term, same_term}
 use Rattle.calm_leader.specs.CallsComeBack.{HasPlace}
-use Rattle.cluster_calm.specs.Calm.{Member as OfMember, Party}
-use Rattle.cluster_calm.specs.Comes.{Delivers, HasMemory, Sends, sent_by}
-use Rattle.cluster_calm.proofs.Group.{CalmLaws}
-use Rattle.cluster_recovery.specs.Calm.{Pace, Timed, rows_in}
-use Rattle.cluster_spec.specs.Cluster.{Cluster, after_row, after_rows, receipt_of, step_of}
+use Rattle.cluster_calm.specs.Calm.{AreCalm, Member as OfMember, Party, no_traffic}
+use Rattle.cluster_calm.specs.Comes.{Delivers, MayComeFirst, Sends, delivery_of}
+use Rattle.cluster_calm.proofs.Group.{AreWell, CalmLaws, IsServer}
+use Rattle.cluster_recovery.specs.Calm.{Pace, Timed}
+use Rattle.cluster_recovery.proofs.Members.{IsQuiet}
+use Rattle.cluster_spec.specs.Cluster.{Cluster, receipt_of, step_of}
+use Rattle.cluster_spec.specs.Members.MemberStatus.{Up}
 
 -- ---- an answer is sent
 
@@ -40,44 +51,107 @@ vote_sent m x request w row delivers answers place = record {
       ∙ vote_fits delivers.server.queue (vote_by (w.rows + 1) delivers.server (vote_asked_by x request m)) (place delivers.server delivers.runs));
 }
 
--- ---- what is given
+-- ---- what an answer tells
 
--- what is given of the world before a row, and what is read of the row
-pub record GivenVotes (n m : ℕ) (w : Cluster) (row : Row) : Type 0 where
-  pub memory : HasMemory m w
-  pub place : HasPlace m w
-  pub read : (offer : Offer) → Sends n w row offer → offer.what ≡ VoteQ → VoteReadsAsSaid (sent_by n w offer)
+-- a server answers in no lower term than its own
+pub no_lower : (store : Store) (term : ℕ) → store.term ≤ (with_term store term).term
+no_lower store term = elim (lt_tells store.term term) [
+  | inl z ↦ let e = raised_term store term z.1 in let less = z.1 in omega (arith, e, less)
+  | inr z ↦ let e = same_term store term z.1 in omega (arith, e)
+]
 
-abbrev pub AllGivenVotes : (n m : ℕ) → Cluster → List Timed → Type 0
-AllGivenVotes n m w [] = ⊤
-AllGivenVotes n m w (timed ∷ rest) = GivenVotes n m w timed.row × AllGivenVotes n m (after_row w timed.row) rest
+-- an answer says that of a server: a term that is no lower than its own
+abbrev pub TellsTerm : AllocatorState → Offer → Type 0
+TellsTerm t offer = (answer : Answer) × (offer.says ≡ Some (Answers answer)) × (t.raft_server.store.term ≤ answer.term)
 
--- what is given of one of these rows
-pub given_at : (n m : ℕ) (front rest : List Timed) (timed : Timed) (w : Cluster) → AllGivenVotes n m w (front ++ timed ∷ rest)
-    → GivenVotes n m (after_rows w (rows_in front)) timed.row
-given_at n m [] rest timed w all = all.0
-given_at n m (first ∷ front) rest timed w all = given_at n m front rest timed (after_row w first.row) all.1
+-- ---- the two
 
--- A member that asks another one for its vote, in a calm.
-pub record Voting : Type 1 where
-  -- what is said below, and that who is asked answers
-  pub laws : CalmLaws
-  pub apart_offers : (t : AllocatorState) (number : ℕ) (event : Event) → AreAllApart (step t number event).step_state.offers
-  pub stay : (t : AllocatorState) (number : ℕ) (event : Event) (node : ℕ) → In node (members_of t)
-      → In node (members_of (step t number event).step_state.allocator)
-  pub answered : VotesAreAnswered
-  -- the calm
-  pub group : List Party
-  pub clocks : Party → ℕ
-  pub pace : Pace
-  pub nodes : (p : ℕ) → In (OfMember p) group → (1 ≤ p) × (p ≤ 125)
-  -- who asks, and whom it asks
-  pub n : ℕ
-  pub m : ℕ
-  pub in_n : In (OfMember n) group
-  pub in_m : In (OfMember m) group
-  pub apart : n ≢ m
-  pub quick : 2 * pace.delay ≤ 2000
-  -- where the clock of the other stood when the calm began, and the transfer IDs under which a first request may begin
-  pub base : ℕ
-  pub Begins : ℕ → Type 0
+-- in a row in which no answer comes no vote does
+pub no_vote : (both : Exchange) → both.answers ≡ Vote → (w : Cluster) (row : Row) → IsSilent both w row → (id : ℕ) → VoteComes both.n both.m id w row → ⊥
+no_vote both is w row silent id v = silent v.delivers.server v.delivers.runs v.delivers.k v.delivers.ms v.delivers.comes (delivery_of v.y) key v.delivers.gives
+  where
+    key : key_of (ident_of v.y.by v.y.offer.what v.y.offer.to) ≡ key_of (ident_of both.m both.answers both.n)
+    key = λ i. record { kind = kind_of ((v.what ∙ sym is) i); number = number_of ((v.what ∙ sym is) i); source = v.by i }
+
+-- neither is an Allocation
+pub ask_is_other : VoteQ ≢ Alloc
+ask_is_other e = cc e
+
+pub vote_is_other : Vote ≢ Alloc
+vote_is_other e = cc e
+
+module _ (laws : CalmLaws) (apart_offers : (t : AllocatorState) (number : ℕ) (event : Event) → AreAllApart (step t number event).step_state.offers)
+    (stay : (t : AllocatorState) (number : ℕ) (event : Event) (node : ℕ) → In node (members_of t) → In node (members_of (step t number event).step_state.allocator))
+    (votes_answered : VotesAreAnswered) (Told : SentTransfer → Type 0) (group : List Party) (clocks : Party → ℕ) (pace : Pace)
+    (nodes : (p : ℕ) → In (OfMember p) group → (1 ≤ p) × (p ≤ 125)) (n m : ℕ) (in_n : In (OfMember n) group) (in_m : In (OfMember m) group) (apart : n ≢ m)
+    (quick : 2 * pace.delay ≤ 2000) (w : Cluster) (whole : List Timed) (can : CanAsk n m w whole) where
+  -- who is asked answers
+  pub its_vote : (x : SentTransfer) (v : Cluster) (row : Row) (delivers : Delivers m x v row) → delivers.server.me ≡ m → x.offer.what ≡ VoteQ → VoteReadsAsSaid x
+      → In x.by (members_of delivers.server) → HasPlace m v → IsAnswered m Vote TellsTerm x v row
+  its_vote x v row delivers me what reads listed place = let a : AnswersVote m x reads.request v row delivers = votes_answered m x reads.request v row delivers me what reads.read listed in record {
+    offer = a.offer;
+    sends = vote_sent m x reads.request v row delivers a place;
+    what = a.what;
+    to = a.to;
+    id = a.id;
+    server = delivers.server;
+    runs = delivers.runs;
+    tells = (vote_by (v.rows + 1) delivers.server (vote_asked_by x reads.request m), a.says, no_lower delivers.server.raft_server.store (vote_asked_by x reads.request m).term);
+  }
+
+  -- member n asks, and member m answers, of whose answers this is read
+  abbrev pub voting : Exchange
+  voting = record {
+    laws = laws;
+    apart_offers = apart_offers;
+    stay = stay;
+    group = group;
+    clocks = clocks;
+    pace = pace;
+    nodes = nodes;
+    n = n;
+    m = m;
+    in_n = in_n;
+    in_m = in_m;
+    apart = apart;
+    quick = quick;
+    asks = VoteQ;
+    answers = Vote;
+    heard_asks = (ask_is_other, refl);
+    heard_answers = (vote_is_other, refl);
+    counted = omega (arith, (nodes m in_m).1);
+    asks_kind = refl;
+    answers_kind = refl;
+    numbers = refl;
+    Reads = VoteReadsAsSaid;
+    Tells = TellsTerm;
+    Told = Told;
+    answered = its_vote;
+    base_m = can.calls.receiver.now;
+    BeginsM = MayComeFirst n VoteQ m can.calls.receiver;
+    base_n = can.answers.receiver.now;
+    BeginsN = MayComeFirst m Vote n can.answers.receiver;
+  }
+
+  -- nothing is under way when the calm begins
+  pub fresh : (start : ℕ) → ((t : AllocatorState) → (w.member n).status ≡ Up t → IsServer n t) → ((t : AllocatorState) → (w.member m).status ≡ Up t → IsServer m t)
+      → IsQuiet (w.member n).disk → IsQuiet (w.member m).disk → AreCalm group clocks pace (no_traffic start) w whole → AreWell group w → AllGiven voting w whole
+      → Fresh voting start w whole
+  fresh start is_n is_m quiet_n quiet_m calm are given = record {
+    requests = can.calls;
+    replies = can.answers;
+    base_m = refl;
+    base_n = refl;
+    admits_m = λ id begins. begins;
+    admits_n = λ id begins. begins;
+    may = can.first_call;
+    may_answer = can.first_answer;
+    lists = can.hears_it;
+    is_n = is_n;
+    is_m = is_m;
+    quiet_n = quiet_n;
+    quiet_m = quiet_m;
+    calm = calm;
+    are = are;
+    given = given;
+  }

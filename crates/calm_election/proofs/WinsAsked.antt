@@ -1,7 +1,6 @@
 -- Each other member of the group is asked for its vote, hears the request and answers it, and c takes the answer.
-use Rattle.std.proofs.Common.{◌≡◌, ◌≢◌, ℕ, ◌+◌, ◌*◌, ◌<◌, ◌≤◌, arith, true, List, [], ◌∷◌, ◌++◌, length, max, drop, refl, sym, ◌∙◌, ap, subst, Some}
+use Rattle.std.proofs.Common.{◌≡◌, ◌≢◌, ℕ, ◌+◌, ◌*◌, ◌<◌, ◌≤◌, arith, true, List, [], ◌∷◌, ◌++◌, max, drop, refl, sym, ◌∙◌, ap, subst, Some}
 use Rattle.std.specs.Prelude.{slice_index_or}
-use Rattle.std.proofs.lemmas.Bool.{le-leb}
 use Rattle.std.proofs.lemmas.List.{append_assoc}
 use Rattle.dsdl_codec.specs.VoteAnswer.{vote_answer_of}
 use Rattle.raft_core.specs.Handled as handled
@@ -10,14 +9,13 @@ use Rattle.raft_model.specs.Messages.{Answer, Message, Request}
 use Rattle.raft_model.specs.Moves.Leading.{vote_request}
 use Rattle.replay_text.specs.declared.row.Row.{Row}
 use Rattle.replay_text.specs.declared.row.Row.TheVariants.{Rx, Tick}
-use Rattle.transfer_tx.specs.Queue.{Queued}
 use Rattle.alloc_spec.specs.AllocatorState.{AllocatorState, members_of}
 use Rattle.alloc_spec.specs.Step.{step}
-use Rattle.alloc_spec.specs.Transfers.{SentTransfer, has_room}
-use Rattle.alloc_spec_laws.specs.Saying.{vote_bytes}
+use Rattle.alloc_spec.specs.Transfers.{SentTransfer}
 use Rattle.cluster_recovery.specs.Calm.{Timed, end_of, rows_in}
 use Rattle.calm_election.specs.Votes.{AnswersVote, AsksFor, CanAsk, TakesVote, VoteComes, VoteReadsAsSaid, WaitsForVote, vote_asked_by, vote_by}
 use Rattle.calm_election.specs.VotesAlone.{VoteComesAlone}
+use Rattle.calm_election.proofs.VotesAsked.{vote_sent}
 use Rattle.calm_election.proofs.WinsFronts.{from_row_to_row, here_more, votes_fit_at}
 use Rattle.calm_election.proofs.WinsScene.{Scene, by_end, c_listed, calm_upto, clock_at, clock_next, cut, end_before, from_at, harm_row, here, laws_at, last, row_calm, runs_at, there, v, w0, world_upto}
 use Rattle.calm_election.proofs.WinsStays.{began, began_high, began_low, c_stands_not, end_soon_at, in_middle, standing}
@@ -28,10 +26,6 @@ use Rattle.cluster_calm.specs.Comes.{ComesBy, Delivers, Sends, Throughout, sent_
 use Rattle.cluster_calm.proofs.Pair.{same_server}
 use Rattle.cluster_spec.specs.Cluster.{Cluster, after_row, after_rows, receipt_of, step_of, tick_of}
 use Rattle.cluster_spec.specs.Members.MemberStatus.{Up}
-
--- an answer to a vote request is one frame
-vote_fits : (queue : List Queued) (a : Answer) → length queue < 32 → has_room queue (vote_bytes a) ≡ true
-vote_fits queue a few = le-leb (length queue + 1) 32 (omega (arith, few))
 
 no_receipt : (n ms word m k moment : ℕ) (row : Row) → row ≡ Tick n ms word → row ≡ Rx m k moment → ⊥
 no_receipt n ms word m k moment row e f = cc (sym e ∙ f)
@@ -181,15 +175,7 @@ module _ (s : Scene) (m : ℕ) (i : In (OfMember m) s.group) (other : m ≢ s.c)
       (subst (Throughout (HasPlace m) (w0 s)) (cut s comes_back.early (comes_back.hears ∷ comes_back.late) comes_back.split) can.place))
 
   answer_sent : Sends m (here s comes_back.early) comes_back.hears.row comes_back.answers.offer
-  answer_sent = record {
-    server = comes_back.delivers.server;
-    runs = comes_back.delivers.runs;
-    event = receipt_of (here s comes_back.early) comes_back.delivers.k comes_back.delivers.ms;
-    in_step = ap (λ (r : Row). step_of (here s comes_back.early) r) comes_back.delivers.comes;
-    offered = comes_back.answers.offered;
-    fitted = comes_back.answers.fitted ∙ (ap (has_room comes_back.delivers.server.queue) comes_back.answers.written
-        ∙ vote_fits comes_back.delivers.server.queue given (has_place comes_back.delivers.server comes_back.delivers.runs));
-  }
+  answer_sent = vote_sent m x read.request (here s comes_back.early) comes_back.hears.row comes_back.delivers comes_back.answers has_place
 
   reads : vote_answer_of y.offer.payload ≡ Some (record { term = given.term; granted = given.success })
   reads =

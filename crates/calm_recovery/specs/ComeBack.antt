@@ -93,8 +93,8 @@ ClustersComeBack ids rows = (group : List Party) (clocks : Party → ℕ) (pace 
 -- ---- it serves a device
 
 -- In such a calm device a of the group asks, the only one: from its beginning on, or since before. It can be told by
--- each member, and each has room to tell it. Its unique ID is not all zero. Whichever log a member comes to have, it has
--- the device's unique ID, or a place for it.
+-- each member, and each has room to tell it. Its unique ID is not all zero. Whichever log a member comes to have, it
+-- has the device's unique ID, or a place for it.
 pub record IsCalmOfDevice (ids : List ℕ) (rows : List Row) (group : List Party) (clocks : Party → ℕ) (pace : Pace)
     (start longest a : ℕ) (uid : List ℕ) (preferred : ℕ) (whole : List Timed) : Type 0 where
   pub calm : IsCalmOfTidy ids rows group clocks pace start longest whole

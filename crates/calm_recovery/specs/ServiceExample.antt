@@ -72,7 +72,7 @@ power_on_calm = asking_rows ++ election_rows ++ serving_rows ++ all_read_often 2
 -- ---- the premises
 
 -- The rows meet each premise of `DevicesAreServed`.
-pub record DevicesMayBeServedEarly : Type 0 where
+pub record DevicesMayBeServedFromPowerOn : Type 0 where
   pub members : AreMembers two
   pub before : DoNoHarm (cluster two) power_on_rows
   pub calm : IsCalmOfDevice two power_on_rows group clocks served_pace opened_at one_entry 1 some_uid 0 power_on_calm

@@ -7,7 +7,7 @@ ghost use Rattle.calm_recovery.specs.Restart.{ClustersInStepSettle, ComesBackBy,
 ghost use Rattle.calm_recovery.specs.Restart.{WinnersBeginAnew, settled_within};
 ghost use Rattle.calm_recovery.specs.RestartExample.{ClusterMayStart, members_only, no_entries, opened_at};
 ghost use Rattle.calm_recovery.specs.RestartExample.{opened_world, restart_pace, restart_rows};
-ghost use Rattle.calm_recovery.specs.ServiceExample.{DevicesMayBeServedEarly, one_entry};
+ghost use Rattle.calm_recovery.specs.ServiceExample.{DevicesMayBeServedFromPowerOn, one_entry};
 ghost use Rattle.calm_recovery.specs.ServiceExample.{power_on_calm, power_on_world};
 ghost use Rattle.calm_rounds.specs.Rounds.{led_within};
 ghost use Rattle.calm_service.specs.Asking.{HasIdBy};
@@ -140,15 +140,16 @@ pub fn devices_are_served()
     who_leads_has_come_to_lead();
 }
 
-/// The premises of [`clusters_in_step_settle`], of [`calm_rounds::laws::leaders_come`] and of [`clusters_come_back`] can
-/// be met together (`premises`): two members are opened at one moment, with empty stores, and are told their list. The
-/// rows are calm, do no harm, and go on for longer than the laws ask; in them one member stands, wins, and leads on. So
-/// the cluster comes back in time, by each law (`back` by the first, `from_any_state` by the last).
+/// The premises of [`clusters_in_step_settle`], of [`calm_rounds::laws::leaders_come`] and of [`clusters_come_back`]
+/// can be met together (`premises`): two members are opened at one moment, with empty stores, and are told their list.
+/// The rows are calm, do no harm, and go on for longer than the laws ask; in them one member stands, wins, and leads
+/// on. So the cluster comes back in time, by each law (`back` by the first, `from_any_state` by the last).
 pub fn clusters_may_start()
     ensures premises { ClusterMayStart }
     ensures back { ComesBackBy members_only clocks restart_pace opened_at (opened_at + election_within restart_pace)
         (opened_at + election_within restart_pace + settled_within restart_pace no_entries) opened_world restart_rows }
-    ensures from_any_state { IsBackBy members_only clocks restart_pace opened_at (opened_at + led_within restart_pace (length two))
+    ensures from_any_state { IsBackBy members_only clocks restart_pace opened_at
+        (opened_at + led_within restart_pace (length two))
         (opened_at + back_within restart_pace (length two) no_entries) opened_world restart_rows }
 {
     calm_can_be();
@@ -161,8 +162,8 @@ pub fn clusters_may_start()
 /// The premises of [`devices_are_served`] can be met together (`premises`): two members and a device are opened at one
 /// moment. The device asks before anybody leads; then a member is elected and serves it; and the calm goes on for
 /// longer than the law asks. So the device holds a node ID in time (`served`).
-pub fn devices_may_be_served_early()
-    ensures premises { DevicesMayBeServedEarly }
+pub fn devices_may_be_served_from_power_on()
+    ensures premises { DevicesMayBeServedFromPowerOn }
     ensures served { HasIdBy 1 opened_at (opened_at + served_within served_pace (length two) one_entry) power_on_world
         power_on_calm }
 {

@@ -14,7 +14,7 @@
 //!
 //! The premises of these laws can be met: those on clusters by two members that are started
 //! ([`laws::clusters_may_start`], `specs/RestartExample`), and those on a device by the same beside a device
-//! ([`laws::devices_may_be_served_early`], `specs/ServiceExample`). The rows are computed.
+//! ([`laws::devices_may_be_served_from_power_on`], `specs/ServiceExample`). The rows are computed.
 //!
 //! Why it holds: behind the row in which the winner comes to lead all others follow (`proofs/Following`), and hear it
 //! before their waits are over (`proofs/Elected`); each member was fit to serve from its opening on

@@ -1,9 +1,9 @@
 -- The laws that stand are what the proofs of who asks, and of who wins, ask for.
 use Rattle.std.proofs.Common.{◌≡◌, ◌≢◌, ℕ, ◌+◌, ◌*◌, ◌<◌, ◌≤◌, arith, Bool, List, [], ◌∷◌, ◌++◌, max, inl, inr, refl, sym, ◌∙◌, subst}
+use Rattle.std.specs.Prelude.{⊤}
 use Rattle.std.proofs.lemmas.Bool.Decides.{eqb_tells}
 use Rattle.std.proofs.lemmas.List.{append_assoc}
 use Rattle.can_frame.specs.declared.identifier.Kind.TheVariants.{Response}
-use Rattle.can_frame.specs.declared.step.What.TheVariants.{Vote, VoteQ}
 use Rattle.raft_model.specs.Lists.{In}
 use Rattle.raft_model.specs.Runs as raft
 use Rattle.raft_model.specs.Runs.{initial_world}
@@ -14,7 +14,7 @@ use Rattle.transfer_rx.specs.Reassembly.{Delivery, Gives, answer}
 use Rattle.alloc_spec.specs.Accepted.{setting_for}
 use Rattle.alloc_spec.specs.AllocatorState.{AllocatorState, members_of}
 use Rattle.alloc_spec.specs.Step.{Event, step}
-use Rattle.alloc_spec.specs.Transfers.{SentTransfer, id_of}
+use Rattle.alloc_spec.specs.Transfers.{SentTransfer}
 use Rattle.alloc_spec_laws.specs.Apart.{AreAllApart}
 use Rattle.cluster_agreement.specs.Safe.{IsDeliveredTo, IsOneTransfer}
 use Rattle.cluster_agreement.specs.Shows.{Shows}
@@ -23,12 +23,11 @@ use Rattle.cluster_recovery.specs.Calm.{Pace, Timed, rows_in}
 use Rattle.cluster_recovery.proofs.Members.{IsQuiet}
 use Rattle.calm_election.specs.Votes.{CanAsk, Stands, VoteComes, VoteRequestsReadAsSaid, VotesAreAnswered, VotesComeBack}
 use Rattle.calm_election.specs.Wins.{OffersVoteRequest}
+use Rattle.calm_election.proofs.Exchange.{AllGiven, Exchange}
+use Rattle.calm_election.proofs.ExchangeStart.{Fresh, all_given}
+use Rattle.calm_election.proofs.ExchangeUnder.{AreAsked, Under, at_first as under_first, comes_behind, reach}
 use Rattle.calm_election.proofs.ResponsesDelivered.{IsWhole, is_whole}
-use Rattle.calm_election.proofs.VotesAgain.{none_repeats}
-use Rattle.calm_election.proofs.VotesAlone.{Idle}
-use Rattle.calm_election.proofs.VotesAloneStart.{idle_at_first, of_two}
-use Rattle.calm_election.proofs.VotesAsked.{AllGivenVotes, Voting}
-use Rattle.calm_election.proofs.VotesComeBack.{all_given, begins}
+use Rattle.calm_election.proofs.VotesAsked.{fresh, no_vote, voting}
 use Rattle.calm_election.proofs.WinsGrounds.{Always, Below, all_row_laws, rows_join}
 use Rattle.calm_election.proofs.WinsScene.{RowLaws}
 use Rattle.calm_leader.specs.CallsComeBack.{LeadsNotIfUp}
@@ -39,10 +38,8 @@ use Rattle.calm_rounds.proofs.AsksFrames.{Flies, flies_on, from_group}
 use Rattle.calm_rounds.proofs.AsksKept.{past_in}
 use Rattle.calm_rounds.proofs.AsksLaw.{asks_not_itself, stands_then}
 use Rattle.calm_rounds.proofs.AsksScene.{Asker, harm_row, harm_upto, here, laws_at, listed, runs_at}
-use Rattle.calm_rounds.proofs.AsksUnder.{AreAsked, Under, comes_behind, from_idle, reach}
 use Rattle.calm_rounds.proofs.AsksWon.{IsAskedAt, IsWon, has_asked, is_won, vote_comes}
 use Rattle.cluster_calm.specs.Calm.{Member as OfMember, Party, no_traffic}
-use Rattle.cluster_calm.specs.Comes.{MayComeFirst, NoneRepeats}
 use Rattle.cluster_calm.proofs.Group.{AreWell, CalmLaws, IsServer}
 use Rattle.cluster_calm.proofs.Start.{places_in, server_is, well_in}
 use Rattle.cluster_spec.specs.Cluster.{AreMembers, Cluster, after_row, after_rows, arrival_at, cluster, frame_at, world_of}
@@ -163,26 +160,16 @@ module _ (below : Below) (ids : List ℕ) (members : AreMembers ids) (rows : Lis
       quiet_m : IsQuiet (v.member m).disk
       quiet_m = record { faults = (calm.running m in_m).faults; calls = (calm.running m in_m).disk }
 
-      given : AllGivenVotes n m v (front ++ timed ∷ rest)
-      given = all_given laws group clocks pace nodes n m member ids (λ done h. reads ids done members h) grows no_harm
-          (front ++ timed ∷ rest) rows (no_traffic start) v refl harmless are calm.calm calm.harmless can.its_memory can.place
+      abbrev two : Exchange
+      two = voting laws apart_offers stay answered (λ x. ⊤) group clocks pace nodes n m member in_m apart quick v (front ++ timed ∷ rest) can
 
-      abbrev two : Voting
-      two = of_two laws apart_offers stay answered group clocks pace nodes n m member in_m apart quick start v (front ++ timed ∷ rest) can
-          (its_server n member) (its_server m in_m) quiet_n quiet_m
+      given : AllGiven two v (front ++ timed ∷ rest)
+      given = all_given two ids (λ done h row offer. reads ids done members h n row offer) (λ done h row offer harm runs it what. tt) grows no_harm
+          (front ++ timed ∷ rest) rows (no_traffic start) v refl harmless are calm.calm calm.harmless can.memory can.its_memory can.place
 
-      abbrev Begins : ℕ → Type 0
-      Begins = MayComeFirst m Vote n can.answers.receiver
-
-      none : NoneRepeats m Vote n Begins v (front ++ timed ∷ rest)
-      none = none_repeats two (front ++ timed ∷ rest) (no_traffic start) v (id_of can.calls.sender.ids VoteQ m)
-          (begins laws apart_offers stay answered group clocks pace nodes n m member in_m apart quick start v can.calls
-          (its_server n member) (its_server m in_m) quiet_n quiet_m can.hears_it can.first_call)
-          Begins can.first_answer calm.calm are given
-
-      idle : Idle two can.answers.receiver.now Begins v (front ++ timed ∷ rest)
-      idle = idle_at_first laws apart_offers stay answered group clocks pace nodes n m member in_m apart quick start v (front ++ timed ∷ rest) can
-          (its_server n member) (its_server m in_m) quiet_n quiet_m calm.calm are given none
+      at_first : Fresh two start v (front ++ timed ∷ rest)
+      at_first = fresh laws apart_offers stay answered (λ x. ⊤) group clocks pace nodes n m member in_m apart quick v (front ++ timed ∷ rest) can start
+          (its_server n member) (its_server m in_m) quiet_n quiet_m calm.calm are given
 
       module _ (t u : AllocatorState) (up : ((here s front).member n).status ≡ Up t) (up_then : ((after_row (here s front) timed.row).member n).status ≡ Up u)
           (not_before : t.raft_server.memory.role ≢ Leader) (leads : u.raft_server.memory.role ≡ Leader) where
@@ -190,7 +177,7 @@ module _ (below : Below) (ids : List ℕ) (members : AreMembers ids) (rows : Lis
         Asked = IsAskedAt s front rest timed refl t u up up_then not_before leads m in_m (λ e. apart (sym e)) (is_won s front rest timed refl t u up up_then not_before leads)
 
         -- each request of the rows before is one
-        all_asked : (done more : List Timed) → front ≡ done ++ more → AreAsked two can.answers.receiver.now Begins Asked (here s done) more
+        all_asked : (done more : List Timed) → front ≡ done ++ more → AreAsked two Asked (here s done) more
         all_asked done [] e = tt
         all_asked done (x ∷ more) e = (
           λ offer sends what to. record {
@@ -210,20 +197,20 @@ module _ (below : Below) (ids : List ℕ) (members : AreMembers ids) (rows : Lis
               to = to;
             };
           },
-          subst (λ (q : Cluster). AreAsked two can.answers.receiver.now Begins Asked q more) (world_both v done (x ∷ []))
+          subst (λ (q : Cluster). AreAsked two Asked q more) (world_both v done (x ∷ []))
               (all_asked (done ++ x ∷ []) more (e ∙ sym (append_assoc done (x ∷ []) more))),
         )
 
-        under : Under two can.answers.receiver.now Begins Asked (here s front) (timed ∷ rest)
-        under = reach two can.answers.receiver.now Begins Asked front (timed ∷ rest) v
-            (from_idle two can.answers.receiver.now Begins Asked v (front ++ timed ∷ rest) idle) (all_asked [] front refl)
+        under : Under two Asked (here s front) (timed ∷ rest)
+        under = reach two Asked front (timed ∷ rest) v (under_first two Asked start v (front ++ timed ∷ rest) at_first) (all_asked [] front refl)
 
         -- a vote that comes from it was asked for
         asked_for : (id : ℕ) → VoteComes n m id (here s front) timed.row → HasAsked group n u.raft_server.store.term timed.at (4 * pace.delay) (world_of ids rows) front
-        asked_for id comes =
-            let found = comes_behind two can.answers.receiver.now Begins Asked (here s front) timed rest under id comes in
-            has_asked s front rest timed refl t u up up_then not_before leads m in_m (λ e. apart (sym e)) (is_won s front rest timed refl t u up up_then not_before leads)
-            found.0 found.1 found.2
+        asked_for id comes = elim (comes_behind two Asked (here s front) timed rest under) [
+          | inl silent ↦ absurd (no_vote two refl (here s front) timed.row silent id comes)
+          | inr found ↦ has_asked s front rest timed refl t u up up_then not_before leads m in_m (λ e. apart (sym e))
+              (is_won s front rest timed refl t u up up_then not_before leads) found.0 found.1 found.2
+        ]
 
     -- the row does no harm
     harm_here : (k ms : ℕ) → timed.row ≡ Rx n k ms → DoesNoHarm (here s front) (Rx n k ms)

@@ -20,14 +20,15 @@ use Rattle.calm_election.specs.Wins.{OffersVoteRequest}
 use Rattle.calm_election.proofs.WinsFronts.{votes_fit_at}
 use Rattle.calm_rounds.specs.Running.{IsCalmOf, NobodyStandsIn}
 use Rattle.calm_rounds.specs.Sent.{LeadsBy}
-use Rattle.calm_rounds.proofs.LearnsBack.{Along, ReplyComes, RequestComes, along, along_on, comes_back}
+use Rattle.calm_rounds.proofs.LearnsBack.{Along, ReplyComes, RequestComes, along, along_on, at_first, comes_back}
 use Rattle.calm_rounds.proofs.LearnsCallers as callers
 use Rattle.calm_rounds.proofs.LearnsCallers.{stands_not}
 use Rattle.calm_rounds.proofs.LearnsChain.{AllTurns}
-use Rattle.calm_rounds.proofs.LearnsExchange.{AllGiven, Exchange}
+use Rattle.calm_election.proofs.Exchange.{AllGiven, Exchange}
+use Rattle.calm_election.proofs.ExchangeStart.{all_given}
+use Rattle.calm_election.proofs.VotesAsked.{fresh}
 use Rattle.calm_rounds.proofs.LearnsGrounds.{VoteGrounds, from_there, up_to_end_of}
-use Rattle.calm_rounds.proofs.LearnsStart.{all_given, at_first}
-use Rattle.calm_rounds.proofs.LearnsVotes.{AllSteps, Asked, LeadsNotBy, Waiting, all_turns, asking, steps_on, waits_on}
+use Rattle.calm_rounds.proofs.LearnsVotes.{AllSteps, Asked, LeadsNotBy, Waiting, all_turns, asking, steps_on, twice_quick, waits_on}
 use Rattle.cluster_calm.specs.Calm.{AreCalm, Member as OfMember, Party, no_traffic}
 use Rattle.cluster_calm.specs.Comes.{Sends, sent_by}
 use Rattle.cluster_calm.proofs.Group.{AreWell, IsWell}
@@ -102,8 +103,10 @@ module _ (ids : List ℕ) (rows : List Row) (g : VoteGrounds ids rows) (group : 
       whole rows (no_traffic start) w refl g.calling.harmless are calm.calm calm.harmless can.memory can.its_memory can.place
 
   its_along : Along both IsOpen IsWaiting calm.quick w whole
-  its_along = at_first both IsOpen IsWaiting calm.quick start w whole can.calls can.answers refl refl (λ id begins. begins) (λ id begins. begins) can.first_call
-      can.first_answer can.hears_it (g.calling.is n (calm.listed n in_n)) (g.calling.is m (calm.listed m in_m)) (quiet n in_n) (quiet m in_m) calm.calm are given turns.0
+  its_along = at_first both IsOpen IsWaiting calm.quick start w whole
+      (fresh g.calling.laws g.calling.apart_offers g.calling.stay g.votes VoteAnswersAsSaid group clocks pace nodes n m in_n in_m apart (twice_quick pace.delay calm.quick)
+      w whole can start (g.calling.is n (calm.listed n in_n)) (g.calling.is m (calm.listed m in_m)) (quiet n in_n) (quiet m in_m) calm.calm are given)
+      turns.0
 
   steps_here : Steps there (timed ∷ (early ++ next ∷ late))
   steps_here = steps_on g.calling.laws g.calling.apart_offers g.calling.stay g.votes group clocks pace nodes n m in_n in_m apart calm.quick w whole can
@@ -146,7 +149,7 @@ module _ (ids : List ℕ) (rows : List Row) (g : VoteGrounds ids rows) (group : 
       then_k = along both IsOpen IsWaiting calm.quick v one (rest ++ later) k
 
       its : IsWell n ((after_row v one.row).member n)
-      its = then_k.are.members n in_n
+      its = then_k.u.going.are.members n in_n
 
   module _ (offer : Offer) (sends : Sends n there timed.row offer) (what : offer.what ≡ VoteQ) (to : offer.to ≡ m) (nobody : NobodyStandsIn group then_w early)
       (long : timed.at + 4 * pace.delay < next.at) (leads_not : LeadsNotBy n (timed.at + 4 * pace.delay) then_w early) where

@@ -7,17 +7,17 @@ use Rattle.raft_model.specs.Lists.{In}
 use Rattle.replay_text.specs.declared.row.Row.{Row}
 use Rattle.alloc_spec.specs.AllocatorState.{AllocatorState}
 use Rattle.alloc_spec.specs.Step.{step}
-use Rattle.alloc_spec.specs.Transfers.{Offer, SentTransfer}
+use Rattle.alloc_spec.specs.Transfers.{Offer, SentTransfer, id_of}
 use Rattle.calm_election.specs.Votes.{Stands}
-use Rattle.calm_rounds.proofs.LearnsAnswers as replies
-use Rattle.calm_rounds.proofs.LearnsAsking as questions
+use Rattle.calm_election.proofs.ExchangeGoes.{answered_in_time, asked_in_time, at_first as going_first}
+use Rattle.calm_election.proofs.ExchangeStart.{Fresh}
 use Rattle.calm_rounds.proofs.LearnsChain.{AllTurns, NoAnswer}
-use Rattle.calm_rounds.proofs.LearnsExchange.{AllGiven, Exchange, IsAnswered}
+use Rattle.calm_election.proofs.Exchange.{Exchange, IsAnswered}
 use Rattle.calm_rounds.proofs.LearnsUnder.{Stepped, Under, stepped}
 use Rattle.calm_leader.proofs.RowsOfOne.{stepped_up}
-use Rattle.cluster_calm.specs.Calm.{AreCalm, IsCalmRow, Member as OfMember, Party, Traffic, traffic_after}
+use Rattle.cluster_calm.specs.Calm.{IsCalmRow, Member as OfMember, Party}
 use Rattle.cluster_calm.specs.Comes.{Delivers, Sends, sent_by}
-use Rattle.cluster_calm.proofs.Group.{AreWell, IsWell, well_after}
+use Rattle.cluster_calm.proofs.Group.{IsWell}
 use Rattle.cluster_calm.proofs.Pair.{same_server}
 use Rattle.cluster_calm.proofs.Pending.{Made}
 use Rattle.cluster_recovery.specs.Calm.{Pace, Timed, rows_in}
@@ -86,24 +86,31 @@ module _ (both : Exchange) (Open Stay : Made → AllocatorState → Type 0) (qui
 
   -- What is given of these rows.
   pub record Along (w : Cluster) (rows : List Timed) : Type 0 where
-    pub traffic : Traffic
-    pub u : Under both Open quick traffic w rows
-    pub calm : AreCalm group clocks pace traffic w rows
-    pub are : AreWell group w
-    pub given : AllGiven both w rows
+    pub u : Under both Open quick w rows
     pub turns : AllTurns both Open w rows
 
+  -- It is so where the calm begins.
+  pub at_first : (start : ℕ) (w : Cluster) (rows : List Timed) → Fresh both start w rows → AllTurns both Open w rows → Along w rows
+  at_first start w rows f turns = record {
+    u = record {
+      going = going_first both start w rows f;
+      olds = [];
+      match = tt;
+      first = id_of f.requests.sender.ids asks m;
+      follow = refl;
+      few = tt;
+      past = λ z i. absurd i;
+    };
+    turns = turns;
+  }
+
   module _ (w : Cluster) (timed : Timed) (rest : List Timed) (g : Along w (timed ∷ rest)) where
-    abbrev pub its_step : Stepped both Open quick g.traffic w timed rest g.u g.calm g.are g.given.0 g.turns.0
-    its_step = stepped both Open quick g.traffic w timed rest g.u g.calm g.are g.given.0 g.turns.0
+    abbrev pub its_step : Stepped both Open quick w timed rest g.u g.turns.0
+    its_step = stepped both Open quick w timed rest g.u g.turns.0
 
     abbrev pub along : Along (after_row w timed.row) rest
     along = record {
-      traffic = traffic_after g.traffic w timed;
       u = its_step.then_u;
-      calm = g.calm.2;
-      are = well_after both.laws group both.nodes w g.are clocks pace g.traffic timed.at timed.row g.calm.1;
-      given = g.given.1;
       turns = g.turns.1;
     }
 
@@ -124,19 +131,19 @@ module _ (both : Exchange) (Open Stay : Made → AllocatorState → Type 0) (qui
   }
 
   -- an answer that is under way comes within the time
-  reply_soon : (x y : Made) → y.at ≤ x.at + 2 * pace.delay → (timed : Timed) (rest : List Timed) (w : Cluster) (g : Along w (timed ∷ rest)) → In y g.u.a.xs
+  reply_soon : (x y : Made) → y.at ≤ x.at + 2 * pace.delay → (timed : Timed) (rest : List Timed) (w : Cluster) (g : Along w (timed ∷ rest)) → In y g.u.going.a.xs
       → timed.at ≤ x.at + 4 * pace.delay
-  reply_soon x y its_soon timed rest w g i = let l = replies.in_time both g.traffic w timed rest g.u.a g.calm g.are g.given.0.memory_n y i in omega (arith, l, its_soon)
+  reply_soon x y its_soon timed rest w g i = let l = answered_in_time both w timed rest g.u.going y i in omega (arith, l, its_soon)
 
   reply_comes : (x y : Made) → y.transfer.offer.id ≡ x.transfer.offer.id → y.at ≤ x.at + 2 * pace.delay → (next : Timed) (later : List Timed)
-      → x.at + 4 * pace.delay < next.at → (rows : List Timed) (w : Cluster) (g : Along w (rows ++ next ∷ later)) → In y g.u.a.xs → Stay x g.u.q.pair.sender → Stays x w rows
+      → x.at + 4 * pace.delay < next.at → (rows : List Timed) (w : Cluster) (g : Along w (rows ++ next ∷ later)) → In y g.u.going.a.xs → Stay x g.u.going.q.pair.sender → Stays x w rows
       → ReplyComes x y.transfer w rows
   reply_comes x y its_id its_soon next later long [] w g i opened stays = absurd (let soon = reply_soon x y its_soon next later w g i in omega (arith, soon, long))
   reply_comes x y its_id its_soon next later long (timed ∷ rest) w g i opened stays = elim ((its_step w timed (rest ++ next ∷ later) g).replies y i) [
     | inl more ↦ reply_behind x y.transfer w timed rest (reply_comes x y its_id its_soon next later long rest (after_row w timed.row) (along w timed (rest ++ next ∷ later) g) more.0
-        (stays.0 g.u.q.pair.sender (its_step w timed (rest ++ next ∷ later) g).then_u.q.pair.sender g.u.q.pair.sender_up.status
-        (its_step w timed (rest ++ next ∷ later) g).then_u.q.pair.sender_up.status opened late
-        (subst (λ (id : ℕ). NoAnswer both Open id w timed.row g.u.q.pair.sender) its_id more.1)) stays.1)
+        (stays.0 g.u.going.q.pair.sender (its_step w timed (rest ++ next ∷ later) g).then_u.going.q.pair.sender g.u.going.q.pair.sender_up.status
+        (its_step w timed (rest ++ next ∷ later) g).then_u.going.q.pair.sender_up.status opened late
+        (subst (λ (id : ℕ). NoAnswer both Open id w timed.row g.u.going.q.pair.sender) its_id more.1)) stays.1)
     | inr d ↦ record {
       front = [];
       timed = timed;
@@ -144,17 +151,17 @@ module _ (both : Exchange) (Open Stay : Made → AllocatorState → Type 0) (qui
       split = refl;
       soon = late;
       delivers = d;
-      opened = subst (Stay x) (same_server g.u.q.pair.sender d.server (sym g.u.q.pair.sender_up.status ∙ d.runs)) opened;
+      opened = subst (Stay x) (same_server g.u.going.q.pair.sender d.server (sym g.u.going.q.pair.sender_up.status ∙ d.runs)) opened;
       me = ap (λ (s : AllocatorState). s.me) (same_server d.server its.server (sym d.runs ∙ its.up.status)) ∙ its.its.me;
       moment =
-          let ms : d.ms ≡ timed.at + clocks (OfMember n) = (subst (λ (row : Row). IsCalmRow group clocks pace g.traffic w timed.at row) d.comes g.calm.1).1 in
+          let ms : d.ms ≡ timed.at + clocks (OfMember n) = (subst (λ (row : Row). IsCalmRow group clocks pace g.u.going.traffic w timed.at row) d.comes g.u.going.calm.1).1 in
           let now = g.turns.0.clock d.server d.runs in omega (arith, ms, now);
       runs_then = (stepped_up w n d.server (record { status = d.runs; quiet = its.up.quiet }) timed.row (receipt_of w d.k d.ms) (ap (λ (r : Row). step_of w r) d.comes)).status;
     }
   ]
     where
       its : IsWell n (w.member n)
-      its = g.are.members n both.in_n
+      its = g.u.going.are.members n both.in_n
 
       late : timed.at ≤ x.at + 4 * pace.delay
       late = reply_soon x y its_soon timed (rest ++ next ∷ later) w g i
@@ -175,11 +182,11 @@ module _ (both : Exchange) (Open Stay : Made → AllocatorState → Type 0) (qui
   }
 
   -- a request that is under way comes within the time
-  request_soon : (x : Made) (timed : Timed) (rest : List Timed) (w : Cluster) (g : Along w (timed ∷ rest)) → In x g.u.q.xs → timed.at ≤ x.at + 2 * pace.delay
-  request_soon x timed rest w g i = questions.in_time both g.traffic w g.u.next g.u.q timed rest g.calm g.are g.given.0 x i
+  request_soon : (x : Made) (timed : Timed) (rest : List Timed) (w : Cluster) (g : Along w (timed ∷ rest)) → In x g.u.going.q.xs → timed.at ≤ x.at + 2 * pace.delay
+  request_soon x timed rest w g i = asked_in_time both w timed rest g.u.going x i
 
   request_comes : (x : Made) (next : Timed) (later : List Timed) → x.at + 4 * pace.delay < next.at → (rows : List Timed) (w : Cluster) (g : Along w (rows ++ next ∷ later))
-      → In x g.u.q.xs → Stay x g.u.q.pair.sender → Stays x w rows → RequestComes x w rows
+      → In x g.u.going.q.xs → Stay x g.u.going.q.pair.sender → Stays x w rows → RequestComes x w rows
   request_comes x next later long [] w g i opened stays = absurd (let soon = request_soon x next later w g i in omega (arith, soon, long))
   request_comes x next later long (timed ∷ rest) w g i opened stays = elim ((its_step w timed (rest ++ next ∷ later) g).requests x i) [
     | inl more ↦ request_behind x w timed rest (request_comes x next later long rest (after_row w timed.row) (along w timed (rest ++ next ∷ later) g) more then_open stays.1)
@@ -191,7 +198,7 @@ module _ (both : Exchange) (Open Stay : Made → AllocatorState → Type 0) (qui
       soon = soon;
       delivers = d.0;
       answered = d.1;
-      told = g.given.0.told d.1.offer d.1.sends d.1.what;
+      told = g.u.going.given.0.told d.1.offer d.1.sends d.1.what;
       comes = reply_comes x (record { at = timed.at; transfer = sent_by m w d.1.offer }) d.1.id soon next later long rest (after_row w timed.row)
           (along w timed (rest ++ next ∷ later) g) d.2 then_open stays.1;
     }
@@ -203,9 +210,9 @@ module _ (both : Exchange) (Open Stay : Made → AllocatorState → Type 0) (qui
       late : timed.at ≤ x.at + 4 * pace.delay
       late = omega (arith, soon)
 
-      then_open : Stay x (its_step w timed (rest ++ next ∷ later) g).then_u.q.pair.sender
-      then_open = stays.0 g.u.q.pair.sender (its_step w timed (rest ++ next ∷ later) g).then_u.q.pair.sender g.u.q.pair.sender_up.status
-          (its_step w timed (rest ++ next ∷ later) g).then_u.q.pair.sender_up.status opened late ((its_step w timed (rest ++ next ∷ later) g).quiet x i)
+      then_open : Stay x (its_step w timed (rest ++ next ∷ later) g).then_u.going.q.pair.sender
+      then_open = stays.0 g.u.going.q.pair.sender (its_step w timed (rest ++ next ∷ later) g).then_u.going.q.pair.sender g.u.going.q.pair.sender_up.status
+          (its_step w timed (rest ++ next ∷ later) g).then_u.going.q.pair.sender_up.status opened late ((its_step w timed (rest ++ next ∷ later) g).quiet x i)
 
   -- ---- from the beginning
 
@@ -221,7 +228,7 @@ module _ (both : Exchange) (Open Stay : Made → AllocatorState → Type 0) (qui
   sent_here rest later timed next w g offer sends what to opened stays long =
       request_comes (record { at = timed.at; transfer = sent_by n w offer }) next later long rest (after_row w timed.row) (along w timed (rest ++ next ∷ later) g)
       ((its_step w timed (rest ++ next ∷ later) g).adds offer sends what to)
-      (opened (its_step w timed (rest ++ next ∷ later) g).then_u.q.pair.sender (its_step w timed (rest ++ next ∷ later) g).then_u.q.pair.sender_up.status) stays
+      (opened (its_step w timed (rest ++ next ∷ later) g).then_u.going.q.pair.sender (its_step w timed (rest ++ next ∷ later) g).then_u.going.q.pair.sender_up.status) stays
 
   -- a request that is sent comes back before a row that is late enough
   pub comes_back : (front rest later : List Timed) (timed next : Timed) (w : Cluster) → Along w (front ++ timed ∷ (rest ++ next ∷ later)) →

@@ -13,12 +13,12 @@ use Rattle.calm_leader.specs.Answers.{AnswersAsSaid}
 use Rattle.calm_leader.specs.Entries.{CanExchange}
 use Rattle.calm_leader.proofs.Stretches.{calm_front, fits_at, rows_both}
 use Rattle.calm_rounds.specs.Running.{IsCalmOf, NobodyStandsIn}
-use Rattle.calm_rounds.proofs.LearnsBack.{Along, ReplyComes, RequestComes, StandsNot, comes_back, open_stays, turns_on}
+use Rattle.calm_rounds.proofs.LearnsBack.{Along, ReplyComes, RequestComes, StandsNot, at_first, comes_back, open_stays, turns_on}
 use Rattle.calm_rounds.proofs.LearnsCalls.{Called, all_turns, calling}
 use Rattle.calm_rounds.proofs.LearnsChain.{AllTurns}
-use Rattle.calm_rounds.proofs.LearnsExchange.{AllGiven, Exchange}
+use Rattle.calm_election.proofs.Exchange.{AllGiven, Exchange}
+use Rattle.calm_election.proofs.ExchangeStart.{all_given}
 use Rattle.calm_rounds.proofs.LearnsGrounds.{Grounds, from_there, up_to_end_of}
-use Rattle.calm_rounds.proofs.LearnsStart.{all_given, at_first}
 use Rattle.calm_rounds.proofs.LearnsTakes.{WaitsForAppend, learns}
 use Rattle.cluster_agreement.proofs.Concatenations.{first_harmless}
 use Rattle.cluster_calm.specs.Calm.{AreCalm, Member as OfMember, Party, no_traffic}
@@ -157,8 +157,24 @@ module _ (ids : List ℕ) (rows : List Row) (g : Grounds ids rows) (group : List
       (no_traffic start) w refl g.harmless are calm.calm calm.harmless can.memory can.its_memory can.place
 
   along : Along both IsOpen IsOpen calm.quick w whole
-  along = at_first both IsOpen IsOpen calm.quick start w whole can.calls can.answers refl refl (λ id begins. begins) (λ id begins. begins) can.first_call can.first_answer can.hears_it
-      (g.is n (calm.listed n in_n)) (g.is m (calm.listed m in_m)) (quiet n in_n) (quiet m in_m) calm.calm are given turns
+  along = at_first both IsOpen IsOpen calm.quick start w whole (record {
+    requests = can.calls;
+    replies = can.answers;
+    base_m = refl;
+    base_n = refl;
+    admits_m = λ id begins. begins;
+    admits_n = λ id begins. begins;
+    may = can.first_call;
+    may_answer = can.first_answer;
+    lists = can.hears_it;
+    is_n = g.is n (calm.listed n in_n);
+    is_m = g.is m (calm.listed m in_m);
+    quiet_n = quiet n in_n;
+    quiet_m = quiet m in_m;
+    calm = calm.calm;
+    are = are;
+    given = given;
+  }) turns
 
   module _ (offer : Offer) (sends : Sends n there timed.row offer) (what : offer.what ≡ AppQ) (to : offer.to ≡ m) (nobody : StandsNot n then_w early)
       (long : timed.at + 4 * pace.delay < next.at) where

@@ -7,9 +7,8 @@ use Rattle.can_frame.specs.declared.step.What.TheVariants.{Alloc, App, AppQ}
 use Rattle.raft_core.specs.Times.{Sending}
 use Rattle.raft_model.specs.Lists.{In}
 use Rattle.raft_model.specs.Messages.{Answer, Request}
-use Rattle.raft_model.specs.Messages.Message.{Answers, Requests}
-use Rattle.raft_model.specs.Moves.Elections.{with_term}
-use Rattle.raft_model.specs.Server.{Role, Store}
+use Rattle.raft_model.specs.Messages.Message.{Requests}
+use Rattle.raft_model.specs.Server.{Role}
 use Rattle.raft_model.specs.Server.Role.{Candidate, Leader}
 use Rattle.replay_text.specs.declared.row.Row.{Row}
 use Rattle.replay_text.specs.declared.row.Row.TheVariants.{Rx}
@@ -21,17 +20,16 @@ use Rattle.alloc_spec.specs.Step.{Event, moment_of, step}
 use Rattle.alloc_spec.specs.Transfers.{Offer, SentTransfer, has_room}
 use Rattle.alloc_spec_laws.specs.Apart.{AreAllApart}
 use Rattle.alloc_spec_laws.specs.Saying.{append_bytes}
-use Rattle.alloc_spec_laws.proofs.Choices.{lt_tells}
 use Rattle.calm_election.specs.Votes.{Stands}
 use Rattle.calm_election.proofs.RowsLeave.{IsLeft}
-use Rattle.calm_election.proofs.VotesTaken.{raised_term, same_term}
+use Rattle.calm_election.proofs.VotesAsked.{TellsTerm, no_lower}
 use Rattle.calm_leader.specs.Answers.{AnswersAsSaid, AnswersCall, CallsAreAnswered, answer_by, asked_by}
 use Rattle.calm_leader.specs.CallsAsk.{AsksNext, CallsAskNext, next_request}
 use Rattle.calm_leader.specs.CallsComeBack.{HasPlace}
 use Rattle.calm_leader.specs.Entries.{CanExchange}
 use Rattle.calm_leader.proofs.RowsOfOne.{stepped_up}
 use Rattle.calm_rounds.proofs.LearnsChain.{AllTurns, NoAnswer, Turn}
-use Rattle.calm_rounds.proofs.LearnsExchange.{Exchange, IsAnswered}
+use Rattle.calm_election.proofs.Exchange.{Exchange, IsAnswered}
 use Rattle.calm_rounds.proofs.LearnsPends.{IsNext, Still, pends_at_frame, pends_at_tick}
 use Rattle.calm_rounds.proofs.LearnsRows.{Known, clock_then, its_moment, left, receipt_at, since_then, stands_then, step_at, stood_then, tick_at}
 use Rattle.calm_rounds.proofs.LearnsTakes.{WaitsForAppend}
@@ -52,13 +50,6 @@ use Rattle.cluster_spec.specs.Members.MemberStatus.{Up}
 pub answer_fits : (queue : List Queued) (a : Answer) → length queue < 32 → has_room queue (append_bytes a) ≡ true
 answer_fits queue a few_wait = le-leb (length queue + 1) 32 (omega (arith, few_wait))
 
--- a server answers in no lower term than its own
-pub no_lower : (store : Store) (term : ℕ) → store.term ≤ (with_term store term).term
-no_lower store term = elim (lt_tells store.term term) [
-  | inl z ↦ let e = raised_term store term z.1 in let less = z.1 in omega (arith, e, less)
-  | inr z ↦ let e = same_term store term z.1 in omega (arith, e)
-]
-
 one_id : (a b : Sending) → Some a ≡ Some b → a.id ≡ b.id
 one_id a b e = ap (λ (s : Sending). s.id) (the_same e)
   where
@@ -74,10 +65,6 @@ call_is_other e = cc e
 
 pub answer_is_other : App ≢ Alloc
 answer_is_other e = cc e
-
--- an answer to a call says that of a server: a term that is no lower than its own
-abbrev pub TellsTerm : AllocatorState → Offer → Type 0
-TellsTerm t offer = (answer : Answer) × (offer.says ≡ Some (Answers answer)) × (t.raft_server.store.term ≤ answer.term)
 
 module _ (laws : CalmLaws) (apart_offers : (t : AllocatorState) (number : ℕ) (event : Event) → AreAllApart (step t number event).step_state.offers)
     (stay : (t : AllocatorState) (number : ℕ) (event : Event) (node : ℕ) → In node (members_of t) → In node (members_of (step t number event).step_state.allocator))

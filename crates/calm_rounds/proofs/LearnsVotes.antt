@@ -1,32 +1,31 @@
 -- A member that asks another one for its vote, in a calm: what a row does to a vote request that is open.
-use Rattle.std.proofs.Common.{◌≡◌, ◌≢◌, ℕ, ◌+◌, ◌*◌, ◌<◌, ◌≤◌, arith, List, [], ◌∷◌, ◌++◌, max, refl, sym, ◌∙◌, ap, subst, inl, inr, Some}
+use Rattle.std.proofs.Common.{◌≡◌, ◌≢◌, ℕ, ◌+◌, ◌*◌, ◌<◌, ◌≤◌, arith, List, [], ◌∷◌, ◌++◌, max, sym, ◌∙◌, ap, subst, inl, inr, Some}
 use Rattle.std.specs.Prelude.{⊤, ◌⊎◌}
 use Rattle.can_frame.specs.declared.identifier.Kind.TheVariants.{Response}
-use Rattle.can_frame.specs.declared.step.What.TheVariants.{Alloc, Vote, VoteQ}
+use Rattle.can_frame.specs.declared.step.What.TheVariants.{VoteQ}
 use Rattle.raft_core.specs.Times.{Sending}
 use Rattle.raft_model.specs.Lists.{In}
 use Rattle.raft_model.specs.Messages.{Request}
 use Rattle.raft_model.specs.Server.{Role}
 use Rattle.raft_model.specs.Server.Role.{Candidate, Leader}
-use Rattle.replay_text.specs.declared.row.Row.{Row}
 use Rattle.replay_text.specs.declared.row.Row.TheVariants.{Rx, Tick}
 use Rattle.transfer_rx.specs.Reassembly.{Delivery, Gives, answer}
 use Rattle.alloc_spec.specs.Accepted.{rows, setting_for}
 use Rattle.alloc_spec.specs.AllocatorState.{AllocatorState, members_of}
 use Rattle.alloc_spec.specs.Step.{Event, moment_of, step}
-use Rattle.alloc_spec.specs.Transfers.{Offer, SentTransfer}
+use Rattle.alloc_spec.specs.Transfers.{Offer}
 use Rattle.alloc_spec_laws.specs.Apart.{AreAllApart}
 use Rattle.calm_election.specs.Votes.{Stands}
 use Rattle.calm_election.proofs.RowsLeave.{IsLeft}
-use Rattle.calm_leader.specs.CallsComeBack.{HasPlace, LeadsNotIfUp}
+use Rattle.calm_leader.specs.CallsComeBack.{LeadsNotIfUp}
 use Rattle.calm_leader.proofs.RowsOfOne.{stepped_up}
 use Rattle.calm_rounds.proofs.LearnsBack.{StandsNot, Stays}
 use Rattle.calm_rounds.proofs.LearnsChain.{AllTurns, NoAnswer, Turn}
-use Rattle.calm_rounds.proofs.LearnsExchange.{Exchange, IsAnswered}
+use Rattle.calm_election.proofs.Exchange.{Exchange}
 use Rattle.calm_rounds.proofs.LearnsRows.{Known, clock_then, its_moment, left, receipt_at, since_then, stands_then, step_at, stood_then, tick_at}
 use Rattle.cluster_calm.specs.Calls.{Lists}
 use Rattle.cluster_calm.specs.Calm.{AreCalm, Member as OfMember, Party, Traffic, traffic_after}
-use Rattle.cluster_calm.specs.Comes.{Delivers, MayComeFirst, Sends, sent_by}
+use Rattle.cluster_calm.specs.Comes.{Sends, sent_by}
 use Rattle.cluster_calm.proofs.Calls.{lists_on}
 use Rattle.cluster_calm.proofs.Counting.{now_after}
 use Rattle.cluster_calm.proofs.Group.{AreWell, CalmLaws, IsWell, well_after}
@@ -42,12 +41,12 @@ use Rattle.can_frame.specs.declared.identifier.Kind.{Kind}
 use Rattle.transfer_rx.specs.Acceptance.{first_signature}
 use Rattle.transfer_rx.specs.Sound.{IsDelivered}
 use Rattle.cluster_agreement.proofs.Idents.{wanted_is}
-use Rattle.calm_election.specs.Votes.{AnswersVote, CanAsk, VoteAnswersAsSaid, VoteReadsAsSaid, VotesAreAnswered, WaitsForVote, vote_asked_by, vote_by}
-use Rattle.calm_election.proofs.VotesAsked.{vote_sent}
+use Rattle.calm_election.specs.Votes.{CanAsk, VoteAnswersAsSaid, VotesAreAnswered, WaitsForVote}
+use Rattle.calm_election.proofs.VotesAsked.{voting}
 use Rattle.calm_election.proofs.VotesPend.{IsNext, Still, pends_at_frame, pends_at_tick}
 use Rattle.calm_election.proofs.WaitsTicks.{tick_leaves}
 use Rattle.calm_rounds.proofs.LearnsAsks.{IsAskedNow, asked_now}
-use Rattle.calm_rounds.proofs.LearnsCalls.{TellsTerm, no_leader, no_lower}
+use Rattle.calm_rounds.proofs.LearnsCalls.{no_leader}
 use Rattle.calm_rounds.proofs.LearnsRoles.{none_at_frame}
 
 one_id : (a b : Sending) → Some a ≡ Some b → a.id ≡ b.id
@@ -75,65 +74,18 @@ abbrev pub LeadsNotBy : (n last : ℕ) → Cluster → List Timed → Type 0
 LeadsNotBy n last w [] = ⊤
 LeadsNotBy n last w (timed ∷ rest) = (timed.at ≤ last → LeadsNotIfUp n (after_row w timed.row)) × LeadsNotBy n last (after_row w timed.row) rest
 
--- neither is an Allocation
-pub ask_is_other : VoteQ ≢ Alloc
-ask_is_other e = cc e
-
-pub vote_is_other : Vote ≢ Alloc
-vote_is_other e = cc e
+-- a delay of which four are quick enough is short enough
+pub twice_quick : (delay : ℕ) → 4 * delay < 1000 → 2 * delay ≤ 2000
+twice_quick delay quick = omega (arith, quick)
 
 module _ (laws : CalmLaws) (apart_offers : (t : AllocatorState) (number : ℕ) (event : Event) → AreAllApart (step t number event).step_state.offers)
     (stay : (t : AllocatorState) (number : ℕ) (event : Event) (node : ℕ) → In node (members_of t) → In node (members_of (step t number event).step_state.allocator))
     (votes_answered : VotesAreAnswered) (group : List Party) (clocks : Party → ℕ) (pace : Pace)
     (nodes : (p : ℕ) → In (OfMember p) group → (1 ≤ p) × (p ≤ 125)) (n m : ℕ) (in_n : In (OfMember n) group) (in_m : In (OfMember m) group) (apart : n ≢ m)
     (quick : 4 * pace.delay < 1000) (first_w : Cluster) (whole : List Timed) (can : CanAsk n m first_w whole) where
-  -- who is asked answers
-  pub its_vote : (x : SentTransfer) (w : Cluster) (row : Row) (delivers : Delivers m x w row) → delivers.server.me ≡ m → x.offer.what ≡ VoteQ → VoteReadsAsSaid x
-      → In x.by (members_of delivers.server) → HasPlace m w → IsAnswered m Vote TellsTerm x w row
-  its_vote x w row delivers me what reads listed place = let a : AnswersVote m x reads.request w row delivers = votes_answered m x reads.request w row delivers me what reads.read listed in record {
-    offer = a.offer;
-    sends = vote_sent m x reads.request w row delivers a place;
-    what = a.what;
-    to = a.to;
-    id = a.id;
-    server = delivers.server;
-    runs = delivers.runs;
-    tells = (vote_by (w.rows + 1) delivers.server (vote_asked_by x reads.request m), a.says, no_lower delivers.server.raft_server.store (vote_asked_by x reads.request m).term);
-  }
-
   -- the two
   abbrev pub asking : Exchange
-  asking = record {
-    laws = laws;
-    apart_offers = apart_offers;
-    stay = stay;
-    group = group;
-    clocks = clocks;
-    pace = pace;
-    nodes = nodes;
-    n = n;
-    m = m;
-    in_n = in_n;
-    in_m = in_m;
-    apart = apart;
-    quick = omega (arith, quick);
-    asks = VoteQ;
-    answers = Vote;
-    heard_asks = (ask_is_other, refl);
-    heard_answers = (vote_is_other, refl);
-    counted = omega (arith, (nodes m in_m).1);
-    asks_kind = refl;
-    answers_kind = refl;
-    numbers = refl;
-    Reads = VoteReadsAsSaid;
-    Tells = TellsTerm;
-    Told = VoteAnswersAsSaid;
-    answered = its_vote;
-    base_m = can.calls.receiver.now;
-    BeginsM = MayComeFirst n VoteQ m can.calls.receiver;
-    base_n = can.answers.receiver.now;
-    BeginsN = MayComeFirst m Vote n can.answers.receiver;
-  }
+  asking = voting laws apart_offers stay votes_answered VoteAnswersAsSaid group clocks pace nodes n m in_n in_m apart (twice_quick pace.delay quick) first_w whole can
 
   -- who asked waits for the answer
   abbrev pub Waiting : Made → AllocatorState → Type 0

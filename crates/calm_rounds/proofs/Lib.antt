@@ -29,13 +29,9 @@ pub mod AsksScene
 pub mod AsksWaits
 pub mod AsksState
 pub mod AsksLaw
-pub mod AsksUnder
 pub mod AsksFrames
 pub mod AsksWon
 pub mod AsksGrounds
-pub mod LearnsExchange
-pub mod LearnsAsking
-pub mod LearnsAnswers
 pub mod LearnsFrames
 pub mod LearnsPends
 pub mod LearnsTakes
@@ -44,7 +40,6 @@ pub mod LearnsUnder
 pub mod LearnsBack
 pub mod LearnsRows
 pub mod LearnsCalls
-pub mod LearnsStart
 pub mod LearnsGrounds
 pub mod LearnsCallers
 pub mod LearnsAsks

@@ -1,20 +1,25 @@
 use Rattle.std.proofs.Common.{◌≡◌, ◌≤◌, ℕ, List, [], ◌∷◌, ◌++◌, refl, sym, subst}
-use Rattle.can_frame.specs.declared.step.What.TheVariants.{Vote, VoteQ}
+use Rattle.std.specs.Prelude.{⊤}
 use Rattle.raft_model.specs.Lists.{In}
 use Rattle.raft_model.specs.Runs.{World, initial_world, run}
 use Rattle.alloc_spec.specs.AllocatorState.{AllocatorState}
-use Rattle.alloc_spec.specs.Transfers.{SentTransfer, id_of}
-use Rattle.calm_election.proofs.VotesAgain.{none_repeats}
-use Rattle.calm_election.proofs.VotesAsked.{AllGivenVotes}
-use Rattle.calm_election.proofs.VotesComeBack.{all_given, begins, comes_back, voting}
+use Rattle.alloc_spec.specs.Transfers.{SentTransfer}
+use Rattle.calm_election.specs.Votes.{VoteReadsAsSaid}
+use Rattle.calm_election.proofs.Exchange.{AllGiven, Exchange, given_at}
+use Rattle.calm_election.proofs.ExchangeBack.{comes_back}
+use Rattle.calm_election.proofs.ExchangeGoes.{at_first, going_on}
+use Rattle.calm_election.proofs.ExchangeStart.{Fresh, all_given}
+use Rattle.calm_election.proofs.VotesAsked.{fresh, voting}
+use Rattle.calm_election.proofs.VotesComeBack.{vote_comes_back}
 use Rattle.calm_election.proofs.laws.vote_requests_come_back.Goals as goal
 use Rattle.cluster_agreement.specs.Shows.{Shows}
+use Rattle.cluster_recovery.specs.Calm.{rows_in}
 use Rattle.cluster_recovery.proofs.Members.{IsQuiet}
 use Rattle.cluster_calm.specs.Calm.{Member, no_traffic}
-use Rattle.cluster_calm.specs.Comes.{MayComeFirst}
+use Rattle.cluster_calm.specs.Comes.{sent_by}
 use Rattle.cluster_calm.proofs.Group.{AreWell, CalmLaws, IsServer}
 use Rattle.cluster_calm.proofs.Start.{places_in, server_is, well_in}
-use Rattle.cluster_spec.specs.Cluster.{Cluster, cluster, world_of}
+use Rattle.cluster_spec.specs.Cluster.{Cluster, after_rows, cluster, world_of}
 use Rattle.cluster_spec.specs.Members.MemberStatus.{Up}
 use Rattle.cluster_spec.specs.Refinement.{events, transfers_of_rows}
 
@@ -55,13 +60,16 @@ returns c =
     let of_m = running m in_m in
     let quiet_n : IsQuiet (w.member n).disk = record { faults = of_n.faults; calls = of_n.disk } in
     let quiet_m : IsQuiet (w.member m).disk = record { faults = of_m.faults; calls = of_m.disk } in
-    let given : AllGivenVotes n m w (front ++ timed ∷ rest) = all_given laws group clocks pace nodes n m in_n ids
-    (λ done h. c.vote_requests_read_as_said.ensures ids done members h) c.rows_grow_by_one.ensures.world c.rows_grow_by_one.ensures.harmless
-    (front ++ timed ∷ rest) rows (no_traffic start) w refl harmless are calm no_harm can.its_memory can.place in
-    comes_back laws apart_offers stay answered group clocks pace nodes n m in_n in_m apart quick ids rows (c.each_transfer_comes_whole.ensures.counted ids rows members harmless)
-    (c.each_transfer_comes_whole.ensures.responses ids rows members harmless) start listed running front rest timed offer can are calm given
-    (none_repeats
-    (voting laws apart_offers stay answered group clocks pace nodes n m in_n in_m apart quick start w can.calls (is n in_n) (is m in_m) quiet_n quiet_m can.hears_it can.first_call)
-    (front ++ timed ∷ rest) (no_traffic start) w (id_of can.calls.sender.ids VoteQ m)
-    (begins laws apart_offers stay answered group clocks pace nodes n m in_n in_m apart quick start w can.calls (is n in_n) (is m in_m) quiet_n quiet_m can.hears_it can.first_call)
-    (MayComeFirst m Vote n can.answers.receiver) can.first_answer calm are given) sends what to long
+    let both : Exchange = voting laws apart_offers stay answered (λ x. ⊤) group clocks pace nodes n m in_n in_m apart quick w (front ++ timed ∷ rest) can in
+    let given : AllGiven both w (front ++ timed ∷ rest) = all_given both ids
+    (λ done h row offer. c.vote_requests_read_as_said.ensures ids done members h n row offer) (λ done h row offer harm runs it what. tt)
+    c.rows_grow_by_one.ensures.world c.rows_grow_by_one.ensures.harmless
+    (front ++ timed ∷ rest) rows (no_traffic start) w refl harmless are calm no_harm can.memory can.its_memory can.place in
+    let begun : Fresh both start w (front ++ timed ∷ rest) =
+    fresh laws apart_offers stay answered (λ x. ⊤) group clocks pace nodes n m in_n in_m apart quick w (front ++ timed ∷ rest) can start (is n in_n) (is m in_m) quiet_n quiet_m calm are given in
+    let there : Cluster = after_rows w (rows_in front) in
+    let reads : VoteReadsAsSaid (sent_by n there offer) = (given_at both front rest timed w given).read offer sends what in (
+      reads,
+      vote_comes_back both refl answered ⊥ (record { at = timed.at; transfer = sent_by n there offer }) reads.request reads.read what refl there (timed ∷ rest)
+          (comes_back both ⊥ there timed rest (going_on both front (timed ∷ rest) w (at_first both start w (front ++ timed ∷ rest) begun)) (λ none. absurd none) offer sends what to long),
+    )

@@ -1,21 +1,20 @@
 use Rattle.std.proofs.Common.{◌≡◌, ◌≢◌, ◌≤◌, ◌*◌, ℕ, arith, List, [], ◌∷◌, ◌++◌, refl, sym, subst}
-use Rattle.can_frame.specs.declared.step.What.TheVariants.{Vote, VoteQ}
+use Rattle.std.specs.Prelude.{⊤}
 use Rattle.raft_model.specs.Lists.{In}
 use Rattle.raft_model.specs.Runs.{World, initial_world, run}
 use Rattle.alloc_spec.specs.AllocatorState.{AllocatorState}
-use Rattle.alloc_spec.specs.Transfers.{SentTransfer, id_of}
-use Rattle.calm_election.specs.Votes.{CanAsk}
-use Rattle.calm_election.proofs.VotesAgain.{none_repeats}
-use Rattle.calm_election.proofs.VotesAlone.{Idle, comes_alone, fades_on, fading, idle_by}
-use Rattle.calm_election.proofs.VotesAloneStart.{idle_at_first, of_two}
-use Rattle.calm_election.proofs.VotesAsked.{AllGivenVotes, Voting}
-use Rattle.calm_election.proofs.VotesComeBack.{all_given, begins}
+use Rattle.alloc_spec.specs.Transfers.{SentTransfer}
+use Rattle.calm_election.specs.Votes.{CanAsk, VoteReadsAsSaid}
+use Rattle.calm_election.proofs.Exchange.{AllGiven, Exchange, given_at}
+use Rattle.calm_election.proofs.ExchangeStart.{Fresh, all_given}
+use Rattle.calm_election.proofs.VotesAlone.{comes_alone}
+use Rattle.calm_election.proofs.VotesAsked.{fresh, voting}
 use Rattle.calm_election.proofs.laws.votes_come_alone.Goals as goal
 use Rattle.cluster_agreement.specs.Shows.{Shows}
 use Rattle.cluster_recovery.specs.Calm.{rows_in}
 use Rattle.cluster_recovery.proofs.Members.{IsQuiet}
 use Rattle.cluster_calm.specs.Calm.{Member, no_traffic}
-use Rattle.cluster_calm.specs.Comes.{MayComeFirst, NoneRepeats}
+use Rattle.cluster_calm.specs.Comes.{sent_by}
 use Rattle.cluster_calm.proofs.Group.{AreWell, CalmLaws, IsServer}
 use Rattle.cluster_calm.proofs.Start.{places_in, server_is, well_in}
 use Rattle.cluster_spec.specs.Cluster.{Cluster, after_rows, cluster, world_of}
@@ -65,19 +64,13 @@ returns c =
     let of_m = scene.running m in_m in
     let quiet_n : IsQuiet (w.member n).disk = record { faults = of_n.faults; calls = of_n.disk } in
     let quiet_m : IsQuiet (w.member m).disk = record { faults = of_m.faults; calls = of_m.disk } in
-    let given : AllGivenVotes n m w (front ++ timed ∷ rest) = all_given laws group clocks pace nodes n m in_n ids
-    (λ done h. c.vote_requests_read_as_said.ensures ids done members h) c.rows_grow_by_one.ensures.world c.rows_grow_by_one.ensures.harmless
-    (front ++ timed ∷ rest) rows (no_traffic start) w refl harmless are scene.calm scene.harmless can.its_memory can.place in
-    let two : Voting = of_two laws apart_offers stay answered group clocks pace nodes n m in_n in_m apart quick start w (front ++ timed ∷ rest) can
-    (is n in_n) (is m in_m) quiet_n quiet_m in
-    let none : NoneRepeats m Vote n (MayComeFirst m Vote n can.answers.receiver) w (front ++ timed ∷ rest) =
-    none_repeats two (front ++ timed ∷ rest) (no_traffic start) w (id_of can.calls.sender.ids VoteQ m)
-    (begins laws apart_offers stay answered group clocks pace nodes n m in_n in_m apart quick start w can.calls (is n in_n) (is m in_m) quiet_n quiet_m can.hears_it can.first_call)
-    (MayComeFirst m Vote n can.answers.receiver) can.first_answer scene.calm are given in
-    let idle : Idle two can.answers.receiver.now (MayComeFirst m Vote n can.answers.receiver) (after_rows w (rows_in front)) (timed ∷ rest) =
-    idle_by two can.answers.receiver.now (MayComeFirst m Vote n can.answers.receiver) timed.at (after_rows w (rows_in front)) timed rest
-    (fades_on two can.answers.receiver.now (MayComeFirst m Vote n can.answers.receiver) timed.at front (timed ∷ rest) w
-    (fading two can.answers.receiver.now (MayComeFirst m Vote n can.answers.receiver) timed.at w (front ++ timed ∷ rest)
-    (idle_at_first laws apart_offers stay answered group clocks pace nodes n m in_n in_m apart quick start w (front ++ timed ∷ rest) can
-    (is n in_n) (is m in_m) quiet_n quiet_m scene.calm are given none)) scene.silent) (omega arith) in
-    comes_alone two can.answers.receiver.now (MayComeFirst m Vote n can.answers.receiver) (after_rows w (rows_in front)) timed rest idle offer sends what to scene.long
+    let both : Exchange = voting laws apart_offers stay answered (λ x. ⊤) group clocks pace nodes n m in_n in_m apart quick w (front ++ timed ∷ rest) can in
+    let given : AllGiven both w (front ++ timed ∷ rest) = all_given both ids
+    (λ done h row o. c.vote_requests_read_as_said.ensures ids done members h n row o) (λ done h row o harm runs it its_what. tt)
+    c.rows_grow_by_one.ensures.world c.rows_grow_by_one.ensures.harmless
+    (front ++ timed ∷ rest) rows (no_traffic start) w refl harmless are scene.calm scene.harmless can.memory can.its_memory can.place in
+    let at_first : Fresh both start w (front ++ timed ∷ rest) =
+    fresh laws apart_offers stay answered (λ x. ⊤) group clocks pace nodes n m in_n in_m apart quick w (front ++ timed ∷ rest) can start (is n in_n) (is m in_m) quiet_n quiet_m
+    scene.calm are given in
+    let reads : VoteReadsAsSaid (sent_by n (after_rows w (rows_in front)) offer) = (given_at both front rest timed w given).read offer sends what in
+    (reads, comes_alone both refl start w front rest timed at_first scene.silent refl answered offer sends what to reads scene.long)

@@ -1,24 +1,21 @@
 -- Where a calm begins, in which a member asks another one: nothing is under way; and what is given of each row.
-use Rattle.std.proofs.Common.{◌≡◌, ℕ, ◌*◌, ◌<◌, arith, List, [], ◌∷◌, ◌++◌, refl, sym, ◌∙◌, ap, subst}
+use Rattle.std.proofs.Common.{◌≡◌, ℕ, arith, List, [], ◌∷◌, ◌++◌, refl, sym, ◌∙◌, ap, subst}
 use Rattle.raft_model.specs.Lists.{In}
 use Rattle.replay_text.specs.declared.row.Row.{Row}
 use Rattle.transfer_rx.specs.Keys.{key_of}
 use Rattle.transfer_tx.specs.Queue.{Queued}
 use Rattle.alloc_spec.specs.AllocatorState.{AllocatorState}
 use Rattle.alloc_spec.specs.Transfers.{Offer, id_of, ident_of}
+use Rattle.calm_election.proofs.Exchange.{AllGiven, Exchange}
+use Rattle.calm_election.proofs.ExchangeAnswers.{Answering}
+use Rattle.calm_election.proofs.ExchangeAsks.{Asking, none_repeats}
 use Rattle.calm_leader.specs.CallsComeBack.{HasPlace}
-use Rattle.calm_rounds.proofs.LearnsAnswers.{Answering}
-use Rattle.calm_rounds.proofs.LearnsAsking.{Asking, none_repeats}
-use Rattle.calm_rounds.proofs.LearnsBack.{Along}
-use Rattle.calm_rounds.proofs.LearnsChain.{AllTurns}
-use Rattle.calm_rounds.proofs.LearnsExchange.{AllGiven, Exchange}
 use Rattle.cluster_calm.specs.Calls.{Lists}
 use Rattle.cluster_calm.specs.Calm.{AreCalm, IsRunning, Member as OfMember, Traffic, no_traffic, traffic_after}
 use Rattle.cluster_calm.specs.Comes.{AreReady, HasMemory, Sends, Throughout, sent_by}
 use Rattle.cluster_calm.specs.Sessions.{AllAdmit}
 use Rattle.cluster_calm.proofs.Group.{AreWell, IsServer, well_after}
 use Rattle.cluster_calm.proofs.Pair.{AtFirst, Only}
-use Rattle.cluster_calm.proofs.Pending.{Made}
 use Rattle.cluster_calm.proofs.Ways.{Waiting}
 use Rattle.cluster_recovery.specs.Calm.{Timed, rows_in}
 use Rattle.cluster_recovery.proofs.Members.{IsQuiet}
@@ -63,30 +60,43 @@ module _ (both : Exchange) (ids : List ℕ)
 
 -- ---- where the calm begins
 
-module _ (both : Exchange) (Open Stay : Made → AllocatorState → Type 0) (quick : 4 * both.pace.delay < 1000) (start : ℕ) (w : Cluster) (rows : List Timed)
-    (requests : AreReady both.n both.m both.asks both.m w) (replies : AreReady both.m both.n both.answers both.n w)
-    (base_m : both.base_m ≡ requests.receiver.now) (base_n : both.base_n ≡ replies.receiver.now)
-    (admits_m : (id : ℕ) → both.BeginsM id → AllAdmit both.base_m (key_of (ident_of both.n both.asks both.m)) id requests.receiver.sessions)
-    (admits_n : (id : ℕ) → both.BeginsN id → AllAdmit both.base_n (key_of (ident_of both.m both.answers both.n)) id replies.receiver.sessions)
-    (may : both.BeginsM (id_of requests.sender.ids both.asks both.m)) (may_answer : both.BeginsN (id_of requests.sender.ids both.asks both.m)) (lists : Lists both.m both.n w)
-    (is_n : (t : AllocatorState) → (w.member both.n).status ≡ Up t → IsServer both.n t) (is_m : (t : AllocatorState) → (w.member both.m).status ≡ Up t → IsServer both.m t)
-    (quiet_n : IsQuiet (w.member both.n).disk) (quiet_m : IsQuiet (w.member both.m).disk) (calm : AreCalm both.group both.clocks both.pace (no_traffic start) w rows)
-    (are : AreWell both.group w) (given : AllGiven both w rows) (turns : AllTurns both Open w rows) where
-  abbrev asking : Asking both (no_traffic start) w (id_of requests.sender.ids both.asks both.m)
+-- What is given of the two when the calm begins, from which these rows are: both are ready, and the first request has a
+-- transfer ID under which it may begin, and its answer too.
+pub record Fresh (both : Exchange) (start : ℕ) (w : Cluster) (rows : List Timed) : Type 0 where
+  pub requests : AreReady both.n both.m both.asks both.m w
+  pub replies : AreReady both.m both.n both.answers both.n w
+  pub base_m : both.base_m ≡ requests.receiver.now
+  pub base_n : both.base_n ≡ replies.receiver.now
+  pub admits_m : (id : ℕ) → both.BeginsM id → AllAdmit both.base_m (key_of (ident_of both.n both.asks both.m)) id requests.receiver.sessions
+  pub admits_n : (id : ℕ) → both.BeginsN id → AllAdmit both.base_n (key_of (ident_of both.m both.answers both.n)) id replies.receiver.sessions
+  pub may : both.BeginsM (id_of requests.sender.ids both.asks both.m)
+  pub may_answer : both.BeginsN (id_of requests.sender.ids both.asks both.m)
+  pub lists : Lists both.m both.n w
+  pub is_n : (t : AllocatorState) → (w.member both.n).status ≡ Up t → IsServer both.n t
+  pub is_m : (t : AllocatorState) → (w.member both.m).status ≡ Up t → IsServer both.m t
+  pub quiet_n : IsQuiet (w.member both.n).disk
+  pub quiet_m : IsQuiet (w.member both.m).disk
+  pub calm : AreCalm both.group both.clocks both.pace (no_traffic start) w rows
+  pub are : AreWell both.group w
+  pub given : AllGiven both w rows
+
+module _ (both : Exchange) (start : ℕ) (w : Cluster) (rows : List Timed) (f : Fresh both start w rows) where
+  -- no request is under way
+  abbrev pub asking : Asking both (no_traffic start) w (id_of f.requests.sender.ids both.asks both.m)
   asking = record {
     xs = [];
     front = [];
-    expected = Only (id_of requests.sender.ids both.asks both.m);
+    expected = Only (id_of f.requests.sender.ids both.asks both.m);
     pair = record {
-      sender = requests.sender;
-      sender_up = record { status = requests.sends; quiet = quiet_n };
-      sender_is = is_n requests.sender requests.sends;
-      sessions = requests.receiver.sessions;
-      now = requests.receiver.now;
+      sender = f.requests.sender;
+      sender_up = record { status = f.requests.sends; quiet = f.quiet_n };
+      sender_is = f.is_n f.requests.sender f.requests.sends;
+      sessions = f.requests.receiver.sessions;
+      now = f.requests.receiver.now;
       hears = record {
-        server = requests.receiver;
-        up = record { status = requests.receives; quiet = quiet_m };
-        its = is_m requests.receiver requests.receives;
+        server = f.requests.receiver;
+        up = record { status = f.requests.receives; quiet = f.quiet_m };
+        its = f.is_m f.requests.receiver f.requests.receives;
         has = refl;
         reads = refl;
       };
@@ -94,36 +104,37 @@ module _ (both : Exchange) (Open Stay : Made → AllocatorState → Type 0) (qui
       waiting = [];
       pending = refl;
       flies = refl;
-      waits = subst (λ (l : List Queued). Waiting start l []) (sym requests.none_waits) tt;
+      waits = subst (λ (l : List Queued). Waiting start l []) (sym f.requests.none_waits) tt;
       since = omega arith;
       mode = refl;
-      stage = λ id small e. admits_m id (subst both.BeginsM (sym e) may);
+      stage = λ id small e. f.admits_m id (subst both.BeginsM (sym e) f.may);
       differ = tt;
       ones_are = λ x i. absurd i;
       past = λ x i. absurd i;
-      low = omega (arith, base_m);
-      high = omega (arith, base_m);
+      low = let e = f.base_m in omega (arith, e);
+      high = let e = f.base_m in omega (arith, e);
     };
     follow = refl;
-    lists = lists;
+    lists = f.lists;
     reads = λ x i. absurd i;
   }
 
-  abbrev answering : Answering both (no_traffic start) w rows
+  -- nor an answer
+  abbrev pub answering : Answering both (no_traffic start) w rows
   answering = record {
     xs = [];
     front = [];
     expected = AtFirst;
     pair = record {
-      sender = replies.sender;
-      sender_up = record { status = replies.sends; quiet = quiet_m };
-      sender_is = is_m replies.sender replies.sends;
-      sessions = replies.receiver.sessions;
-      now = replies.receiver.now;
+      sender = f.replies.sender;
+      sender_up = record { status = f.replies.sends; quiet = f.quiet_m };
+      sender_is = f.is_m f.replies.sender f.replies.sends;
+      sessions = f.replies.receiver.sessions;
+      now = f.replies.receiver.now;
       hears = record {
-        server = replies.receiver;
-        up = record { status = replies.receives; quiet = quiet_n };
-        its = is_n replies.receiver replies.receives;
+        server = f.replies.receiver;
+        up = record { status = f.replies.receives; quiet = f.quiet_n };
+        its = f.is_n f.replies.receiver f.replies.receives;
         has = refl;
         reads = refl;
       };
@@ -131,35 +142,15 @@ module _ (both : Exchange) (Open Stay : Made → AllocatorState → Type 0) (qui
       waiting = [];
       pending = refl;
       flies = refl;
-      waits = subst (λ (l : List Queued). Waiting start l []) (sym replies.none_waits) tt;
+      waits = subst (λ (l : List Queued). Waiting start l []) (sym f.replies.none_waits) tt;
       since = omega arith;
       mode = tt;
-      stage = λ id small begins. admits_n id begins;
+      stage = λ id small begins. f.admits_n id begins;
       differ = tt;
       ones_are = λ x i. absurd i;
       past = λ x i. absurd i;
-      low = omega (arith, base_n);
-      high = omega (arith, base_n);
+      low = let e = f.base_n in omega (arith, e);
+      high = let e = f.base_n in omega (arith, e);
     };
-    none = none_repeats both rows (no_traffic start) w (id_of requests.sender.ids both.asks both.m) asking both.BeginsN may_answer calm are given;
-  }
-
-  pub at_first : Along both Open Stay quick w rows
-  at_first = record {
-    traffic = no_traffic start;
-    u = record {
-      next = id_of requests.sender.ids both.asks both.m;
-      q = asking;
-      a = answering;
-      olds = [];
-      match = tt;
-      first = id_of requests.sender.ids both.asks both.m;
-      follow = refl;
-      few = tt;
-      past = λ z i. absurd i;
-    };
-    calm = calm;
-    are = are;
-    given = given;
-    turns = turns;
+    none = none_repeats both rows (no_traffic start) w (id_of f.requests.sender.ids both.asks both.m) asking both.BeginsN f.may_answer f.calm f.are f.given;
   }

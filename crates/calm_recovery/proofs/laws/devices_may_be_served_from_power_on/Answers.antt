@@ -10,10 +10,10 @@ use Rattle.calm_service.specs.Tidy.{OpenedMembersAreReady}
 use Rattle.calm_service.proofs.CalmTestedRows.{lawful_rows}
 use Rattle.calm_service.proofs.ServedComputed.{of_members, one_device, place}
 use Rattle.calm_recovery.specs.RestartExample.{opened_at}
-use Rattle.calm_recovery.specs.ServiceExample.{DevicesMayBeServedEarly, one_entry, power_on_calm, power_on_rows}
+use Rattle.calm_recovery.specs.ServiceExample.{DevicesMayBeServedFromPowerOn, one_entry, power_on_calm, power_on_rows}
 use Rattle.calm_recovery.proofs.RestartCalm.{Restarted, are_ready, device_has_memory, is_tidy, pairs_all_fit, rooms_to_tell, tells_short, world_behind}
 use Rattle.calm_recovery.proofs.ServiceComputed.{can_tell, has_come, lawful_before, opened, passed}
-use Rattle.calm_recovery.proofs.laws.devices_may_be_served_early.Goals as goal
+use Rattle.calm_recovery.proofs.laws.devices_may_be_served_from_power_on.Goals as goal
 use Rattle.calm_rounds.specs.Opened.{OpenedMembersGoOn}
 use Rattle.cluster_spec.specs.Cluster.{AreMembers, cluster}
 use Rattle.cluster_spec.specs.Lawful.{DoNoHarm}
@@ -49,7 +49,7 @@ before : DoNoHarm (cluster two) power_on_rows
 before = lawful_rows power_on_rows (cluster two) lawful_before
 
 -- the premises, from what other laws say of members that were just opened
-premises : AreMembers two → OpenedMembersGoOn two power_on_rows → OpenedMembersAreReady two → DevicesMayBeServedEarly
+premises : AreMembers two → OpenedMembersGoOn two power_on_rows → OpenedMembersAreReady two → DevicesMayBeServedFromPowerOn
 premises members go_on ready = record {
   members = members;
   before = before;
@@ -86,7 +86,7 @@ premises members go_on ready = record {
 }
 
 -- they hold
-hold : goal.After-opened_members_go_on_calmly → DevicesMayBeServedEarly
+hold : goal.After-opened_members_go_on_calmly → DevicesMayBeServedFromPowerOn
 hold c =
     let members = c.calm_can_be.ensures.members in
     premises members (c.opened_members_go_on_calmly.ensures two power_on_rows members before) (c.opened_members_are_tidy.ensures.opened two members)

@@ -1,8 +1,7 @@
 -- A member answers another one's requests as they come, each once and in the order in which they were made: so no two
 -- answers, one behind the other, have the same transfer ID. What of the requests is under way, row by row.
-use Rattle.std.proofs.Common.{◌≡◌, ◌≢◌, ℕ, ◌+◌, ◌*◌, ◌≤◌, true, List, [], ◌∷◌, ◌++◌, append-nil, max, refl, sym, ◌∙◌, ap, subst, inl, inr, Option, None, Some}
-use Rattle.std.specs.Prelude.{⊤, ◌⊎◌, ◌==◌}
-use Rattle.std.proofs.lemmas.Bool.Decides.{eqb_tells}
+use Rattle.std.proofs.Common.{◌≡◌, ◌≢◌, ℕ, ◌+◌, ◌*◌, ◌≤◌, true, List, [], ◌∷◌, ◌++◌, append-nil, max, refl, sym, ◌∙◌, ap, subst, inl, inr, Some}
+use Rattle.std.specs.Prelude.{⊤, ◌⊎◌}
 use Rattle.can_frame.specs.declared.step.What.{What}
 use Rattle.raft_model.specs.Lists.{In}
 use Rattle.replay_text.specs.declared.row.Row.{Row}
@@ -14,7 +13,8 @@ use Rattle.alloc_spec.specs.AllocatorState.{AllocatorState, members_of}
 use Rattle.alloc_spec.specs.Step.{Event, moment_of, step}
 use Rattle.alloc_spec.specs.Transfers.{Ids, Offer, id_after, id_of, ident_of, kind_of, number_of}
 use Rattle.alloc_spec_laws.specs.Responses.{IsResponse}
-use Rattle.calm_rounds.proofs.LearnsExchange.{AllGiven, Exchange, Given, IsAnswered}
+use Rattle.calm_election.proofs.Exchange.{AllGiven, Exchange, Given, IsAnswered}
+use Rattle.calm_leader.proofs.EntriesRows.{step_or_not}
 use Rattle.calm_leader.proofs.RowsOfOne.{IsLeft, IsReceipt, left_up, receipt_is, stepped_up}
 use Rattle.calm_leader.proofs.TwoSides.{in_one, of_ones}
 use Rattle.cluster_agreement.proofs.Lists.{in_append}
@@ -28,6 +28,7 @@ use Rattle.cluster_calm.proofs.Group.{AreWell, CalmLaws, well_after}
 use Rattle.cluster_calm.proofs.MembersHear.{NextOf, NoneComesOf, PairOf, none_late, row_leaves}
 use Rattle.cluster_calm.proofs.Pair.{Expected, made_none, made_of, made_one, same_server, same_stepper, sent_among}
 use Rattle.cluster_calm.proofs.Pending.{Coming, Made}
+use Rattle.cluster_progress.proofs.FollowUps.{same_number}
 use Rattle.cluster_recovery.specs.Calm.{IsNext, Pace, Timed}
 use Rattle.cluster_spec.specs.Cluster.{Cluster, after_row, arrival_at, frame_at, receipt_of, step_of}
 
@@ -157,22 +158,8 @@ module _ (both : Exchange) where
 
     -- ---- whose row it is
 
-    abbrev IsStep : Type 0
-    IsStep = (event : Event) × (step_of w row ≡ Some (n, event))
-
     abbrev IsNoStep : Type 0
     IsNoStep = (event : Event) → step_of w row ≡ Some (n, event) → ⊥
-
-    -- it is a step of who asks, or not
-    step_or_not : IsStep ⊎ IsNoStep
-    step_or_not = by (step_of w row) refl
-      where
-        by : (o : Option (ℕ × Event)) → step_of w row ≡ o → IsStep ⊎ IsNoStep
-        by None is = inr (λ event f. cc (sym is ∙ f))
-        by (Some s) is = elim (eqb_tells s.0 n) [
-          | inl z ↦ inl (s.1, is ∙ ap (λ (p : ℕ). Some (p, s.1)) z.1)
-          | inr z ↦ inr (λ event f. z.1 (same_stepper s.0 n s.1 event (sym is ∙ f)))
-        ]
 
     -- the counter of who asks stays where the row is no step of it
     same_counter : IsNoStep → (xs : List Made) (front : List Coming) (later : Expected) (pair : PairQ then_traffic then_w xs front later)
@@ -192,13 +179,24 @@ module _ (both : Exchange) where
         ⊎ ((o : Offer) × (more ≡ record { at = timed.at; transfer = sent_by n w o } ∷ []) × Sends n w row o × (o.what ≡ asks)
         × (o.id ≡ id_of sender.ids asks m) × (counter ≡ id_after (id_of sender.ids asks m)) × (o.to ≡ m))
 
+    -- so transfer IDs that follow each other up to the counter do so with them
+    pub follow_news : (more : List Made) (counter : ℕ) → IsNews more counter → (list : List Made) (first : ℕ) → Follow first (ids_made list) (id_of sender.ids asks m)
+        → Follow first (ids_made (list ++ more)) counter
+    follow_news more counter news list first h = elim news [
+      | inl none ↦ subst (λ (l : List Made). Follow first (ids_made l) counter) (sym (ap (λ (l : List Made). list ++ l) none.0 ∙ append-nil list))
+          (subst (Follow first (ids_made list)) (sym none.1) h)
+      | inr one ↦ subst (λ (l : List Made). Follow first (ids_made (list ++ l)) counter) (sym one.1)
+          (subst (Follow first (ids_made (list ++ record { at = timed.at; transfer = sent_by n w one.0 } ∷ []))) (sym one.5)
+          (follow_made first (id_of sender.ids asks m) list (record { at = timed.at; transfer = sent_by n w one.0 }) one.4 h))
+    ]
+
     module _ (more : List Made) (then_front : List Coming) (later : Expected) (pair : PairQ then_traffic then_w (a.xs ++ more) then_front later) where
       abbrev IsAdded : Type 0
       IsAdded = IsNews more (id_of pair.sender.ids asks m)
 
       added : ((event : Event) → step_of w row ≡ Some (n, event) → more ≡ made_of timed.at (sent_by n w) (ones asks m (step sender number event).step_state.offers))
           × (IsNoStep → more ≡ []) → IsAdded
-      added news = elim step_or_not [
+      added news = elim (step_or_not w row n) [
         | inl s ↦ stepped s.0 s.1
         | inr none ↦ inl (news.1 none, same_counter none (a.xs ++ more) then_front later pair)
       ]
@@ -241,13 +239,7 @@ module _ (both : Exchange) where
         front = then_front;
         expected = later;
         pair = pair;
-        follow = elim news [
-          | inl none ↦ subst (λ (l : List Made). Follow next (ids_made l) (id_of pair.sender.ids asks m)) (sym (ap (λ (l : List Made). a.xs ++ l) none.0 ∙ append-nil a.xs))
-              (subst (Follow next (ids_made a.xs)) (sym none.1) a.follow)
-          | inr one ↦ subst (λ (l : List Made). Follow next (ids_made (a.xs ++ l)) (id_of pair.sender.ids asks m)) (sym one.1)
-              (subst (Follow next (ids_made (a.xs ++ record { at = timed.at; transfer = sent_by n w one.0 } ∷ []))) (sym one.5)
-              (follow_made next (id_of sender.ids asks m) a.xs (record { at = timed.at; transfer = sent_by n w one.0 }) one.4 a.follow))
-        ];
+        follow = follow_news more (id_of pair.sender.ids asks m) news a.xs next a.follow;
         lists = then_lists;
         reads = λ x i. elim (in_append x a.xs more i) [
           | inl before ↦ a.reads x before
@@ -271,9 +263,6 @@ module _ (both : Exchange) where
 
         receipt : IsReceipt w m row r.delivered.arrival
         receipt = receipt_is w m row r.delivered.arrival (sends.in_step ∙ ap (λ (ev : Event). Some (m, ev)) r.delivered.comes)
-
-        same_number : (p : ℕ) → (p == p) ≡ true
-        same_number p = elim (eqb_tells p p) [ inl z ↦ z.0 | inr z ↦ absurd (z.1 refl) ]
 
         calm_row : IsCalmRow group clocks pace traffic w timed.at (Rx m receipt.k receipt.ms)
         calm_row = subst (IsCalmRow group clocks pace traffic w timed.at) receipt.row_is calm.1
@@ -374,7 +363,7 @@ module _ (both : Exchange) where
       pub news : IsNews more (id_of then_q.pair.sender.ids asks m)
       pub adds : (offer : Offer) → Sends n w row offer → offer.what ≡ asks → offer.to ≡ m → In (record { at = timed.at; transfer = sent_by n w offer }) more
 
-    -- Or the first one is delivered, and it is answered.
+    -- Or the first one is delivered, and it is answered, under the transfer ID that comes next.
     pub record Brings : Type 0 where
       pub x : Made
       pub others : List Made
@@ -384,6 +373,8 @@ module _ (both : Exchange) where
       pub xs_are : then_q.xs ≡ others
       pub same : id_of then_q.pair.sender.ids asks m ≡ id_of sender.ids asks m
       pub answered : IsAnswered m answers both.Tells x.transfer w row
+      pub to : answered.offer.to ≡ n
+      pub only : (offer : Offer) → Sends m w row offer → offer.what ≡ answers → offer.to ≡ n → offer.id ≡ next
 
     pub in_row : Passes ⊎ Brings
     in_row = elim next_q [
@@ -404,6 +395,8 @@ module _ (both : Exchange) where
         xs_are = refl;
         same = same_counter (λ other f. apart (same_stepper n m other (receipt_of w d.3.k d.3.ms) (sym f ∙ ap (λ (r : Row). step_of w r) d.3.comes))) d.1 [] a.expected d.4;
         answered = its_answer d.0 d.1 d.2 d.3;
+        to = to_n d.0 d.1 d.2 d.3;
+        only = one_answer d.0 d.1 d.2 d.3;
       })
     ]
 
@@ -418,25 +411,21 @@ module _ (both : Exchange) where
   pub none_repeats : (rows : List Timed) (traffic : Traffic) (w : Cluster) (next : ℕ) → Asking traffic w next → (Holds : ℕ → Type 0) → Holds next
       → AreCalm group clocks pace traffic w rows → AreWell group w → AllGiven both w rows → NoneRepeats m answers n Holds w rows
   none_repeats [] traffic w next a Holds holds calm are given = tt
-  none_repeats (timed ∷ rest) traffic w next a Holds holds calm are given = elim (next_q traffic w next a timed rest calm are given.0) [
+  none_repeats (timed ∷ rest) traffic w next a Holds holds calm are given = elim (in_row traffic w next a timed rest calm are given.0) [
     | inl p ↦ (
-      λ offer sends what to. absurd (no_answer traffic w next a timed rest calm are given.0 p.6 offer sends what to),
-      λ nobody. none_repeats rest (traffic_after traffic w timed) (after_row w timed.row) next
-          (goes_on traffic w next a timed rest calm are given.0 p.0 p.1 p.2 p.3 (added traffic w next a timed rest calm are given.0 p.0 p.1 p.2 p.3 p.7))
-          Holds holds calm.2 (well_after laws group nodes w are clocks pace traffic timed.at timed.row calm.1) given.1,
+      λ offer sends what to. absurd (p.nobody offer sends what to),
+      λ nobody. none_repeats rest (traffic_after traffic w timed) (after_row w timed.row) next p.then_q Holds holds calm.2 well given.1,
     )
     | inr d ↦ (
       λ offer sends what to.
-          let same : offer.id ≡ next = one_answer traffic w next a timed rest calm are given.0 d.0 d.1 d.2 d.3 offer sends what to in (
+          let same : offer.id ≡ next = d.only offer sends what to in (
             subst Holds (sym same) holds,
-            none_repeats rest (traffic_after traffic w timed) (after_row w timed.row) (id_after next)
-                (one_less traffic w next a timed rest calm are given.0 d.0 d.1 d.2 d.3 [] a.expected d.4)
-                (λ id. offer.id ≢ id) (λ e. apart_next next (sym same ∙ e)) calm.2
-                (well_after laws group nodes w are clocks pace traffic timed.at timed.row calm.1) given.1,
+            none_repeats rest (traffic_after traffic w timed) (after_row w timed.row) (id_after next) d.then_q
+                (λ id. offer.id ≢ id) (λ e. apart_next next (sym same ∙ e)) calm.2 well given.1,
           ),
-      λ nobody. absurd (nobody (its_answer traffic w next a timed rest calm are given.0 d.0 d.1 d.2 d.3).offer
-          (sends_it traffic w next a timed rest calm are given.0 d.0 d.1 d.2 d.3)
-          (its_answer traffic w next a timed rest calm are given.0 d.0 d.1 d.2 d.3).what
-          (to_n traffic w next a timed rest calm are given.0 d.0 d.1 d.2 d.3)),
+      λ nobody. absurd (nobody d.answered.offer d.answered.sends d.answered.what d.to),
     )
   ]
+    where
+      well : AreWell group (after_row w timed.row)
+      well = well_after laws group nodes w are clocks pace traffic timed.at timed.row calm.1
