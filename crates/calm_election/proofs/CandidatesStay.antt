@@ -28,7 +28,7 @@ use Rattle.alloc_spec_laws.proofs.Proposals.{or_false}
 use Rattle.cluster_progress.specs.InTime.{HearsLeader}
 use Rattle.cluster_progress.proofs.Begins.{expired}
 use Rattle.cluster_progress.proofs.FollowUps.{when_come}
-use Rattle.calm_election.proofs.RaftPhases.{Keeps, OfRole, Takes, at_frame, at_tick, role_ends, role_grows}
+use Rattle.calm_leader.proofs.RaftPhases.{Keeps, OfRole, Takes, at_frame, at_tick, role_ends, role_grows}
 use Rattle.calm_election.proofs.VotesOffered.{granted_free, puts_voted}
 use Rattle.calm_election.proofs.VotesTaken.{raised_term, same_term, votes_kept}
 
@@ -146,13 +146,13 @@ module _ (term_then : ℕ) (votes_then : ℕ → Bool) where
       -- so does each message of Raft
       takes : Takes number (OfRole Still) d g
       takes = record {
-        vote_request = λ message read. vote_asked (vote_request_of message d.mark.step d.ident.source g.allocator.me);
+        vote_request = λ kind one thirty message read listed. vote_asked (vote_request_of message d.mark.step d.ident.source g.allocator.me);
         append_request = λ kind thirty message read listed.
             append_asked message (append_request_of message d.mark.step d.ident.source g.allocator.me) refl kind thirty read listed
             (is_current server (append_request_of message d.mark.step d.ident.source g.allocator.me)) refl;
-        vote_answer = λ kind one thirty message asked listed awaited pending.
+        vote_answer = λ kind one thirty message read asked listed awaited pending.
             vote_answered (answer_of d.mark.step d.ident.source asked message.term message.granted);
-        append_answer = λ message asked awaited pending. append_answered (answer_of d.mark.step d.ident.source asked message.term message.success);
+        append_answer = λ kind thirty message read asked listed awaited pending. append_answered (answer_of d.mark.step d.ident.source asked message.term message.success);
       }
 
 -- ---- the step

@@ -13,13 +13,6 @@ pub mod WinsLead
 pub mod WinsWins
 pub mod VotesRead
 pub mod VotesAsked
-pub mod Exchange
-pub mod ExchangeAsks
-pub mod ExchangeAnswers
-pub mod ExchangeStart
-pub mod ExchangeGoes
-pub mod ExchangeUnder
-pub mod ExchangeBack
 pub mod VotesAlone
 pub mod VotesComeBack
 pub mod TermsBrings
@@ -29,12 +22,12 @@ pub mod TermsSteps
 pub mod TermsMembers
 pub mod VotesHeard
 pub mod TermsHold
+pub mod ElectionGrounds
 pub mod TermsRise
 pub mod LogsFrames
 pub mod LogsHold
 pub mod CandidateRows
 pub mod CandidatesStay
-pub mod RaftPhases
 pub mod ResponsesDelivered
 pub mod RowsLeave
 pub mod StandingAsks

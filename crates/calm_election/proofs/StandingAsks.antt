@@ -27,7 +27,7 @@ use Rattle.alloc_spec_laws.proofs.Choices.{either}
 use Rattle.alloc_spec_laws.proofs.Lists.{in_back, in_front}
 use Rattle.alloc_spec_laws.proofs.Peers.{members_list}
 use Rattle.cluster_progress.proofs.Begins.{expired}
-use Rattle.calm_election.proofs.RaftPhases.{Ends, EndsQuietly, Grows, Keeps, OfRole, OfServer, all_called, at_tick, role_ends, until_calls, when_ticked}
+use Rattle.calm_leader.proofs.RaftPhases.{Ends, EndsQuietly, Grows, Keeps, OfRole, OfServer, all_called, at_tick, role_ends, until_calls, when_ticked}
 use Rattle.cluster_calm.proofs.CallsOffered.{same_after}
 
 -- a peer on the list stands behind the server itself

@@ -1,58 +1,38 @@
 -- What a step does to the server of the Raft model: at most one move that its event brings, and moves behind it, by
 -- which its term, its vote and its role stay, and its log and its commit index too, unless it leads.
-use Rattle.std.proofs.Common.{◌≡◌, ◌≢◌, ℕ, Bool, true, false, List, [], ◌∷◌, refl, ◌∙◌, ap, inl, inr, max, Option, Some, None}
-use Rattle.std.specs.Prelude.{◌&&◌, ◌-◌, length, nat_eq, nat_le, nat_lt, not, slice_index_or, if◌then◌else◌}
-use Rattle.alloc_exchange.specs.declared.heard.Heard.{Heard}
-use Rattle.alloc_exchange.specs.declared.heard.Heard.TheVariants.{Denied, FollowUp, Ignored, Whole}
-use Rattle.alloc_exchange.specs.Exchange as exchange
-use Rattle.can_frame.specs.declared.identifier.Kind.{Kind}
-use Rattle.can_frame.specs.declared.identifier.Kind.TheVariants.{Anonymous, Message, Request as RequestKind, Response}
+use Rattle.std.proofs.Common.{◌≡◌, ℕ, Bool, true, false, List, [], ◌∷◌, refl, ◌∙◌, ap, inl, inr, max, Option, Some, None}
+use Rattle.std.specs.Prelude.{◌&&◌, ◌-◌, length, nat_le, nat_lt, not, if◌then◌else◌}
 use Rattle.can_frame.specs.declared.entry.Entry.{Entry}
-use Rattle.can_frame.specs.declared.step.What.TheVariants.{Alloc, InfoQ}
-use Rattle.can_frame.specs.Log.{blank}
 use Rattle.can_frame.specs.Timing.{status_interval}
 use Rattle.cluster_discovery.specs.Members.{Start, is_due, members}
-use Rattle.dsdl_codec.specs.Allocation.{allocation_of}
-use Rattle.dsdl_codec.specs.AppendAnswer.{append_answer_of}
-use Rattle.dsdl_codec.specs.AppendRequest as append_codec
-use Rattle.dsdl_codec.specs.Discovery.{discovery_of}
-use Rattle.dsdl_codec.specs.NodeInfo.{node_info_of}
-use Rattle.dsdl_codec.specs.NodeStatus.{node_status_of}
-use Rattle.dsdl_codec.specs.VoteAnswer.{vote_answer_of}
-use Rattle.dsdl_codec.specs.VoteRequest as vote_codec
-use Rattle.id_selector.specs.Choice.{chosen}
-use Rattle.node_discovery.specs.Watch.{next_query, some_unknown}
 use Rattle.raft_core.specs.Handled.{answer_of, append_request_of, vote_request_of}
-use Rattle.raft_core.specs.Times.{HandedIn, given_at, given_tick, has_waited, is_awaited, overdue}
+use Rattle.raft_core.specs.Times.{HandedIn, given_at, given_tick, has_waited, overdue}
 use Rattle.raft_model.specs.Decisions.{commit_index, grants}
 use Rattle.raft_model.specs.Duty.{commit_moves, tick_phase}
 use Rattle.raft_model.specs.Handlers.{server_after}
 use Rattle.raft_model.specs.Messages.{Request}
 use Rattle.raft_model.specs.Moves.{Move}
 use Rattle.raft_model.specs.Moves.Elections.{is_leader, term_limit, with_term}
-use Rattle.raft_model.specs.Moves.Move.{AnswerAgain, CallForVote, CallToAppend, CommitTo, ProposeEntry, TakeAppendAnswer, TakeAppendRequest, TakeVoteAnswer, TakeVoteRequest, TellNothing, TellPair, TimeOut}
+use Rattle.raft_model.specs.Moves.Move.{CallForVote, CallToAppend, CommitTo, ProposeEntry, TakeAppendAnswer, TakeAppendRequest, TakeVoteAnswer, TakeVoteRequest, TellNothing, TellPair, TimeOut}
 use Rattle.raft_model.specs.Server.{RaftServer}
 use Rattle.raft_model.specs.Server.Role.{Leader}
-use Rattle.transfer_rx.specs.Reassembly.{Answer as Received, Arrival, Continues, Delivery, Drops, Gives, answer}
+use Rattle.transfer_rx.specs.Reassembly.{Answer as Received, Arrival, Delivery, Gives, answer}
 use Rattle.alloc_spec.specs.Accepted.{setting_for}
-use Rattle.alloc_spec.specs.AllocatorState.{AllocatorState, is_zero, known, knows_all, may_propose, members_of, recorded_at, start_of, taken}
-use Rattle.alloc_spec.specs.Delivered.{StepResult, asks_info, by_kind, delivery_phase, hears_discovery, hears_status, reads}
+use Rattle.alloc_spec.specs.AllocatorState.{AllocatorState, knows_all, members_of, start_of}
 use Rattle.alloc_spec.specs.Ending.{end_phase}
-use Rattle.alloc_spec.specs.Exchange.{allocation_payload, answers_or_records, answers_request, gives_entry, gives_pair, hears_allocation, may_follow, records_at, with_request}
-use Rattle.alloc_spec.specs.Services.{answers_append_request, answers_call, answers_vote_request, append_answered, ends_append_call, ends_vote_call, hears_info, is_listed, takes_append_answer, takes_append_request, takes_vote_answer, takes_vote_request, vote_answered}
 use Rattle.alloc_spec.specs.Step.{all_nodes, at_moment, begin_phase, step, with_answer}
 use Rattle.alloc_spec.specs.Step.Event.{Rx, Tick}
-use Rattle.alloc_spec.specs.StepState.{StepState, with_moves, with_transfer}
-use Rattle.alloc_spec.specs.Tick.{asks, candidate, clock_phase, discovery_phase, election_phase, new_uid, query_phase, record_phase, records_as, records_node, status_phase, tells_members, tells_status, with_query_if}
-use Rattle.alloc_spec.specs.Transfers.{has_room, id_of}
-use Rattle.alloc_spec.proofs.Blanks.{move_with_blank, tick_with_blank}
+use Rattle.alloc_spec.specs.StepState.{StepState, with_moves}
+use Rattle.alloc_spec.specs.Tick.{clock_phase, discovery_phase, election_phase, status_phase, tells_members, tells_status}
 use Rattle.alloc_spec_laws.specs.Phases.{when_seen}
-use Rattle.alloc_spec_laws.proofs.Choices.{and_left, either, eq_false, eq_true}
+use Rattle.alloc_spec_laws.proofs.Choices.{and_left, either, eq_true}
 use Rattle.alloc_spec_laws.proofs.Proposals.{leader_of}
 use Rattle.cluster_progress.specs.Requests.{moment_at}
 use Rattle.cluster_progress.proofs.Begins.{IsAsBefore, expired}
 use Rattle.cluster_progress.proofs.Ends.{IsKept, rest_keeps}
 use Rattle.cluster_progress.proofs.FollowUps.{begun, when_come}
+use Rattle.calm_leader.proofs.RaftPhases as phases
+use Rattle.calm_leader.proofs.RaftPhases.{OfServer, Records, Takes}
 use Rattle.calm_election.proofs.TermsBrings.{Brings, BringsAtFrame, BringsAtTick, Goes, IsLeft, all_left, left_then}
 
 module _ (number : ℕ) (Brought : List ℕ → ℕ → RaftServer → Move → Type 0) (start : RaftServer) where
@@ -130,164 +110,41 @@ module _ (number : ℕ) (Brought : List ℕ → ℕ → RaftServer → Move → 
 
   -- ---- what a leader records
 
-  -- who may propose leads
-  may_leads : (t : AllocatorState) → may_propose t ≡ true → t.raft_server.memory.role ≡ Leader
-  may_leads t e = leader_of t.raft_server.memory.role (and_left (is_leader t.raft_server.memory.role) _ e)
+  abbrev pub Of : OfServer
+  Of me server times now = Goes Brought number start server
 
-  -- a node that is recorded, or its node ID, comes into a leader's log
-  recorded_as : (node : ℕ) (uid : Option (List ℕ)) (g : StepState) → g.allocator.raft_server.memory.role ≡ Leader → Gone g
-      → Gone (records_as number node uid g)
-  recorded_as node None g leads h = adds g _ leads h
-  recorded_as node (Some uid) g leads h = adds g _ leads h
-
-  recorded_node : (node : Option ℕ) (g : StepState) → g.allocator.raft_server.memory.role ≡ Leader → Gone g → Gone (records_node number node g)
-  recorded_node None g leads h = h
-  recorded_node (Some node) g leads h = recorded_as node (new_uid g.allocator node) g leads h
-
-  recorded : (uid : List ℕ) (node : Option ℕ) (g : StepState) → g.allocator.raft_server.memory.role ≡ Leader → Gone g
-      → Gone (records_at number uid node g)
-  recorded uid None g leads h = h
-  recorded uid (Some node) g leads h = adds g _ leads h
-
-  -- ---- a tick
-
-  -- queries are no moves
-  asked_if : (fits : Bool) (node id : ℕ) (g : StepState) → Gone g → Gone (with_query_if fits node id g)
-  asked_if true node id g h = h
-  asked_if false node id g h = h
-
-  asked : (node : Option ℕ) (g : StepState) → Gone g → Gone (asks number node g)
-  asked None g h = h
-  asked (Some node) g h = asked_if (has_room g.allocator.queue []) node (id_of g.allocator.ids InfoQ node) (with_transfer number InfoQ node [] None g) h
-
-  notes : (x : StepState) → Gone x → Gone (record_phase number x)
-  notes x i = either Gone (may_propose x.allocator) (records_node number (candidate x.allocator) x) x
-      (λ e. recorded_node (candidate x.allocator) x (may_leads x.allocator e) i) (λ e. i)
-
-  queries : (x : StepState) → Gone x → Gone (query_phase number x)
-  queries x i = either Gone (is_leader x.allocator.raft_server.memory.role)
-      (asks number (next_query x.allocator.watch (known x.allocator) x.allocator.now) x) x
-      (λ e. asked (next_query x.allocator.watch (known x.allocator) x.allocator.now) x i) (λ e. i)
+  pub records : Records number Of
+  records origin uid node g leads h = adds g _ leads h
 
   -- ---- a frame
 
-  -- a pair that is given again changes nothing
-  given : (entry : Entry) (place : ℕ) (g : StepState) → Gone g → Gone (gives_entry number (AnswerAgain place) entry g)
-  given entry place g h =
-      let payload : List ℕ = allocation_payload entry.node entry.uid in
-      either Gone (has_room g.allocator.queue payload)
-      (with_moves number (given_at g.allocator.now) (AnswerAgain place ∷ []) (with_transfer number Alloc 0 payload None g))
-      (with_transfer number Alloc 0 payload None g)
-      (λ r. behind (with_transfer number Alloc 0 payload None g) (AnswerAgain place)
-      (record { term = refl; vote = refl; role = refl; rest = inr (refl, refl) }) h) (λ r. h)
-
-  -- a device that asks is given its pair again, or comes into a leader's log
-  found : (uid : List ℕ) (preference : ℕ) (place : Option ℕ) (g : StepState) → Gone g → Gone (answers_or_records number uid preference place g)
-  found uid preference None g h =
-      either Gone (may_propose g.allocator && not (some_unknown g.allocator.watch (known g.allocator) g.allocator.now))
-      (records_at number uid (chosen (taken g.allocator) preference) g) g
-      (λ e. recorded uid (chosen (taken g.allocator) preference) g (may_leads g.allocator (and_left (may_propose g.allocator) _ e)) h) (λ e. h)
-  found uid preference (Some place) g h =
-      either Gone (nat_lt place g.allocator.raft_server.store.commit) (gives_pair number (AnswerAgain place) place g) g
-      (λ e. given (slice_index_or g.allocator.raft_server.store.log place (blank 0)) place g h) (λ e. h)
-
-  heard_it : (heard : Heard) (g : StepState) → Gone g → Gone (answers_request number heard g)
-  heard_it (FollowUp bytes) g h = h
-  heard_it (Whole uid preference) g h =
-      either Gone (is_zero uid) g (answers_or_records number uid preference (recorded_at g.allocator.raft_server.store.log uid) g) (λ e. h)
-      (λ e. found uid preference (recorded_at g.allocator.raft_server.store.log uid) g h)
-  heard_it (Ignored why) g h = h
-  heard_it Denied g h = h
-
-  -- an answer is taken by the call that waits, and a leader may add a blank then
-  called : (move : Request → Move) (pending : Option Request) (g : StepState)
-      → ((asked : Request) → Gone (with_moves number (given_at g.allocator.now) (move asked ∷ []) g)) → Gone g → Gone (answers_call number move pending g)
-  called move None g taken h = h
-  called move (Some asked) g taken h = move_with_blank Gone number (given_at g.allocator.now) (move asked) g (taken asked)
-      (λ moment. adds (with_moves number (given_at g.allocator.now) (move asked ∷ []) g) _ moment.leads (taken asked))
-
-  read_it : {A : Type 0} (hears : A → StepState → StepState) (value : Option A) (g : StepState) → ((a : A) → value ≡ Some a → Gone (hears a g)) → Gone g
-      → Gone (reads hears value g).step_state
-  read_it hears None g each h = h
-  read_it hears (Some value) g each h = each value refl
-
-  abbrev GoneAt : StepResult → Type 0
-  GoneAt r = Gone r.step_state
-
   -- what is delivered brings its moves
   module _ (d : Delivery) (brings : (list : List ℕ) (me : ℕ) (server : RaftServer) (move : Move) → Brings d me server move → Brought list me server move) where
-    info : (bytes : List ℕ) (g : StepState) → Gone g → Gone (asks_info number d bytes g).step_state
-    info [] g h = h
-    info (byte ∷ bytes) g h = h
-
     takes : (g : StepState) (move : Move) → Begun g → Brings d g.allocator.me g.allocator.raft_server move
         → Gone (with_moves number (given_at g.allocator.now) (move ∷ []) g)
     takes g move h is = moves g (given_at g.allocator.now) move h (brings (members_of g.allocator) g.allocator.me g.allocator.raft_server move is)
 
-    asks_append : d.ident.kind ≡ RequestKind → d.ident.number ≡ 30 → (g : StepState) → Begun g
-        → GoneAt (reads (takes_append_request number d) (append_codec.append_request_of d.payload) g)
-    asks_append kind thirty g h = read_it (takes_append_request number d) (append_codec.append_request_of d.payload) g
-        (λ m read. either Gone (is_listed d g.allocator) (answers_append_request number d m g) g
-        (λ l. takes g (TakeAppendRequest (append_request_of m d.mark.step d.ident.source g.allocator.me) _) h
-        (record { kind = kind; thirty = thirty; message = m; read = read; is = refl; judged = refl })) (λ l. unmoved g h)) (unmoved g h)
-
-    asks_vote : d.ident.kind ≡ RequestKind → d.ident.number ≢ 1 → d.ident.number ≢ 30 → (g : StepState) → Begun g
-        → GoneAt (reads (takes_vote_request number d) (vote_codec.vote_request_of d.payload) g)
-    asks_vote kind first thirty g h = read_it (takes_vote_request number d) (vote_codec.vote_request_of d.payload) g
-        (λ m read. either Gone (is_listed d g.allocator) (answers_vote_request number d m g) g
-        (λ l. let asked : Request = vote_request_of m d.mark.step d.ident.source g.allocator.me in
-        takes g (TakeVoteRequest asked (grants (with_term g.allocator.raft_server.store asked.term) asked)) h
-        (record { kind = kind; first = first; thirty = thirty; message = m; read = read; is = refl; judged = refl }))
-        (λ l. unmoved g h)) (unmoved g h)
-
-    answers_append : d.ident.kind ≡ Response → d.ident.number ≡ 30 → (g : StepState) → Begun g
-        → GoneAt (reads (takes_append_answer number d) (append_answer_of d.payload) g)
-    answers_append kind thirty g h = read_it (takes_append_answer number d) (append_answer_of d.payload) g
-        (λ m read. either Gone (is_listed d g.allocator) (ends_append_call number d m g) g
-        (λ l. either Gone (is_awaited g.allocator.raft_server g.allocator.times d.ident.source true d.id)
-        (answers_call number (append_answered d m) (g.allocator.raft_server.memory.pending d.ident.source) g) g
-        (λ a. called (append_answered d m) (g.allocator.raft_server.memory.pending d.ident.source) g
-        (λ asked. takes g (TakeAppendAnswer (answer_of d.mark.step d.ident.source asked m.term m.success)) h
-        (record { kind = kind; thirty = thirty; message = m; read = read; term = refl })) (unmoved g h))
-        (λ a. unmoved g h)) (λ l. unmoved g h)) (unmoved g h)
-
-    answers_vote : d.ident.kind ≡ Response → d.ident.number ≢ 1 → d.ident.number ≢ 30 → (g : StepState) → Begun g
-        → GoneAt (reads (takes_vote_answer number d) (vote_answer_of d.payload) g)
-    answers_vote kind first thirty g h = read_it (takes_vote_answer number d) (vote_answer_of d.payload) g
-        (λ m read. either Gone (is_listed d g.allocator) (ends_vote_call number d m g) g
-        (λ l. either Gone (is_awaited g.allocator.raft_server g.allocator.times d.ident.source false d.id)
-        (answers_call number (vote_answered d m) (g.allocator.raft_server.memory.pending d.ident.source) g) g
-        (λ a. called (vote_answered d m) (g.allocator.raft_server.memory.pending d.ident.source) g
-        (λ asked. takes g (TakeVoteAnswer (answer_of d.mark.step d.ident.source asked m.term m.granted)) h
-        (record { kind = kind; first = first; thirty = thirty; message = m; read = read; term = refl })) (unmoved g h))
-        (λ a. unmoved g h)) (λ l. unmoved g h)) (unmoved g h)
-
-    kinds : (kind : Kind) (g : StepState) → d.ident.kind ≡ kind → Begun g → GoneAt (by_kind number d kind g)
-    kinds Anonymous g is h = read_it (hears_allocation number) (allocation_of d.payload) g
-        (λ m e. heard_it (exchange.answer g.allocator.accepted m g.allocator.now (may_follow g.allocator)) (with_request m g) (unmoved g h)) (unmoved g h)
-    kinds Message g is h = either GoneAt (nat_eq d.ident.number 341) _ _
-        (λ e. read_it (λ status. hears_status d) (node_status_of d.payload) g (λ s f. unmoved g h) (unmoved g h))
-        (λ e. read_it (hears_discovery d) (discovery_of d.payload) g (λ m f. unmoved g h) (unmoved g h))
-    kinds RequestKind g is h = either GoneAt (nat_eq d.ident.number 1) _ _ (λ e. info d.payload g (unmoved g h))
-        (λ e. either GoneAt (nat_eq d.ident.number 30) _ _ (λ f. asks_append is (eq_true d.ident.number 30 f) g h)
-        (λ f. asks_vote is (eq_false d.ident.number 1 e) (eq_false d.ident.number 30 f) g h))
-    kinds Response g is h = either GoneAt (nat_eq d.ident.number 1) _ _
-        (λ e. read_it (hears_info d) (node_info_of d.payload) g (λ m f. unmoved g h) (unmoved g h))
-        (λ e. either GoneAt (nat_eq d.ident.number 30) _ _ (λ f. answers_append is (eq_true d.ident.number 30 f) g h)
-        (λ f. answers_vote is (eq_false d.ident.number 1 e) (eq_false d.ident.number 30 f) g h))
-
     -- whatever is delivered, it brings one move at most
-    pub delivered : (g : StepState) → Begun g → GoneAt (delivery_phase number d g)
-    unfolding delivery_phase
-    delivered g h = kinds d.ident.kind g refl h
+    told : (g : StepState) → Begun g → Takes number Of d g
+    told g h = record {
+      vote_request = λ kind first thirty m read listed. let asked : Request = vote_request_of m d.mark.step d.ident.source g.allocator.me in
+          takes g (TakeVoteRequest asked (grants (with_term g.allocator.raft_server.store asked.term) asked)) h
+          (record { kind = kind; first = first; thirty = thirty; message = m; read = read; is = refl; judged = refl });
+      append_request = λ kind thirty m read listed. takes g (TakeAppendRequest (append_request_of m d.mark.step d.ident.source g.allocator.me) _) h
+          (record { kind = kind; thirty = thirty; message = m; read = read; is = refl; judged = refl });
+      vote_answer = λ kind first thirty m read asked listed awaited pending.
+          takes g (TakeVoteAnswer (answer_of d.mark.step d.ident.source asked m.term m.granted)) h
+          (record { kind = kind; first = first; thirty = thirty; message = m; read = read; term = refl });
+      append_answer = λ kind thirty m read asked listed awaited pending.
+          takes g (TakeAppendAnswer (answer_of d.mark.step d.ident.source asked m.term m.success)) h
+          (record { kind = kind; thirty = thirty; message = m; read = read; term = refl });
+    }
 
   -- what the receiver answers
   pub by_answer : (got : Received) (g : StepState)
       → ((d : Delivery) → got ≡ Gives d → (list : List ℕ) (me : ℕ) (server : RaftServer) (move : Move) → Brings d me server move → Brought list me server move)
       → Begun g → Gone (with_answer number got g).step_state
-  by_answer (Gives d) g brings h = delivered d (brings d refl) g h
-  by_answer Continues g brings h = unmoved g h
-  by_answer (Drops why) g brings h = unmoved g h
+  by_answer got g brings h = phases.by_answer number Of records got g (λ d gives. phases.hears number Of records d g (told d (brings d gives) g h)) (unmoved g h)
 
 -- ---- whole steps
 
@@ -336,17 +193,12 @@ module _ (number : ℕ) (t : AllocatorState) (now word : ℕ) where
       (λ e. unmoved number AtTick t.raft_server x h.0)
 
   elects : (x : StepState) → Waits x → Gone number AtTick t.raft_server (election_phase number word x)
-  elects x h = tick_with_blank (Gone number AtTick t.raft_server) number word x (ticked x h) (λ moment.
-      adds number AtTick t.raft_server (with_moves number (given_tick x.allocator.now word)
-      (tick_phase (knows_all x.allocator && has_waited x.allocator.times x.allocator.now) x.allocator.raft_server) x) _ moment.leads (ticked x h))
+  elects x h = phases.tick_and_blank number (Of number AtTick t.raft_server) (records number AtTick t.raft_server) word x (ticked x h)
 
   -- so does a tick as a whole
   ticks : (g : StepState) → Waits g → Gone number AtTick t.raft_server (clock_phase number word g)
-  ticks g h =
-      let stated : StepState = status_phase number (discovery_phase number g) in
-      let elected : StepState = election_phase number word stated in
-      queries number AtTick t.raft_server (record_phase number elected) (notes number AtTick t.raft_server elected
-      (elects stated (states (discovery_phase number g) (finds g h))))
+  ticks g h = phases.behind_election number (Of number AtTick t.raft_server) (records number AtTick t.raft_server) word g
+      (elects (status_phase number (discovery_phase number g)) (states (discovery_phase number g) (finds g h)))
 
   -- at a tick
   pub goes_at_tick : Goes AtTick number t.raft_server (step t number (Tick now word)).step_state.allocator.raft_server

@@ -9,11 +9,11 @@ use Rattle.alloc_spec.specs.Transfers.{Offer}
 use Rattle.calm_election.specs.Votes.{VoteReadsAsSaid, VotesAreAnswered}
 use Rattle.calm_election.specs.VotesAlone.{VoteComesAlone}
 use Rattle.calm_election.specs.Wins.{AsksNobodySince}
-use Rattle.calm_election.proofs.Exchange.{Exchange}
-use Rattle.calm_election.proofs.ExchangeBack.{comes_back}
-use Rattle.calm_election.proofs.ExchangeGoes.{answered_in_time, asked_in_time}
-use Rattle.calm_election.proofs.ExchangeStart.{Fresh}
-use Rattle.calm_election.proofs.ExchangeUnder.{AreAsked, Under, at_first, reach}
+use Rattle.calm_leader.proofs.Exchange.{Exchange}
+use Rattle.calm_leader.proofs.ExchangeBack.{comes_back}
+use Rattle.calm_leader.proofs.ExchangeGoes.{answered_in_time, asked_in_time}
+use Rattle.calm_leader.proofs.ExchangeStart.{Fresh}
+use Rattle.calm_leader.proofs.ExchangeUnder.{AreAsked, Under, at_first, reach}
 use Rattle.calm_election.proofs.VotesComeBack.{vote_comes_alone}
 use Rattle.cluster_calm.specs.Comes.{Sends, sent_by}
 use Rattle.cluster_calm.proofs.Pending.{Made}

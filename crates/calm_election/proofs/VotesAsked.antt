@@ -1,28 +1,24 @@
 -- A member that asks another one for its vote, in a calm, as one that asks and one that answers: an answer is sent, and
 -- says a term; and nothing is under way when the calm begins.
-use Rattle.std.proofs.Common.{◌≡◌, ◌≢◌, ℕ, ◌+◌, ◌*◌, ◌<◌, ◌≤◌, arith, true, List, length, refl, sym, ◌∙◌, ap, inl, inr, Some}
+use Rattle.std.proofs.Common.{◌≡◌, ◌≢◌, ℕ, ◌+◌, ◌*◌, ◌<◌, ◌≤◌, arith, true, List, length, refl, sym, ◌∙◌, ap}
 use Rattle.std.proofs.lemmas.Bool.{le-leb}
 use Rattle.can_frame.specs.declared.step.What.TheVariants.{Alloc, Vote, VoteQ}
 use Rattle.dsdl_codec.specs.declared.vote_request.VoteRequest.{VoteRequest}
 use Rattle.raft_model.specs.Lists.{In}
 use Rattle.raft_model.specs.Messages.{Answer}
-use Rattle.raft_model.specs.Messages.Message.{Answers}
-use Rattle.raft_model.specs.Moves.Elections.{with_term}
-use Rattle.raft_model.specs.Server.{Store}
 use Rattle.replay_text.specs.declared.row.Row.{Row}
 use Rattle.transfer_rx.specs.Keys.{key_of}
 use Rattle.transfer_tx.specs.Queue.{Queued}
 use Rattle.alloc_spec.specs.AllocatorState.{AllocatorState, members_of}
 use Rattle.alloc_spec.specs.Step.{Event, step}
-use Rattle.alloc_spec.specs.Transfers.{Offer, SentTransfer, has_room, ident_of, kind_of, number_of}
+use Rattle.alloc_spec.specs.Transfers.{SentTransfer, has_room, ident_of, kind_of, number_of}
 use Rattle.alloc_spec_laws.specs.Apart.{AreAllApart}
 use Rattle.alloc_spec_laws.specs.Saying.{vote_bytes}
-use Rattle.alloc_spec_laws.proofs.Choices.{lt_tells}
 use Rattle.calm_election.specs.Votes.{AnswersVote, CanAsk, VoteComes, VoteReadsAsSaid, VotesAreAnswered, vote_asked_by, vote_by}
-use Rattle.calm_election.proofs.Exchange.{AllGiven, Exchange, IsAnswered}
-use Rattle.calm_election.proofs.ExchangeAnswers.{IsSilent}
-use Rattle.calm_election.proofs.ExchangeStart.{Fresh}
-use Rattle.calm_election.proofs.VotesTaken.{raised_term, same_term}
+use Rattle.calm_leader.proofs.Exchange.{AllGiven, Exchange, IsAnswered}
+use Rattle.calm_leader.proofs.ExchangeAnswers.{IsSilent}
+use Rattle.calm_leader.proofs.ExchangeStart.{Fresh}
+use Rattle.calm_leader.proofs.CallsExchange.{TellsTerm, no_lower}
 use Rattle.calm_leader.specs.CallsComeBack.{HasPlace}
 use Rattle.cluster_calm.specs.Calm.{AreCalm, Member as OfMember, Party, no_traffic}
 use Rattle.cluster_calm.specs.Comes.{Delivers, MayComeFirst, Sends, delivery_of}
@@ -50,19 +46,6 @@ vote_sent m x request w row delivers answers place = record {
   fitted = answers.fitted ∙ (ap (has_room delivers.server.queue) answers.written
       ∙ vote_fits delivers.server.queue (vote_by (w.rows + 1) delivers.server (vote_asked_by x request m)) (place delivers.server delivers.runs));
 }
-
--- ---- what an answer tells
-
--- a server answers in no lower term than its own
-pub no_lower : (store : Store) (term : ℕ) → store.term ≤ (with_term store term).term
-no_lower store term = elim (lt_tells store.term term) [
-  | inl z ↦ let e = raised_term store term z.1 in let less = z.1 in omega (arith, e, less)
-  | inr z ↦ let e = same_term store term z.1 in omega (arith, e)
-]
-
--- an answer says that of a server: a term that is no lower than its own
-abbrev pub TellsTerm : AllocatorState → Offer → Type 0
-TellsTerm t offer = (answer : Answer) × (offer.says ≡ Some (Answers answer)) × (t.raft_server.store.term ≤ answer.term)
 
 -- ---- the two
 

@@ -8,9 +8,9 @@ use Rattle.raft_model.specs.Lists.{In}
 use Rattle.alloc_spec.specs.AllocatorState.{members_of}
 use Rattle.calm_election.specs.Votes.{AnswersVote, VoteComesBack, VotesAreAnswered}
 use Rattle.calm_election.specs.VotesAlone.{VoteComesAlone}
-use Rattle.calm_election.proofs.Exchange.{Exchange}
-use Rattle.calm_election.proofs.ExchangeAnswers.{AreSilent, Comes, silent_at, silent_both}
-use Rattle.calm_election.proofs.ExchangeBack.{ComesBack}
+use Rattle.calm_leader.proofs.Exchange.{Exchange}
+use Rattle.calm_leader.proofs.ExchangeAnswers.{AreSilent, Comes, silent_at, silent_both}
+use Rattle.calm_leader.proofs.ExchangeBack.{ComesBack}
 use Rattle.calm_election.proofs.VotesAsked.{no_vote, vote_sent}
 use Rattle.cluster_calm.specs.Comes.{Sends, sent_by}
 use Rattle.cluster_calm.proofs.Pending.{Made}

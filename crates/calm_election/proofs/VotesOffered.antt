@@ -34,7 +34,7 @@ use Rattle.alloc_spec_laws.proofs.Lists.{in_back}
 use Rattle.cluster_progress.proofs.Begins.{IsAsBefore}
 use Rattle.cluster_progress.proofs.FollowUps.{begun, when_come}
 use Rattle.calm_election.specs.Votes.{AnswersVote, HasVoted, vote_asked_by, vote_by}
-use Rattle.calm_election.proofs.RaftPhases.{Ends, Keeps, OfServer, at_end}
+use Rattle.calm_leader.proofs.RaftPhases.{Ends, Keeps, OfServer, at_end}
 use Rattle.cluster_calm.specs.Comes.{Delivers, delivery_of}
 use Rattle.cluster_calm.proofs.Calls.{on_list}
 use Rattle.calm_leader.proofs.Deliveries.{still_offered, takes_delivery}

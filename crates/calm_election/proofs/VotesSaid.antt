@@ -21,8 +21,8 @@ use Rattle.alloc_spec_laws.specs.Phases.{when_told}
 use Rattle.alloc_spec_laws.proofs.Choices.{either}
 use Rattle.alloc_spec_laws.proofs.DistinctTransfers.{rank, sent}
 use Rattle.alloc_spec_laws.proofs.Lists.{in_append}
-use Rattle.calm_leader.proofs.CallsPast.{told_only}
 use Rattle.cluster_calm.proofs.CallsOffered.{all_keep, called}
+use Rattle.cluster_calm.proofs.PeerMoves.{told_only}
 
 -- ---- what it says
 

@@ -1,56 +1,37 @@
 -- What a frame does to the wait of the server that it comes to: the wait goes on, or it begins anew for a reason.
-use Rattle.std.proofs.Common.{◌≡◌, ◌≢◌, ℕ, ◌<◌, max, Bool, true, false, List, [], ◌∷◌, ◌⊎◌, inl, inr, refl, ◌∙◌, ap, subst, Option, Some, None}
-use Rattle.std.specs.Prelude.{◌&&◌, ◌==◌, ◌||◌, nat_eq, nat_lt, not, slice_index_or, if◌then◌else◌}
-use Rattle.alloc_exchange.specs.declared.heard.Heard.{Heard}
-use Rattle.alloc_exchange.specs.declared.heard.Heard.TheVariants.{Denied, FollowUp, Ignored, Whole}
-use Rattle.alloc_exchange.specs.Exchange as exchange
-use Rattle.can_frame.specs.declared.identifier.Kind.{Kind}
-use Rattle.can_frame.specs.declared.identifier.Kind.TheVariants.{Anonymous, Message, Request as RequestKind, Response}
-use Rattle.can_frame.specs.declared.entry.Entry.{Entry}
-use Rattle.can_frame.specs.declared.step.What.TheVariants.{Alloc}
-use Rattle.can_frame.specs.Log.{blank}
+use Rattle.std.proofs.Common.{◌≡◌, ◌≢◌, ℕ, ◌<◌, max, Bool, true, false, [], ◌∷◌, ◌⊎◌, inl, inr, refl, ◌∙◌, ap, subst, Some}
+use Rattle.std.specs.Prelude.{◌&&◌, ◌==◌, ◌||◌, nat_lt, not, if◌then◌else◌}
+use Rattle.can_frame.specs.declared.identifier.Kind.TheVariants.{Request as RequestKind}
 use Rattle.cluster_discovery.specs.Members.{is_on_list}
 use Rattle.dsdl_codec.specs.declared.append_request.AppendRequest.{AppendRequest}
 use Rattle.dsdl_codec.specs.declared.vote_request.VoteRequest.{VoteRequest}
-use Rattle.dsdl_codec.specs.Allocation.{allocation_of}
-use Rattle.dsdl_codec.specs.AppendAnswer.{append_answer_of}
 use Rattle.dsdl_codec.specs.AppendRequest as append_codec
-use Rattle.dsdl_codec.specs.Discovery.{discovery_of}
-use Rattle.dsdl_codec.specs.NodeInfo.{node_info_of}
-use Rattle.dsdl_codec.specs.NodeStatus.{node_status_of}
-use Rattle.dsdl_codec.specs.VoteAnswer.{vote_answer_of}
 use Rattle.dsdl_codec.specs.VoteRequest as vote_codec
-use Rattle.id_selector.specs.Choice.{chosen}
-use Rattle.node_discovery.specs.Watch.{some_unknown}
 use Rattle.raft_core.specs.Handled.{answer_of, append_request_of, vote_request_of}
-use Rattle.raft_core.specs.Times.{Times, begin_wait, end_call, end_vote_call, given_at, is_awaited, overdue, step_down, win}
+use Rattle.raft_core.specs.Times.{Times, begin_wait, end_call, end_vote_call, given_at, overdue, step_down, win}
 use Rattle.raft_model.specs.Decisions.{grants, is_current, rule, verdict_on}
 use Rattle.raft_model.specs.Messages.{Answer, Request}
-use Rattle.raft_model.specs.Moves.{Move}
 use Rattle.raft_model.specs.Moves.Appending.{Verdict, acknowledges, matched_memory}
 use Rattle.raft_model.specs.Moves.Appending.Verdict.{Added, Held, Outdated, Refused}
 use Rattle.raft_model.specs.Moves.Elections.{counting_memory, counts, has_quorum, is_leader, memory_without_call, stepped_down, votes_with, with_term}
-use Rattle.raft_model.specs.Moves.Move.{AnswerAgain, TakeAppendAnswer, TakeAppendRequest, TakeVoteAnswer, TakeVoteRequest}
+use Rattle.raft_model.specs.Moves.Move.{TakeAppendAnswer, TakeAppendRequest, TakeVoteAnswer, TakeVoteRequest}
 use Rattle.raft_model.specs.Server.{Memory, RaftServer, Role, Store}
 use Rattle.raft_model.specs.Server.Role.{Candidate, Follower, Leader}
-use Rattle.transfer_rx.specs.Reassembly.{Answer as Received, Arrival, Continues, Delivery, Drops, Gives, answer}
+use Rattle.transfer_rx.specs.Reassembly.{Answer as Received, Arrival, Delivery, Gives, answer}
 use Rattle.alloc_spec.specs.Accepted.{setting_for}
-use Rattle.alloc_spec.specs.AllocatorState.{AllocatorState, is_zero, known, may_propose, members_of, recorded_at, taken}
-use Rattle.alloc_spec.specs.Delivered.{StepResult, asks_info, by_kind, delivery_phase, hears_discovery, hears_status, reads}
+use Rattle.alloc_spec.specs.AllocatorState.{AllocatorState, members_of}
 use Rattle.alloc_spec.specs.Ending.{end_phase}
-use Rattle.alloc_spec.specs.Exchange.{allocation_payload, answers_or_records, answers_request, gives_entry, gives_pair, hears_allocation, may_follow, records_at, with_request}
-use Rattle.alloc_spec.specs.Services.{answers_append_request, answers_call, answers_vote_request, append_answered, ends_append_call, ends_vote_call, hears_info, is_listed, takes_append_answer, takes_append_request, takes_vote_answer, takes_vote_request, vote_answered}
+use Rattle.alloc_spec.specs.Services.{is_listed}
 use Rattle.alloc_spec.specs.Step.{all_nodes, at_moment, step, with_answer}
 use Rattle.alloc_spec.specs.Step.Event.{Rx}
-use Rattle.alloc_spec.specs.StepState.{StepState, with_moves, with_transfer}
-use Rattle.alloc_spec.specs.Transfers.{has_room}
-use Rattle.alloc_spec.proofs.Blanks.{move_with_blank}
-use Rattle.alloc_spec_laws.proofs.Choices.{and_left, and_right, either, eq_false, eq_true, lt_true, not_true, tell}
+use Rattle.alloc_spec.specs.StepState.{StepState, with_moves}
+use Rattle.alloc_spec_laws.proofs.Choices.{and_left, and_right, eq_true, lt_true, not_true, tell}
 use Rattle.cluster_progress.specs.InTime.{HearsLeader}
 use Rattle.cluster_progress.specs.Requests.{moment_at}
 use Rattle.cluster_progress.proofs.Begins.{IsAsBefore}
 use Rattle.cluster_progress.proofs.FollowUps.{begun, when_come}
 use Rattle.cluster_progress.proofs.StaysFollower.{since_stays}
+use Rattle.calm_leader.proofs.RaftPhases.{OfServer, Records, Takes, by_answer, hears}
 use Rattle.calm_election.proofs.WaitsKept.{Keeps, ends, word_stays}
 
 -- ---- reasons
@@ -109,35 +90,11 @@ module _ (number since now word : ℕ) (role : Role) (Reason : Type 0) where
   goes_on : (g : StepState) → IsAsWas g → IsLeft g
   goes_on g h = (inl h.0, h.1)
 
-  -- ---- Allocations
+  abbrev Of : OfServer
+  Of me server times moment = LeftAt times.since times.word server.memory.role
 
-  recorded : (uid : List ℕ) (node : Option ℕ) (g : StepState) → IsLeft g → IsLeft (records_at number uid node g)
-  recorded uid None g h = h
-  recorded uid (Some node) g h = h
-
-  given : (entry : Entry) (move : Move) (g : StepState) → IsLeft g
-      → ((x : StepState) → IsLeft x → IsLeft (with_moves number (given_at x.allocator.now) (move ∷ []) x)) → IsLeft (gives_entry number move entry g)
-  given entry move g h does =
-      let payload : List ℕ = allocation_payload entry.node entry.uid in
-      either IsLeft (has_room g.allocator.queue payload)
-      (with_moves number (given_at g.allocator.now) (move ∷ []) (with_transfer number Alloc 0 payload None g)) (with_transfer number Alloc 0 payload None g)
-      (λ r. does (with_transfer number Alloc 0 payload None g) h) (λ r. h)
-
-  found : (uid : List ℕ) (preference : ℕ) (place : Option ℕ) (g : StepState) → IsLeft g → IsLeft (answers_or_records number uid preference place g)
-  found uid preference None g h =
-      either IsLeft (may_propose g.allocator && not (some_unknown g.allocator.watch (known g.allocator) g.allocator.now))
-      (records_at number uid (chosen (taken g.allocator) preference) g) g (λ e. recorded uid (chosen (taken g.allocator) preference) g h) (λ e. h)
-  found uid preference (Some place) g h =
-      either IsLeft (nat_lt place g.allocator.raft_server.store.commit) (gives_pair number (AnswerAgain place) place g) g
-      (λ e. given (slice_index_or g.allocator.raft_server.store.log place (blank 0)) (AnswerAgain place) g h (λ x i. i)) (λ e. h)
-
-  heard_it : (heard : Heard) (g : StepState) → IsLeft g → IsLeft (answers_request number heard g)
-  heard_it (FollowUp bytes) g h = h
-  heard_it (Whole uid preference) g h =
-      either IsLeft (is_zero uid) g (answers_or_records number uid preference (recorded_at g.allocator.raft_server.store.log uid) g) (λ e. h)
-      (λ e. found uid preference (recorded_at g.allocator.raft_server.store.log uid) g h)
-  heard_it (Ignored why) g h = h
-  heard_it Denied g h = h
+  records : Records number Of
+  records origin uid node g leads h = h
 
   -- ---- services
 
@@ -208,21 +165,6 @@ module _ (number since now word : ℕ) (role : Role) (Reason : Type 0) where
       (if counts server got then counting_memory (members_of g.allocator) server got else memory_without_call server.memory got.from) got.from g.allocator.now
       g.allocator.times h.3 h.2 h.0 h.1
 
-  called : (move : Request → Move) (pending : Option Request) (g : StepState)
-      → ((asked : Request) → IsLeft (with_moves number (given_at g.allocator.now) (move asked ∷ []) g)) → IsLeft g → IsLeft (answers_call number move pending g)
-  called move None g does h = h
-  called move (Some asked) g does h = move_with_blank IsLeft number (given_at g.allocator.now) (move asked) g (does asked) (λ moment. does asked)
-
-  -- ---- by kind
-
-  abbrev IsLeftBy : StepResult → Type 0
-  IsLeftBy r = IsLeft r.step_state
-
-  read_it : {A : Type 0} (does : A → StepState → StepState) (value : Option A) (g : StepState) → ((a : A) → value ≡ Some a → IsLeft (does a g)) → IsLeft g
-      → IsLeftBy (reads does value g)
-  read_it does None g each h = h
-  read_it does (Some value) g each h = each value refl
-
   module _ (d : Delivery) (g : StepState) (h : IsAsWas g)
       (why_append : (m : AppendRequest) → d.ident.kind ≡ RequestKind → d.ident.number ≡ 30 → append_codec.append_request_of d.payload ≡ Some m
       → is_listed d g.allocator ≡ true
@@ -231,57 +173,15 @@ module _ (number since now word : ℕ) (role : Role) (Reason : Type 0) where
       → vote_codec.vote_request_of d.payload ≡ Some m → is_listed d g.allocator ≡ true
       → (let asked : Request = vote_request_of m d.mark.step d.ident.source g.allocator.me in grants (with_term g.allocator.raft_server.store asked.term) asked ≡ true)
       → Reason) where
-    as_is : IsLeft g
-    as_is = goes_on g h
-
-    info : (bytes : List ℕ) → IsLeftBy (asks_info number d bytes g)
-    info [] = as_is
-    info (byte ∷ bytes) = as_is
-
-    append_comes : d.ident.kind ≡ RequestKind → d.ident.number ≡ 30 → IsLeftBy (reads (takes_append_request number d) (append_codec.append_request_of d.payload) g)
-    append_comes kind thirty = read_it (takes_append_request number d) (append_codec.append_request_of d.payload) g
-        (λ m read. either IsLeft (is_listed d g.allocator) (answers_append_request number d m g) g
-        (λ l. appended (verdict_on g.allocator.raft_server (append_request_of m d.mark.step d.ident.source g.allocator.me))
-        (append_request_of m d.mark.step d.ident.source g.allocator.me) g h (why_append m kind thirty read l)) (λ l. as_is)) as_is
-
-    vote_comes : d.ident.kind ≡ RequestKind → d.ident.number ≢ 1 → d.ident.number ≢ 30
-        → IsLeftBy (reads (takes_vote_request number d) (vote_codec.vote_request_of d.payload) g)
-    vote_comes kind one thirty = read_it (takes_vote_request number d) (vote_codec.vote_request_of d.payload) g
-        (λ m read. either IsLeft (is_listed d g.allocator) (answers_vote_request number d m g) g
-        (λ l. let asked : Request = vote_request_of m d.mark.step d.ident.source g.allocator.me in
-        voted (grants (with_term g.allocator.raft_server.store asked.term) asked) asked g h (why_vote m kind one thirty read l)) (λ l. as_is)) as_is
-
-    append_answer_comes : IsLeftBy (reads (takes_append_answer number d) (append_answer_of d.payload) g)
-    append_answer_comes = read_it (takes_append_answer number d) (append_answer_of d.payload) g
-        (λ m read. either IsLeft (is_listed d g.allocator) (ends_append_call number d m g) g
-        (λ l. either IsLeft (is_awaited g.allocator.raft_server g.allocator.times d.ident.source true d.id)
-        (answers_call number (append_answered d m) (g.allocator.raft_server.memory.pending d.ident.source) g) g
-        (λ a. called (append_answered d m) (g.allocator.raft_server.memory.pending d.ident.source) g
-        (λ asked. append_ended (answer_of d.mark.step d.ident.source asked m.term m.success) g h) as_is) (λ a. as_is)) (λ l. as_is)) as_is
-
-    vote_answer_comes : IsLeftBy (reads (takes_vote_answer number d) (vote_answer_of d.payload) g)
-    vote_answer_comes = read_it (takes_vote_answer number d) (vote_answer_of d.payload) g
-        (λ m read. either IsLeft (is_listed d g.allocator) (ends_vote_call number d m g) g
-        (λ l. either IsLeft (is_awaited g.allocator.raft_server g.allocator.times d.ident.source false d.id)
-        (answers_call number (vote_answered d m) (g.allocator.raft_server.memory.pending d.ident.source) g) g
-        (λ a. called (vote_answered d m) (g.allocator.raft_server.memory.pending d.ident.source) g
-        (λ asked. vote_ended (answer_of d.mark.step d.ident.source asked m.term m.granted) g h) as_is) (λ a. as_is)) (λ l. as_is)) as_is
-
-    kinds : (kind : Kind) → d.ident.kind ≡ kind → IsLeftBy (by_kind number d kind g)
-    kinds Anonymous is = read_it (hears_allocation number) (allocation_of d.payload) g
-        (λ m e. heard_it (exchange.answer g.allocator.accepted m g.allocator.now (may_follow g.allocator)) (with_request m g) as_is) as_is
-    kinds Message is = either IsLeftBy (nat_eq d.ident.number 341) _ _
-        (λ e. read_it (λ status. hears_status d) (node_status_of d.payload) g (λ s f. as_is) as_is)
-        (λ e. read_it (hears_discovery d) (discovery_of d.payload) g (λ m f. as_is) as_is)
-    kinds RequestKind is = either IsLeftBy (nat_eq d.ident.number 1) _ _ (λ e. info d.payload)
-        (λ e. either IsLeftBy (nat_eq d.ident.number 30) _ _ (λ f. append_comes is (eq_true d.ident.number 30 f))
-        (λ f. vote_comes is (eq_false d.ident.number 1 e) (eq_false d.ident.number 30 f)))
-    kinds Response is = either IsLeftBy (nat_eq d.ident.number 1) _ _ (λ e. read_it (hears_info d) (node_info_of d.payload) g (λ m f. as_is) as_is)
-        (λ e. either IsLeftBy (nat_eq d.ident.number 30) _ _ (λ f. append_answer_comes) (λ f. vote_answer_comes))
-
-    delivered : IsLeftBy (delivery_phase number d g)
-    unfolding delivery_phase
-    delivered = kinds d.ident.kind refl
+    takes : Takes number Of d g
+    takes = record {
+      vote_request = λ kind one thirty m read listed. let asked : Request = vote_request_of m d.mark.step d.ident.source g.allocator.me in
+          voted (grants (with_term g.allocator.raft_server.store asked.term) asked) asked g h (why_vote m kind one thirty read listed);
+      append_request = λ kind thirty m read listed. let asked : Request = append_request_of m d.mark.step d.ident.source g.allocator.me in
+          appended (verdict_on g.allocator.raft_server asked) asked g h (why_append m kind thirty read listed);
+      vote_answer = λ kind one thirty m read asked listed awaited pending. vote_ended (answer_of d.mark.step d.ident.source asked m.term m.granted) g h;
+      append_answer = λ kind thirty m read asked listed awaited pending. append_ended (answer_of d.mark.step d.ident.source asked m.term m.success) g h;
+    }
 
 -- ---- an append request that is not outdated is current
 
@@ -320,7 +220,17 @@ pub frame_leaves : (t : AllocatorState) (number : ℕ) (arrival : Arrival) → l
     Left t.times.since (moment_at t arrival) t.raft_server.memory.role (Why t arrival) after.times.since after.raft_server.memory.role
     × (after.times.word ≡ t.times.word)
 unfolding step
-frame_leaves t number arrival = by_answer (answer (setting_for t.me) t.sessions (record arrival { moment = moment_at t arrival })) refl
+frame_leaves t number arrival =
+    let got : Received = answer (setting_for t.me) t.sessions (record arrival { moment = moment_at t arrival }) in
+    let come : StepState = when_come t number arrival in
+    let role : Role = t.raft_server.memory.role in
+    let records_so : Records number (Of number t.times.since (moment_at t arrival) t.times.word role (Why t arrival)) =
+    records number t.times.since (moment_at t arrival) t.times.word role (Why t arrival) in
+    ended (with_answer number got come).step_state
+    (by_answer number (Of number t.times.since (moment_at t arrival) t.times.word role (Why t arrival)) records_so got come
+    (λ d gives. hears number (Of number t.times.since (moment_at t arrival) t.times.word role (Why t arrival)) records_so d come
+    (takes number t.times.since (moment_at t arrival) t.times.word role (Why t arrival) d come as_was (heard d gives) (asked_vote d gives)))
+    (goes_on number t.times.since (moment_at t arrival) t.times.word role (Why t arrival) come as_was))
   where
     before : IsAsBefore t.raft_server (when_come t number arrival).allocator.raft_server
     before = begun t number arrival
@@ -375,13 +285,3 @@ frame_leaves t number arrival = by_answer (answer (setting_for t.me) t.sessions 
       listed = listed;
       grants_it = subst (λ (s : Store). grants (with_term s m.term) (vote_request_of m d.mark.step d.ident.source t.me) ≡ true) before.store granted;
     })
-
-    by_answer : (got : Received) → answer (setting_for t.me) t.sessions (record arrival { moment = moment_at t arrival }) ≡ got
-        → Keeps (IsLeftBehind t number arrival) (end_phase number (with_answer number got (when_come t number arrival)).step_state)
-    by_answer (Gives d) e = ended (with_answer number (Gives d) (when_come t number arrival)).step_state
-        (delivered number t.times.since (moment_at t arrival) t.times.word t.raft_server.memory.role (Why t arrival) d (when_come t number arrival) as_was
-        (heard d e) (asked_vote d e))
-    by_answer Continues e = ended (when_come t number arrival) (goes_on number t.times.since (moment_at t arrival) t.times.word t.raft_server.memory.role (Why t arrival)
-        (when_come t number arrival) as_was)
-    by_answer (Drops why) e = ended (when_come t number arrival) (goes_on number t.times.since (moment_at t arrival) t.times.word t.raft_server.memory.role (Why t arrival)
-        (when_come t number arrival) as_was)

@@ -14,7 +14,7 @@ use Rattle.alloc_spec.specs.Step.{step}
 use Rattle.alloc_spec.specs.StepState.{StepState}
 use Rattle.alloc_spec.specs.Transfers.{Offer}
 use Rattle.calm_election.specs.Votes.{IsAsStanding, Stands, WaitsForVote}
-use Rattle.calm_election.proofs.RaftPhases.{Keeps}
+use Rattle.calm_leader.proofs.RaftPhases.{Keeps}
 use Rattle.calm_election.proofs.RowsLeave.{ticked}
 use Rattle.calm_election.proofs.StandingAsks.{Core, HasAsked, has_asked, has_stood, later}
 use Rattle.cluster_spec.specs.Cluster.{Cluster, after_row, tick_of}

@@ -2,35 +2,26 @@
 use Rattle.std.proofs.Common.{◌≡◌, ◌≢◌, ℕ, Bool, true, List, [], ◌∷◌, ◌++◌, length, refl, sym, ◌∙◌, ap, subst, arith}
 use Rattle.std.specs.Prelude.{◌/◌, ◌+◌, ◌≤◌}
 use Rattle.std.proofs.lemmas.Bool.{le-leb}
-use Rattle.raft_model.specs.Decisions.{grants}
 use Rattle.raft_model.specs.Lists.{In, how_many}
 use Rattle.raft_model.specs.Members.{IsAll}
-use Rattle.raft_model.specs.Messages.{Request}
-use Rattle.raft_model.specs.Moves.Elections.{IsGranted, has_quorum}
+use Rattle.raft_model.specs.Moves.Elections.{has_quorum}
 use Rattle.raft_model.specs.Runs as raft
 use Rattle.raft_model.specs.Runs.{initial_world}
-use Rattle.raft_model.specs.Server.{Store, quorum}
+use Rattle.raft_model.specs.Server.{quorum}
 use Rattle.raft_model.specs.Server.Role.{Follower}
 use Rattle.replay_text.specs.declared.row.Row.{Row}
 use Rattle.alloc_spec.specs.AllocatorState.{AllocatorState, members_of, start_of}
 use Rattle.alloc_spec.specs.Transfers.{SentTransfer}
-use Rattle.cluster_agreement.specs.Continues.{Continues}
 use Rattle.cluster_agreement.specs.Shows.{Shows, ShowsMember, ShowsUp}
-use Rattle.cluster_agreement.specs.StepLaws.{MoreLaws}
 use Rattle.cluster_agreement.proofs.Lists.{equal, none_twice}
 use Rattle.cluster_discovery.specs.Members.{IsMemberList, IsStart}
-use Rattle.cluster_progress.specs.InTime.{FramesLeaveFollowers, StaysFollower, WaitsAnew as HearsAnew}
 use Rattle.cluster_recovery.specs.Calm.{Pace, Timed}
+pub use Rattle.calm_election.specs.ElectionsBelow.{Always, WinLaws as Below}
 use Rattle.calm_election.specs.Wins.{IsCalmStanding}
-use Rattle.calm_election.specs.Terms.{TermsDoNotFall, TermsStay, VotesStayFree}
-use Rattle.calm_election.specs.Votes.{CandidatesStay, StandingAsks, VoteAnswersReadAsSaid, VotesAreTaken, WaitsOnForVotes}
 use Rattle.calm_election.specs.VotesAlone.{VotesComeAlone}
-use Rattle.calm_election.specs.Waits.{WaitsBeginThen}
 use Rattle.calm_election.proofs.WinsScene.{RowLaws, Scene}
 use Rattle.calm_leader.proofs.Stretches.{harmless_both}
-use Rattle.cluster_calm.specs.Calls.{ListsStay}
 use Rattle.cluster_calm.specs.Calm.{Party}
-use Rattle.cluster_spec.specs.Choices.{AgreesWithDisk}
 use Rattle.cluster_spec.specs.Cluster.{AreMembers, Cluster, after_row, after_rows, cluster, world_of}
 use Rattle.cluster_spec.specs.Lawful.{DoNoHarm}
 use Rattle.cluster_spec.specs.Members.{MemberStatus}
@@ -46,33 +37,6 @@ same_quorum : (list members : List ℕ) (votes : ℕ → Bool) → length list �
     → quorum members ≤ how_many votes members → has_quorum list votes ≡ true
 same_quorum list members votes size many enough =
     let q = ap (λ (n : ℕ). n / 2 + 1) size in le-leb (quorum list) (how_many votes list) (omega (arith, many, enough, q))
-
--- so it is behind rows that do no harm
-abbrev pub Always : (List ℕ → List Row → Type 0) → Type 0
-Always Law = (ids : List ℕ) (rows : List Row) → AreMembers ids → DoNoHarm (cluster ids) rows → Law ids rows
-
--- the laws below
-pub record Below : Type 0 where
-  pub more : MoreLaws
-  pub count : (list members : List ℕ) (test : ℕ → Bool) → IsAll list members → how_many test list ≡ how_many test members
-  pub ticks : StaysFollower
-  pub frames : FramesLeaveFollowers
-  pub hears_anew : HearsAnew
-  pub stay : ListsStay
-  pub granted : (store : Store) (request : Request) → IsGranted store request (grants store request)
-  pub chosen : (ids : List ℕ) (rows : List Row) → AreMembers ids → DoNoHarm (cluster ids) rows → (choice : ℕ → Bool) × AgreesWithDisk choice (cluster ids) rows
-  pub shown : (choice : ℕ → Bool) (ids : List ℕ) (rows : List Row) → AreMembers ids → DoNoHarm (cluster ids) rows → AgreesWithDisk choice (cluster ids) rows
-      → Continues choice (transfers_of_rows (cluster ids) rows []) (world_of ids rows) (initial_world ids) (events choice (cluster ids) rows)
-  pub same : (w : Cluster) (rows : List Row) → (after_rows w rows).ids ≡ w.ids
-  pub taken : VotesAreTaken
-  pub asked : Always StandingAsks
-  pub waits_on : Always WaitsOnForVotes
-  pub candidates : (ids : List ℕ) (rows : List Row) → CandidatesStay ids rows
-  pub answers_read : Always VoteAnswersReadAsSaid
-  pub begin : Always WaitsBeginThen
-  pub terms : Always TermsStay
-  pub rise : (ids : List ℕ) (rows : List Row) → TermsDoNotFall ids rows
-  pub free : Always VotesStayFree
 
 module _ (below : Below) (ids : List ℕ) (members : AreMembers ids) where
   module _ (list : List Row) (harmless : DoNoHarm (cluster ids) list) where

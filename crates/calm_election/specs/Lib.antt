@@ -1,4 +1,5 @@
 pub mod Elections
+pub mod ElectionsBelow
 pub mod Terms
 pub mod Votes
 pub mod Waits

@@ -2,6 +2,7 @@
 
 ghost use Rattle.calm_election.specs.Elections.{ElectionsEnd, ElectionsEndInOneTerm, SomebodyStands, WhoIsAheadWins};
 ghost use Rattle.calm_election.specs.Elections.{WhoIsFurthestStands};
+ghost use Rattle.calm_election.specs.ElectionsBelow.{ElectionLaws, WinLaws};
 ghost use Rattle.calm_election.specs.Terms.{LogsStay, NoAppendsCome, TermsDoNotFall, TermsStay, VotesStayFree};
 ghost use Rattle.calm_election.specs.Votes.{VoteAnswersReadAsSaid, VoteRequestsReadAsSaid, VotesAreAnswered};
 ghost use Rattle.calm_election.specs.Votes.{VotesComeBack, CandidatesStay, StandingAsks, VotesAreTaken};
@@ -37,10 +38,7 @@ pub fn vote_requests_read_as_said()
     ensures { (ids : List ℕ) (rows : List Row) → AreMembers ids → DoNoHarm (cluster ids) rows →
         VoteRequestsReadAsSaid ids rows }
 {
-    a_choice_fits();
-    rows_are_shown();
-    rows_grow_by_one();
-    what_is_said_of_messages();
+    what_elections_stand_on();
 }
 
 /// The bytes of an answer to a vote request read as what it says in the Raft model: its term, and whether it gives the
@@ -50,10 +48,7 @@ pub fn vote_answers_read_as_said()
     ensures { (ids : List ℕ) (rows : List Row) → AreMembers ids → DoNoHarm (cluster ids) rows →
         VoteAnswersReadAsSaid ids rows }
 {
-    a_choice_fits();
-    rows_are_shown();
-    rows_grow_by_one();
-    what_is_said_of_messages();
+    what_elections_stand_on();
 }
 
 /// A vote request comes back, in a calm of rows that do no harm, in which twice the delay is no longer than a transfer
@@ -67,22 +62,9 @@ pub fn vote_answers_read_as_said()
 pub fn vote_requests_come_back()
     ensures { (ids : List ℕ) (rows : List Row) → AreMembers ids → DoNoHarm (cluster ids) rows → VotesComeBack ids rows }
 {
-    a_choice_fits();
-    delivers_what_comes_whole();
-    each_transfer_comes_whole();
-    frames_carry_what_is_cut();
-    its_frames_are_anonymous();
-    lengths_of_cuttings();
-    members_of_a_step();
-    rows_are_shown();
-    rows_grow_by_one();
-    steps_stay_in_range();
-    transfers_of_a_step_are_apart();
     vote_requests_read_as_said();
     votes_are_answered();
-    what_a_step_keeps();
-    what_is_said_of_a_step();
-    what_is_said_of_frames();
+    what_elections_stand_on();
 }
 
 /// The answer to a vote request comes alone. In a calm in which a member of the group stands for election, and has
@@ -94,21 +76,9 @@ pub fn votes_come_alone()
     ensures { (ids : List ℕ) (rows : List Row) → AreMembers ids → DoNoHarm (cluster ids) rows →
         VotesComeAlone ids rows }
 {
-    a_choice_fits();
-    delivers_what_comes_whole();
-    frames_carry_what_is_cut();
-    its_frames_are_anonymous();
-    lengths_of_cuttings();
-    members_of_a_step();
-    rows_are_shown();
-    rows_grow_by_one();
-    steps_stay_in_range();
-    transfers_of_a_step_are_apart();
     vote_requests_read_as_said();
     votes_are_answered();
-    what_a_step_keeps();
-    what_is_said_of_a_step();
-    what_is_said_of_frames();
+    what_elections_stand_on();
 }
 
 /// Terms stay within bounds in a calm. In a calm of rows that do no harm, of a cluster of two members or more: from
@@ -117,20 +87,7 @@ pub fn votes_come_alone()
 pub fn terms_stay_in_calm()
     ensures { (ids : List ℕ) (rows : List Row) → AreMembers ids → DoNoHarm (cluster ids) rows → TermsStay ids rows }
 {
-    a_choice_fits();
-    delivers_what_comes_whole();
-    frames_carry_what_is_cut();
-    its_frames_are_anonymous();
-    law_every_run();
-    lengths_of_cuttings();
-    rows_are_shown();
-    rows_grow_by_one();
-    steps_stay_in_range();
-    what_a_row_delivers_is_one_transfer();
-    what_a_step_keeps();
-    what_is_said_of_a_step();
-    what_is_said_of_frames();
-    what_is_said_of_messages();
+    what_elections_stand_on();
 }
 
 /// No term of a member falls in a calm, whatever happens in it: of two moments of the calm its term at the later one is
@@ -147,20 +104,7 @@ pub fn votes_stay_free()
     ensures { (ids : List ℕ) (rows : List Row) → AreMembers ids → DoNoHarm (cluster ids) rows →
         VotesStayFree ids rows }
 {
-    a_choice_fits();
-    delivers_what_comes_whole();
-    frames_carry_what_is_cut();
-    its_frames_are_anonymous();
-    law_every_run();
-    lengths_of_cuttings();
-    rows_are_shown();
-    rows_grow_by_one();
-    steps_stay_in_range();
-    what_a_row_delivers_is_one_transfer();
-    what_a_step_keeps();
-    what_is_said_of_a_step();
-    what_is_said_of_frames();
-    what_is_said_of_messages();
+    what_elections_stand_on();
 }
 
 /// Logs stay in a calm as they are, and what members have committed, as long as no member of the group leads. This asks
@@ -169,18 +113,8 @@ pub fn votes_stay_free()
 pub fn logs_stay_in_calm()
     ensures { (ids : List ℕ) (rows : List Row) → AreMembers ids → DoNoHarm (cluster ids) rows → LogsStay ids rows }
 {
-    a_choice_fits();
     calls_ask_for_the_next_place();
-    delivers_what_comes_whole();
-    frames_carry_what_is_cut();
-    its_frames_are_anonymous();
-    lengths_of_cuttings();
-    rows_are_shown();
-    rows_grow_by_one();
-    steps_stay_in_range();
-    what_a_step_keeps();
-    what_is_said_of_a_step();
-    what_is_said_of_frames();
+    what_elections_stand_on();
 }
 
 /// And in such a calm no append request comes to a member of the group, in a row before which nobody led from the
@@ -189,18 +123,8 @@ pub fn no_appends_come()
     ensures { (ids : List ℕ) (rows : List Row) → AreMembers ids → DoNoHarm (cluster ids) rows →
         NoAppendsCome ids rows }
 {
-    a_choice_fits();
     calls_ask_for_the_next_place();
-    delivers_what_comes_whole();
-    frames_carry_what_is_cut();
-    its_frames_are_anonymous();
-    lengths_of_cuttings();
-    rows_are_shown();
-    rows_grow_by_one();
-    steps_stay_in_range();
-    what_a_step_keeps();
-    what_is_said_of_a_step();
-    what_is_said_of_frames();
+    what_elections_stand_on();
 }
 
 /// Who is asked for its vote answers. Where a member is delivered a vote request of a node on its list, it offers an
@@ -224,9 +148,7 @@ pub fn who_stands_asks()
     ensures { (ids : List ℕ) (rows : List Row) → AreMembers ids → DoNoHarm (cluster ids) rows →
         StandingAsks ids rows }
 {
-    a_choice_fits();
-    rows_are_shown();
-    rows_grow_by_one();
+    what_elections_stand_on();
 }
 
 /// A candidate stays one, in each row that does no harm: in its term, with the votes that it has. Or it leads in this
@@ -242,12 +164,7 @@ pub fn who_asked_waits_on()
     ensures { (ids : List ℕ) (rows : List Row) → AreMembers ids → DoNoHarm (cluster ids) rows →
         WaitsOnForVotes ids rows }
 {
-    a_choice_fits();
-    members_of_a_step();
-    rows_are_shown();
-    rows_grow_by_one();
-    what_a_row_delivers_is_one_transfer();
-    what_is_said_of_frames();
+    what_elections_stand_on();
 }
 
 /// A wait for an election that begins anew does so for a reason: an append request came that makes the member follow;
@@ -258,10 +175,7 @@ pub fn waits_have_reasons()
     ensures { (ids : List ℕ) (rows : List Row) → AreMembers ids → DoNoHarm (cluster ids) rows →
         WaitsHaveReasons ids rows }
 {
-    a_choice_fits();
-    rows_are_shown();
-    rows_grow_by_one();
-    what_is_said_of_frames();
+    what_elections_stand_on();
 }
 
 /// A wait that begins anew begins at the moment of the step, by the member's own clock; and who stands for election has
@@ -280,11 +194,7 @@ pub fn who_waits_stands()
     ensures { (ids : List ℕ) (rows : List Row) → AreMembers ids → DoNoHarm (cluster ids) rows →
         WhoWaitsStands ids rows }
 {
-    a_choice_fits();
-    members_of_a_step();
-    rows_are_shown();
-    rows_grow_by_one();
-    steps_stay_in_range();
+    what_elections_stand_on();
 }
 
 /// Somebody stands for election in time, where all have just been opened. A group that has a quorum of the cluster's
@@ -295,19 +205,7 @@ pub fn somebody_stands_in_time()
     ensures { (ids : List ℕ) (rows : List Row) → AreMembers ids → DoNoHarm (cluster ids) rows →
         SomebodyStands ids rows }
 {
-    a_choice_fits();
-    delivers_what_comes_whole();
-    followers_follow_on();
-    frames_carry_what_is_cut();
-    its_frames_are_anonymous();
-    lengths_of_cuttings();
-    members_of_a_step();
-    rows_are_shown();
-    rows_grow_by_one();
-    steps_stay_in_range();
-    what_a_step_keeps();
-    what_is_said_of_a_step();
-    what_is_said_of_frames();
+    what_elections_stand_on();
 }
 
 /// A member whose log is furthest stands in time, or somebody leads. In a calm as for [`somebody_stands_in_time`],
@@ -319,24 +217,11 @@ pub fn who_is_furthest_stands()
     ensures { (ids : List ℕ) (rows : List Row) → AreMembers ids → DoNoHarm (cluster ids) rows →
         WhoIsFurthestStands ids rows }
 {
-    a_choice_fits();
-    delivers_what_comes_whole();
-    followers_follow_on();
-    frames_carry_what_is_cut();
-    its_frames_are_anonymous();
-    lengths_of_cuttings();
     logs_stay_in_calm();
-    members_of_a_step();
     no_appends_come();
-    rows_are_shown();
-    rows_grow_by_one();
-    steps_stay_in_range();
     vote_requests_read_as_said();
     waits_have_reasons();
-    what_a_row_delivers_is_one_transfer();
-    what_a_step_keeps();
-    what_is_said_of_a_step();
-    what_is_said_of_frames();
+    what_elections_stand_on();
     who_waits_stands();
 }
 
@@ -348,24 +233,11 @@ pub fn who_is_ahead_wins()
     ensures { (ids : List ℕ) (rows : List Row) → AreMembers ids → DoNoHarm (cluster ids) rows →
         WhoIsAheadWins ids rows }
 {
-    a_choice_fits();
-    delivers_what_comes_whole();
-    followers_follow_on();
-    frames_carry_what_is_cut();
-    its_frames_are_anonymous();
-    law_members();
-    lengths_of_cuttings();
     logs_stay_in_calm();
-    members_of_a_step();
     no_appends_come();
-    rows_are_shown();
-    rows_grow_by_one();
-    steps_stay_in_range();
     terms_do_not_fall();
     terms_stay_in_calm();
-    what_a_step_keeps();
-    what_is_said_of_a_step();
-    what_is_said_of_frames();
+    what_elections_stand_on();
     who_stands_first_wins();
 }
 
@@ -388,15 +260,12 @@ pub fn elections_end_in_one_term()
     ensures { (ids : List ℕ) (rows : List Row) → AreMembers ids → DoNoHarm (cluster ids) rows →
         ElectionsEndInOneTerm ids rows }
 {
-    followers_follow_on();
-    law_members();
     logs_stay_in_calm();
-    members_of_a_step();
     no_appends_come();
-    steps_stay_in_range();
     terms_do_not_fall();
     terms_stay_in_calm();
     vote_requests_come_back();
+    what_elections_stand_on();
     who_is_furthest_stands();
     who_is_listed_stays();
     who_stands_alone_wins();
@@ -410,14 +279,11 @@ pub fn who_stands_is_heard()
     ensures { (ids : List ℕ) (rows : List Row) → AreMembers ids → DoNoHarm (cluster ids) rows →
         WhoStandsIsHeard ids rows }
 {
-    a_choice_fits();
     each_transfer_comes_whole();
-    rows_are_shown();
-    rows_grow_by_one();
     terms_do_not_fall();
     vote_requests_read_as_said();
     votes_are_answered();
-    what_is_said_of_a_step();
+    what_elections_stand_on();
     who_is_listed_stays();
     who_stands_asks();
 }
@@ -429,25 +295,8 @@ pub fn who_stands_knows_terms()
     ensures { (ids : List ℕ) (rows : List Row) → AreMembers ids → DoNoHarm (cluster ids) rows →
         WhoStandsKnowsTerms ids rows }
 {
-    a_choice_fits();
-    candidates_stay();
-    followers_follow_on();
-    law_decisions();
-    law_members();
-    rows_are_shown();
-    rows_grow_by_one();
-    steps_are_in_time();
-    terms_do_not_fall();
-    terms_stay_in_calm();
-    vote_answers_read_as_said();
-    votes_are_taken();
     votes_come_alone();
-    votes_stay_free();
-    waits_begin_then();
-    what_a_step_keeps();
-    who_asked_waits_on();
-    who_is_listed_stays();
-    who_stands_asks();
+    what_winners_stand_on();
 }
 
 /// Who stands for election alone wins. In a calm as for [`who_stands_knows_terms`]: where each other member of the
@@ -458,25 +307,8 @@ pub fn who_stands_alone_wins()
     ensures { (ids : List ℕ) (rows : List Row) → AreMembers ids → DoNoHarm (cluster ids) rows →
         WhoStandsAloneWins ids rows }
 {
-    a_choice_fits();
-    candidates_stay();
-    followers_follow_on();
-    law_decisions();
-    law_members();
-    rows_are_shown();
-    rows_grow_by_one();
-    steps_are_in_time();
-    terms_do_not_fall();
-    terms_stay_in_calm();
-    vote_answers_read_as_said();
-    votes_are_taken();
     votes_come_alone();
-    votes_stay_free();
-    waits_begin_then();
-    what_a_step_keeps();
-    who_asked_waits_on();
-    who_is_listed_stays();
-    who_stands_asks();
+    what_winners_stand_on();
 }
 
 /// Who stands for election first wins. In a calm as for [`who_stands_alone_wins`], where each other member of the group
@@ -485,22 +317,50 @@ pub fn who_stands_first_wins()
     ensures { (ids : List ℕ) (rows : List Row) → AreMembers ids → DoNoHarm (cluster ids) rows →
         WhoStandsFirstWins ids rows }
 {
+    votes_come_alone();
+    what_winners_stand_on();
+}
+
+/// What the laws of elections stand on: what is said below of frames and messages, of steps and members, and of rows.
+pub fn what_elections_stand_on()
+    ensures { ElectionLaws }
+{
     a_choice_fits();
-    candidates_stay();
+    delivers_what_comes_whole();
     followers_follow_on();
-    law_decisions();
+    frames_carry_what_is_cut();
+    its_frames_are_anonymous();
+    law_every_run();
     law_members();
+    lengths_of_cuttings();
+    members_of_a_step();
     rows_are_shown();
     rows_grow_by_one();
+    steps_stay_in_range();
+    transfers_of_a_step_are_apart();
+    what_a_row_delivers_is_one_transfer();
+    what_a_step_keeps();
+    what_is_said_of_a_step();
+    what_is_said_of_frames();
+    what_is_said_of_messages();
+}
+
+/// What the laws of who wins stand on: what is said below of members, steps and rows, and above of elections.
+pub fn what_winners_stand_on()
+    ensures { WinLaws }
+{
+    a_choice_fits();
+    candidates_stay();
+    law_decisions();
+    rows_are_shown();
     steps_are_in_time();
     terms_do_not_fall();
     terms_stay_in_calm();
     vote_answers_read_as_said();
     votes_are_taken();
-    votes_come_alone();
     votes_stay_free();
     waits_begin_then();
-    what_a_step_keeps();
+    what_elections_stand_on();
     who_asked_waits_on();
     who_is_listed_stays();
     who_stands_asks();

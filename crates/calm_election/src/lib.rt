@@ -17,9 +17,9 @@
 //! each other: of that nothing is promised.
 //!
 //! Why it holds: the vote requests from one member to another have transfer IDs that follow each other, and so have
-//! the answers (`proofs/ExchangeAsks`, `proofs/VotesAlone`); what is delivered in a calm was made in it
+//! the answers (`proofs/VotesAlone`, and `ExchangeAsks` of `calm_leader`); what is delivered in a calm was made in it
 //! (`proofs/MadeInCalm`); and each step is taken apart into what the event brings and what follows
-//! (`proofs/TermsBrings`, `proofs/RaftPhases`).
+//! (`proofs/TermsBrings`, and `RaftPhases` of `calm_leader`).
 //!
 //! What a reader must believe: the files of `specs/`, and what they cite of `calm_leader` and below.
 #![tactic(auto)]

@@ -1,7 +1,6 @@
 -- What a leader keeps of its calls to a peer is never later than its clock.
 use Rattle.std.proofs.Common.{◌≡◌, ℕ, ◌≤◌, arith, max, Bool, true, false, List, drop, refl, sym, subst, inl, inr, Option, Some}
 use Rattle.std.proofs.lemmas.Bool.Decides.{eqb_tells}
-use Rattle.can_frame.specs.declared.step.What.{What}
 use Rattle.can_frame.specs.declared.step.What.TheVariants.{AppQ, VoteQ}
 use Rattle.raft_core.specs.Times.{Sending}
 use Rattle.raft_model.specs.Lists.{at, at_here}
@@ -11,23 +10,16 @@ use Rattle.raft_model.specs.Moves.Move.{CallForVote, CallToAppend}
 use Rattle.raft_model.specs.Server.Role.{Candidate}
 use Rattle.replay_text.specs.declared.row.Row.{Row}
 use Rattle.alloc_spec.specs.AllocatorState.{AllocatorState, members_of}
-use Rattle.alloc_spec.specs.Step.{Event, begin_phase, moment_of, step}
+use Rattle.alloc_spec.specs.Step.{Event, moment_of, step}
 use Rattle.alloc_spec.specs.StepState.{StepState}
 use Rattle.alloc_spec.specs.Transfers.{id_of}
-use Rattle.alloc_spec_laws.specs.Phases.{when_committed, when_told}
-use Rattle.alloc_spec_laws.proofs.DistinctTransfers.{rank}
-use Rattle.alloc_spec_laws.proofs.EndOffers.{Told, tells}
-use Rattle.alloc_spec_laws.proofs.Transfers.{event_offers}
+use Rattle.alloc_spec_laws.specs.Phases.{when_told}
 use Rattle.cluster_calm.proofs.CallsInTime.{Until, until_ended, until_won}
 use Rattle.cluster_calm.proofs.CallsOffered.{OfLeader, all_keep, before_calls, called, clash, others, same_after}
 use Rattle.cluster_calm.proofs.Counting.{now_after}
 use Rattle.cluster_calm.proofs.EachServer.{in_each}
 use Rattle.cluster_spec.specs.Cluster.{world_of}
 use Rattle.cluster_spec.specs.Members.MemberStatus.{Up}
-
--- until a step makes its calls, none is among its offers
-pub told_only : (t : AllocatorState) (number : ℕ) (event : Event) → Told (when_told t number event)
-told_only t number event = tells number (when_committed t number event) (event_offers number event (begin_phase number (moment_of event) t) refl)
 
 -- where the server leads, what it keeps of its calls to the peer is no later than its clock
 abbrev pub CallsArePast : ℕ → AllocatorState → Type 0
@@ -83,11 +75,8 @@ module _ (m : ℕ) (t : AllocatorState) (number : ℕ) (event : Event) where
   told_now = let same = (same_after t number event).1 in let after = now_after t number event in omega (arith, same, after)
 
   told_past : CallsArePast m t → OfLeader m (Until then_now) (when_told t number event).allocator.raft_server.memory (when_told t number event).allocator.times
-  told_past h leads = elim (before_calls m (Until then_now) (until_ended then_now) (until_won then_now) t number event
-      (λ leading. until_later t.now then_now _ _ _ (omega arith) (h leading)) leads) [
-        | inl c ↦ absurd (omega (arith, (told_only t number event).each c.0 c.1, subst (λ (what : What). 8 ≤ rank what) (sym c.2) (omega arith)))
-        | inr k ↦ k
-      ]
+  told_past h = before_calls m (Until then_now) (until_ended then_now) (until_won then_now) t number event
+      (λ leading. until_later t.now then_now _ _ _ (omega arith) (h leading))
 
   step_past : CallsArePast m t → ArePast number m then_now (step t number event).step_state
   unfolding step

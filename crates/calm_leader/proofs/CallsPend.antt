@@ -15,21 +15,20 @@ use Rattle.raft_model.specs.Server.{Role}
 use Rattle.raft_model.specs.Server.Role.{Candidate, Follower, Leader}
 use Rattle.alloc_spec.specs.AllocatorState.{AllocatorState, members_of}
 use Rattle.alloc_spec.specs.Ending.{append_call_bytes, vote_call_bytes, calls_all, calls_owed, calls_peer}
-use Rattle.alloc_spec.specs.Step.{Event, begin_phase, moment_of, step}
+use Rattle.alloc_spec.specs.Step.{Event, step}
 use Rattle.alloc_spec.specs.StepState.{StepState, with_moves, with_transfer}
 use Rattle.alloc_spec.specs.Transfers.{Offer, has_room, id_of}
-use Rattle.alloc_spec_laws.specs.Phases.{when_committed, when_told}
+use Rattle.alloc_spec_laws.specs.Phases.{when_told}
 use Rattle.alloc_spec_laws.proofs.Choices.{either}
 use Rattle.alloc_spec_laws.proofs.DistinctTransfers.{rank}
-use Rattle.alloc_spec_laws.proofs.EndOffers.{tells}
 use Rattle.alloc_spec_laws.proofs.Lists.{in_append, in_back, in_front}
-use Rattle.alloc_spec_laws.proofs.Transfers.{event_offers}
 use Rattle.calm_leader.specs.CallsAsk.{AsksNext, next_request}
 use Rattle.alloc_spec_laws.specs.Apart.{AreAllApart}
 use Rattle.cluster_calm.proofs.Counting.{is_one, ones}
 use Rattle.cluster_calm.proofs.Follows.{few}
 use Rattle.cluster_calm.proofs.Pair.{in_ones, is_one_of}
 use Rattle.cluster_calm.proofs.CallsOffered.{same_after}
+use Rattle.cluster_calm.proofs.PeerMoves.{told_only}
 
 module _ (number m : ℕ) where
   -- an append request to peer m that had room is among these offers
@@ -170,7 +169,7 @@ module _ (number m : ℕ) where
 -- a call is none before the calls
 none_before : (t : AllocatorState) (number : ℕ) (event : Event) (m : ℕ) → HasCall number m (when_told t number event).offers → ⊥
 none_before t number event m c =
-    let low = (tells number (when_committed t number event) (event_offers number event (begin_phase number (moment_of event) t) refl)).each c.0 c.1 in
+    let low = (told_only t number event).each c.0 c.1 in
     let high = ap rank c.2 in omega (arith, low, high)
 
 -- ---- the whole step

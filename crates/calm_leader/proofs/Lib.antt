@@ -1,6 +1,7 @@
 pub mod EntriesAccepted
 pub mod EntriesJudged
 pub mod TermsSaid
+pub mod RaftPhases
 pub mod TermsKept
 pub mod TermsRoles
 pub mod TermsSteps
@@ -18,6 +19,7 @@ pub mod Deliveries
 pub mod AnswersOffered
 pub mod AnswersTaken
 pub mod AnswersRead
+pub mod CallStays
 pub mod PendingStays
 pub mod CallsPend
 pub mod RowsOfOne
@@ -30,10 +32,17 @@ pub mod EntriesBack
 pub mod EntriesParts
 pub mod EntriesComing
 pub mod EntriesStart
-pub mod TwoSides
-pub mod TwoWays
+pub mod CallsWait
+pub mod CallsAlone
 pub mod CallsComeBack
-pub mod CallsBegin
+pub mod CallsExchange
+pub mod Exchange
+pub mod ExchangeAnswers
+pub mod ExchangeAsks
+pub mod ExchangeStart
+pub mod ExchangeGoes
+pub mod ExchangeUnder
+pub mod ExchangeBack
 pub mod EntriesHave
 pub mod EntriesCome
 pub mod EntriesCommitted

@@ -19,10 +19,11 @@
 //!
 //! Why it holds: terms do not rise, since no message has a higher term than its maker has (`proofs/TermsSaid`), and
 //! what comes in a calm is of the group (`proofs/LeadsOnWays`). Each follower hears the leader before its least wait is
-//! over (`proofs/NextCall`). Of a leader's calls to one member and its answers one is under way at most
-//! (`proofs/TwoSides`, `proofs/TwoWays`), so the answer that comes is that to the call that is pending; behind it the
-//! next call goes out in the same step (`proofs/EntriesSteps`). While a call is pending the leader knows the same of
-//! the member (`proofs/EntriesHold`), so each answer leaves one call less (`proofs/EntriesComing`).
+//! over (`proofs/NextCall`). A request of one member comes to another one, and its answer back (`proofs/Exchange`,
+//! which holds of votes too). Of a leader's calls to one member and its answers one is under way at most
+//! (`proofs/CallsAlone`), so the answer that comes is that to the call that is pending; behind it the next call goes
+//! out in the same step (`proofs/EntriesSteps`). While a call is pending the leader knows the same of the member
+//! (`proofs/EntriesHold`), so each answer leaves one call less (`proofs/EntriesComing`).
 //!
 //! What a reader must believe: the files of `specs/`, and what they cite of `cluster_calm` and below.
 #![tactic(auto)]

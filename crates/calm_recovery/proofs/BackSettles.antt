@@ -28,7 +28,7 @@ use Rattle.calm_rounds.specs.Running.{IsCalmOf}
 use Rattle.calm_service.specs.ServedTold.{HasRoomInSteps}
 use Rattle.calm_service.specs.Settled.{IsCalmUnder, NobodyIsMissed}
 use Rattle.calm_service.specs.Settles.{GrowsBy, HasComeToLead, HasSettledBy, IsToSettle, WaitsWithBlank}
-use Rattle.calm_service.specs.Tidy.{IsFit}
+use Rattle.calm_service.specs.Tidy.{IsFit, NeedsNoDiscovery}
 use Rattle.cluster_spec.specs.Cluster.{Cluster, after_rows}
 use Rattle.cluster_spec.specs.Lawful.{DoNoHarm}
 use Rattle.cluster_spec.specs.Members.MemberStatus.{Up}
@@ -56,7 +56,7 @@ module _ (g : Scene) where
   -- each member is fit
   pub fit_at : (m : ℕ) → In (OfMember m) g.group → (a b : List Timed) → g.whole ≡ a ++ b → IsFit m (end_of g.start a + g.clocks (OfMember m)) (there g a)
   fit_at m i a b cut = g.given.fit g.group g.clocks g.pace g.start m a b c.listed (calm_cut a b cut)
-      (λ p j. g.given.tidy_fit p (g.start + g.clocks (OfMember p)) (w0 g) (g.calm.tidy p j)) lists g.calm.none_waits i
+      g.calm.are lists g.calm.none_waits i
 
   pub fine_at : (m : ℕ) → In (OfMember m) g.group → (a b : List Timed) → g.whole ≡ a ++ b → (t : AllocatorState) → ((there g a).member m).status ≡ Up t → IsFine t
   fine_at m i a b cut t up = g.given.fine (rows_in a) m t (harmless_cut a b cut) (c.listed m i) up
@@ -99,8 +99,16 @@ module _ (g : Scene) where
         no_more : g.whole ≡ g.whole ++ []
         no_more = sym (append-nil g.whole)
 
+        -- each member owes no Discovery
+        none_due : (p : ℕ) → In (OfMember p) g.group → NeedsNoDiscovery p (w0 g)
+        none_due p j = let is = g.calm.are p j in record {
+          running = record { server = is.server; runs = is.runs; faults = is.faults; disk = is.disk };
+          complete = is.complete;
+          discovery = is.discovery;
+        }
+
         none_missed : NobodyIsMissed g.n (w0 g) g.whole
-        none_missed = g.given.missed g.group g.clocks g.pace g.start g.n g.whole [] c.listed (calm_cut g.whole [] no_more) g.calm.tidy g.calm.none_waits
+        none_missed = g.given.missed g.group g.clocks g.pace g.start g.n g.whole [] c.listed (calm_cut g.whole [] no_more) none_due g.calm.none_waits
 
     module _ (late : end_of g.start g.front + heard_within g.pace + 2 * g.pace.delay < end_of (end_of g.start g.front) few) where
       -- it keeps calling the others

@@ -96,9 +96,7 @@ module _ (g : Scene) (s : ServesGiven g.ids g.rows) (a : ℕ) (uid : List ℕ) (
         calm = calm_cut g front (timed ∷ rest) cut;
         device = tells;
         harmless = harmless_whole front (timed ∷ rest) cut;
-        begins = λ p j server up.
-            let is = g.calm.tidy p j in
-            subst (TellBeginning uid) (sym (ap (λ (t : AllocatorState). t.accepted) (same_server server is.server (sym up ∙ is.runs)) ∙ is.requests)) (uid, refl);
+        begins = d.begun;
       }
 
   -- so it is in a world that is the same

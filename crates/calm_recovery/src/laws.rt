@@ -169,6 +169,7 @@ pub fn devices_may_be_served_from_power_on()
 {
     calm_can_be();
     devices_are_served();
+    members_stay_tidy();
     opened_members_are_tidy();
     opened_members_go_on_calmly();
 }

@@ -28,7 +28,7 @@ use Rattle.alloc_spec.proofs.Blanks.{move_with_blank}
 use Rattle.alloc_spec_laws.specs.Phases.{when_seen, when_told}
 use Rattle.cluster_progress.proofs.FollowUps.{same_number, when_come}
 use Rattle.calm_election.specs.Votes.{WaitsForVote}
-use Rattle.calm_election.proofs.RaftPhases.{EndsQuietly, Keeps, OfServer, until_calls}
+use Rattle.calm_leader.proofs.RaftPhases.{EndsQuietly, Keeps, OfServer, until_calls}
 use Rattle.calm_election.proofs.VotesTaken.{vote_answer_taken}
 use Rattle.cluster_calm.specs.Comes.{Delivers, delivery_of}
 use Rattle.cluster_calm.proofs.Calls.{on_list}

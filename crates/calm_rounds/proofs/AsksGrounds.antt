@@ -23,9 +23,9 @@ use Rattle.cluster_recovery.specs.Calm.{Pace, Timed, rows_in}
 use Rattle.cluster_recovery.proofs.Members.{IsQuiet}
 use Rattle.calm_election.specs.Votes.{CanAsk, Stands, VoteComes, VoteRequestsReadAsSaid, VotesAreAnswered, VotesComeBack}
 use Rattle.calm_election.specs.Wins.{OffersVoteRequest}
-use Rattle.calm_election.proofs.Exchange.{AllGiven, Exchange}
-use Rattle.calm_election.proofs.ExchangeStart.{Fresh, all_given}
-use Rattle.calm_election.proofs.ExchangeUnder.{AreAsked, Under, at_first as under_first, comes_behind, reach}
+use Rattle.calm_leader.proofs.Exchange.{AllGiven, Exchange}
+use Rattle.calm_leader.proofs.ExchangeStart.{Fresh, all_given}
+use Rattle.calm_leader.proofs.ExchangeUnder.{AreAsked, Under, at_first as under_first, comes_behind, reach}
 use Rattle.calm_election.proofs.ResponsesDelivered.{IsWhole, is_whole}
 use Rattle.calm_election.proofs.VotesAsked.{fresh, no_vote, voting}
 use Rattle.calm_election.proofs.WinsGrounds.{Always, Below, all_row_laws, rows_join}
@@ -37,8 +37,9 @@ use Rattle.calm_rounds.specs.Sent.{HasAsked}
 use Rattle.calm_rounds.proofs.AsksFrames.{Flies, flies_on, from_group}
 use Rattle.calm_rounds.proofs.AsksKept.{past_in}
 use Rattle.calm_rounds.proofs.AsksLaw.{asks_not_itself, stands_then}
-use Rattle.calm_rounds.proofs.AsksScene.{Asker, harm_row, harm_upto, here, laws_at, listed, runs_at}
+use Rattle.calm_rounds.proofs.AsksScene.{Asker, here, laws_at, listed, the_calm}
 use Rattle.calm_rounds.proofs.AsksWon.{IsAskedAt, IsWon, has_asked, is_won, vote_comes}
+use Rattle.calm_rounds.proofs.CalmFronts.{harm_front, harm_row, runs_at}
 use Rattle.cluster_calm.specs.Calm.{Member as OfMember, Party, no_traffic}
 use Rattle.cluster_calm.proofs.Group.{AreWell, CalmLaws, IsServer}
 use Rattle.cluster_calm.proofs.Start.{places_in, server_is, well_in}
@@ -122,7 +123,7 @@ module _ (below : Below) (ids : List ℕ) (members : AreMembers ids) (rows : Lis
 
     whole_at : IsWholeIn rows harmless (here s front)
     whole_at = subst (IsWholeIn rows harmless) (rows_join (cluster ids) rows (rows_in front))
-        (whole_in (rows ++ rows_in front) (harmless_both (cluster ids) rows (rows_in front) harmless (harm_upto s front (timed ∷ rest) refl)))
+        (whole_in (rows ++ rows_in front) (harmless_both (cluster ids) rows (rows_in front) harmless (harm_front (the_calm s) front (timed ∷ rest) refl)))
 
     -- ---- where the calm begins
 
@@ -214,13 +215,13 @@ module _ (below : Below) (ids : List ℕ) (members : AreMembers ids) (rows : Lis
 
     -- the row does no harm
     harm_here : (k ms : ℕ) → timed.row ≡ Rx n k ms → DoesNoHarm (here s front) (Rx n k ms)
-    harm_here k ms is = subst (DoesNoHarm (here s front)) is (harm_row s front rest timed refl)
+    harm_here k ms is = subst (DoesNoHarm (here s front)) is (harm_row (the_calm s) front rest timed refl)
 
     -- who comes to lead has asked
     pub who_wins : LeadsNotIfUp n (here s front) → (u : AllocatorState) → ((after_row (here s front) timed.row).member n).status ≡ Up u → u.raft_server.memory.role ≡ Leader
         → HasAsked group n u.raft_server.store.term timed.at (4 * pace.delay) (world_of ids rows) front
     who_wins leads_not u up_then leads =
-        let runs = runs_at s n member front (timed ∷ rest) refl in
+        let runs = runs_at (the_calm s) n member front (timed ∷ rest) refl in
         let t : AllocatorState = runs.server in
         let up = runs.up.status in
         let not_before = leads_not t up in

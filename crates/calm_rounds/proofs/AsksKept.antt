@@ -1,101 +1,36 @@
 -- What a step leaves of a server's call to one peer, until it makes its calls; and that no pending call is later than
 -- the server's clock.
-use Rattle.std.proofs.Common.{◌≡◌, ℕ, ◌≤◌, arith, Bool, true, false, List, [], ◌∷◌, ◌++◌, drop, refl, sym, ◌∙◌, subst, inl, inr, max, Option, None, Some}
-use Rattle.std.specs.Prelude.{⊤, ◌⊎◌}
+use Rattle.std.proofs.Common.{◌≡◌, ℕ, ◌≤◌, arith, Bool, true, false, List, drop, refl, sym, ◌∙◌, inl, inr, max, Option, None, Some}
+use Rattle.std.specs.Prelude.{◌⊎◌}
 use Rattle.std.proofs.lemmas.Bool.Decides.{eqb_tells}
-use Rattle.can_frame.specs.declared.step.What.{What}
 use Rattle.can_frame.specs.declared.step.What.TheVariants.{AppQ, VoteQ}
-use Rattle.raft_core.specs.Times.{Sending, Times, given_at}
-use Rattle.raft_model.specs.Lists.{In, at, at_here, at_other}
+use Rattle.raft_core.specs.Times.{Sending}
+use Rattle.raft_model.specs.Lists.{at, at_here, at_other}
 use Rattle.raft_model.specs.Messages.{Request}
-use Rattle.raft_model.specs.Messages.Message.{Requests}
+use Rattle.raft_model.specs.Moves.{puts}
 use Rattle.raft_model.specs.Moves.Leading.{append_request, vote_request}
 use Rattle.raft_model.specs.Moves.Move.{CallForVote, CallToAppend}
-use Rattle.raft_model.specs.Server.{RaftServer}
 use Rattle.raft_model.specs.Server.Role.{Candidate}
 use Rattle.replay_text.specs.declared.row.Row.{Row}
 use Rattle.alloc_spec.specs.AllocatorState.{AllocatorState, members_of}
-use Rattle.alloc_spec.specs.Step.{Event, at_moment, begin_phase, moment_of, step}
-use Rattle.alloc_spec.specs.StepState.{StepState, initial_state}
-use Rattle.alloc_spec.specs.Transfers.{Offer, id_of}
-use Rattle.alloc_spec_laws.specs.Calls.{carrier}
-use Rattle.alloc_spec_laws.specs.Phases.{when_committed, when_seen, when_told}
-use Rattle.alloc_spec_laws.proofs.CalledPeers.{commit_quiet}
-use Rattle.alloc_spec_laws.proofs.Choices.{either}
-use Rattle.alloc_spec_laws.proofs.DistinctTransfers.{rank, sent}
-use Rattle.alloc_spec_laws.proofs.KeptByChanges.{Keeping}
-use Rattle.alloc_spec_laws.proofs.KeptBySteps.{event_keeps, gives_up_keeps, tell_keeps}
-use Rattle.alloc_spec_laws.proofs.Lists.{in_back, in_front}
-use Rattle.alloc_spec_laws.proofs.LogGrowth.{commit_decided}
-use Rattle.calm_leader.proofs.CallsPast.{told_only}
-use Rattle.calm_rounds.proofs.AsksMoves.{IsKeptByMoves, OfAsks, after_moves}
+use Rattle.alloc_spec.specs.Step.{Event, moment_of, step}
+use Rattle.alloc_spec.specs.StepState.{StepState}
+use Rattle.alloc_spec.specs.Transfers.{id_of}
+use Rattle.alloc_spec_laws.specs.Phases.{when_told}
+use Rattle.calm_leader.proofs.TermsSaid.{puts_rise, risen}
 use Rattle.cluster_calm.proofs.CallsOffered.{all_keep, called, same_after}
 use Rattle.cluster_calm.proofs.Counting.{now_after}
 use Rattle.cluster_calm.proofs.EachServer.{in_each}
+use Rattle.cluster_calm.proofs.PeerMoves.{HoldsOf, IsKeptByMoves, OfPeer, TermsGo, until_calls}
 use Rattle.cluster_spec.specs.Cluster.{world_of}
 use Rattle.cluster_spec.specs.Members.MemberStatus.{Up}
 
--- ---- until the calls
+-- terms do not fall
+abbrev Rises : ℕ → ℕ → Type 0
+Rises low high = low ≤ high
 
--- a call is among these offers
-abbrev HasCall : List Offer → Type 0
-HasCall offers = (offer : Offer) × In offer offers × (8 ≤ rank offer.what)
-
-is_call : (request : Request) → 8 ≤ rank (carrier request)
-is_call request = either (λ (what : What). 8 ≤ rank what) request.append AppQ VoteQ (λ e. omega arith) (λ e. omega arith)
-
--- it holds of a server
-abbrev pub Holds : (m : ℕ) (H : OfAsks) → AllocatorState → Type 0
-Holds m H t = H t.raft_server.memory.role t.raft_server.store.term (t.raft_server.memory.pending m) (t.times.sending m) (t.times.answered m)
-
-module _ (m : ℕ) (H : OfAsks) (kept : IsKeptByMoves H) (number : ℕ) where
-  -- of what is known of the call alone
-  abbrev HoldsOf : RaftServer → Times → Type 0
-  HoldsOf server times = H server.memory.role server.store.term (server.memory.pending m) (times.sending m) (times.answered m)
-
-  -- a call is offered, or it holds
-  abbrev CallsOrHolds : StepState → Type 0
-  CallsOrHolds g = HasCall g.offers ⊎ HoldsOf g.allocator.raft_server g.allocator.times
-
-  longer : {X : Type 0} (offers : List Offer) (offer : Offer) → HasCall offers ⊎ X → HasCall (offers ++ offer ∷ []) ⊎ X
-  longer offers offer (inl c) = inl (c.0, in_front c.0 offers (offer ∷ []) c.1, c.2)
-  longer offers offer (inr h) = inr h
-
-  keeping : (event : Event) → Keeping number event CallsOrHolds (λ d. ⊤)
-  keeping event = record {
-    takes_keep = λ given moves g quiet decided h. elim h [
-      | inl c ↦ inl c
-      | inr k ↦ inr (after_moves m H kept (members_of g.allocator) g.allocator.me number given moves g.allocator.raft_server g.allocator.times quiet k)
-    ];
-    proposes_keep = λ given uid node g found h. h;
-    sends_keep = λ what to payload says g sends h. longer g.offers (sent what to payload says g) h;
-    calls_keep = λ what peer move request payload g makes fits h. inl (
-      sent what peer payload (Some (Requests request)) g,
-      in_back (sent what peer payload (Some (Requests request)) g) g.offers (sent what peer payload (Some (Requests request)) g ∷ []) (inl refl),
-      subst (λ (w : What). 8 ≤ rank w) (sym makes.carried) (is_call request),
-    );
-    responds_keep = λ what d payload says g comes responds h. longer g.offers _ h;
-    changes_keep = λ u g like h. subst (λ (server : RaftServer). HasCall g.offers ⊎ HoldsOf server u.times) (sym like.raft_server)
-        (subst (λ (times : Times). HasCall g.offers ⊎ HoldsOf g.allocator.raft_server times) (sym like.times) h);
-    watches_keep = λ node happens g has h. h;
-    tells_keep = λ g h. h;
-    hears_keep = λ d message g comes kind other read h. h;
-  }
-
-  -- so it holds when the step makes its calls
-  pub until_calls : (t : AllocatorState) (event : Event) → Holds m H t → Holds m H (when_told t number event).allocator
-  until_calls t event h = elim kept_there [
-    | inl c ↦ absurd (let low = (told_only t number event).each c.0 c.1 in let high = c.2 in omega (arith, low, high))
-    | inr k ↦ k
-  ]
-    where
-      kept_there : CallsOrHolds (when_told t number event)
-      kept_there = tell_keeps number event CallsOrHolds (λ d. ⊤) (keeping event) (when_committed t number event)
-          ((keeping event).takes_keep (given_at (when_seen t number event).allocator.now) _ (when_seen t number event)
-          (commit_quiet (members_of (when_seen t number event).allocator) (when_seen t number event).allocator.me (when_seen t number event).allocator.raft_server)
-          (commit_decided (members_of (when_seen t number event).allocator) (when_seen t number event).allocator.me number (when_seen t number event).allocator.raft_server)
-          (event_keeps number event CallsOrHolds (λ d. ⊤) (keeping event) (begin_phase number (moment_of event) t) (λ arrival is d e. tt)
-          (gives_up_keeps number event CallsOrHolds (λ d. ⊤) (keeping event) (initial_state (at_moment (moment_of event) t)) (inr h))))
+terms_rise : TermsGo Rises
+terms_rise members me number server move = risen (puts members me server move) server.store (puts_rise members me server move)
 
 -- ---- no pending call is later than the clock
 
@@ -103,17 +38,17 @@ module _ (m : ℕ) (H : OfAsks) (kept : IsKeptByMoves H) (number : ℕ) where
 abbrev pub CalledBy : ℕ → Option Request → Option Sending → Type 0
 CalledBy moment p s = (request : Request) → p ≡ Some request → (call : Sending) × (s ≡ Some call) × (call.moment ≤ moment)
 
-abbrev IsBy : ℕ → OfAsks
-IsBy moment r term p s a = CalledBy moment p s
+abbrev IsBy : ℕ → OfPeer
+IsBy moment r term p s a l = CalledBy moment p s
 
-by_kept : (moment : ℕ) → IsKeptByMoves (IsBy moment)
+by_kept : (moment : ℕ) → IsKeptByMoves Rises (IsBy moment)
 by_kept moment = record {
-  ended = λ r term p s a h request e. absurd (cc e);
-  voted = λ r term p s a h request e. absurd (cc e);
-  won = λ r term p s a b h request e. absurd (cc e);
-  stood = λ r term p s a h request e. absurd (cc e);
-  follows = λ r term p s a h. h;
-  rises = λ r term more p s a up h. h;
+  ended = λ r term p s a l h request e. absurd (cc e);
+  voted = λ r term p s a l h request e. absurd (cc e);
+  won = λ r term p s a b l h request e. absurd (cc e);
+  stood = λ r term p s a l h request e. absurd (cc e);
+  follows = λ r term p s a l h. h;
+  rises = λ r term more p s a l up h. h;
 }
 
 -- a call to a peer is made by its moment
@@ -168,7 +103,7 @@ past_stays m t number event h =
     told_now = let same = (same_after t number event).1 in let after = now_after t number event in omega (arith, same, after)
 
     told_by : CalledBy then_now (told.allocator.raft_server.memory.pending m) (told.allocator.times.sending m)
-    told_by = until_calls m (IsBy then_now) (by_kept then_now) number t event (by_later t.now then_now _ _ (omega arith) h)
+    told_by = until_calls m Rises (IsBy then_now) (by_kept then_now) terms_rise number t event (by_later t.now then_now _ _ (omega arith) h)
 
 -- so it is in each world that rows reach
 pub past_in : (ids : List ℕ) (list : List Row) (p : ℕ) (t : AllocatorState) → ((world_of ids list).member p).status ≡ Up t → (m : ℕ) → IsPast m t
@@ -178,22 +113,22 @@ past_in ids list p t e m = in_each (IsPast m) (λ n rules store moment word requ
 
 -- Of a candidate in this term: the peer has answered; or it has as before, and no call to it is pending, or the one that
 -- was.
-abbrev pub Settled : (top : ℕ) → Option Request → Option Sending → Bool → OfAsks
-Settled top p0 s0 a0 r term p s a = (top ≤ term) × (r ≡ Candidate → term ≡ top → (a ≡ true) ⊎ ((a ≡ a0) × ((p ≡ None) ⊎ ((p ≡ p0) × (s ≡ s0)))))
+abbrev pub Settled : (top : ℕ) → Option Request → Option Sending → Bool → OfPeer
+Settled top p0 s0 a0 r term p s a l = (top ≤ term) × (r ≡ Candidate → term ≡ top → (a ≡ true) ⊎ ((a ≡ a0) × ((p ≡ None) ⊎ ((p ≡ p0) × (s ≡ s0)))))
 
-pub settled_kept : (top : ℕ) (p0 : Option Request) (s0 : Option Sending) (a0 : Bool) → IsKeptByMoves (Settled top p0 s0 a0)
+pub settled_kept : (top : ℕ) (p0 : Option Request) (s0 : Option Sending) (a0 : Bool) → IsKeptByMoves Rises (Settled top p0 s0 a0)
 settled_kept top p0 s0 a0 = record {
-  ended = λ r term p s a h. (h.0, λ role same. elim (h.1 role same) [ inl x ↦ inl x | inr x ↦ inr (x.0, inl refl) ]);
-  voted = λ r term p s a h. (h.0, λ role same. inl refl);
-  won = λ r term p s a b h. (h.0, λ role same. absurd (cc role));
-  stood = λ r term p s a h. (let low = h.0 in omega (arith, low), λ role same. absurd (let low = h.0 in omega (arith, low, same)));
-  follows = λ r term p s a h. (h.0, λ role same. absurd (cc role));
-  rises = λ r term more p s a up h. (let low = h.0 in omega (arith, low, up), λ role same. h.1 role (let low = h.0 in omega (arith, low, up, same)));
+  ended = λ r term p s a l h. (h.0, λ role same. elim (h.1 role same) [ inl x ↦ inl x | inr x ↦ inr (x.0, inl refl) ]);
+  voted = λ r term p s a l h. (h.0, λ role same. inl refl);
+  won = λ r term p s a b l h. (h.0, λ role same. absurd (cc role));
+  stood = λ r term p s a l h. (let low = h.0 in omega (arith, low), λ role same. absurd (let low = h.0 in omega (arith, low, same)));
+  follows = λ r term p s a l h. (h.0, λ role same. absurd (cc role));
+  rises = λ r term more p s a l up h. (let low = h.0 in omega (arith, low, up), λ role same. h.1 role (let low = h.0 in omega (arith, low, up, same)));
 }
 
 -- so it is when the step makes its calls
 pub settled_then : (m : ℕ) (t : AllocatorState) (number : ℕ) (event : Event)
-    → Holds m (Settled t.raft_server.store.term (t.raft_server.memory.pending m) (t.times.sending m) (t.times.answered m)) (when_told t number event).allocator
-settled_then m t number event = until_calls m (Settled t.raft_server.store.term (t.raft_server.memory.pending m) (t.times.sending m) (t.times.answered m))
-    (settled_kept t.raft_server.store.term (t.raft_server.memory.pending m) (t.times.sending m) (t.times.answered m)) number t event
+    → HoldsOf m (Settled t.raft_server.store.term (t.raft_server.memory.pending m) (t.times.sending m) (t.times.answered m)) (when_told t number event).allocator
+settled_then m t number event = until_calls m Rises (Settled t.raft_server.store.term (t.raft_server.memory.pending m) (t.times.sending m) (t.times.answered m))
+    (settled_kept t.raft_server.store.term (t.raft_server.memory.pending m) (t.times.sending m) (t.times.answered m)) terms_rise number t event
     (omega arith, λ role same. inr (refl, inr (refl, refl)))

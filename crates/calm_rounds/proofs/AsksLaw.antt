@@ -24,10 +24,11 @@ use Rattle.calm_election.proofs.WinsFronts.{here_more}
 use Rattle.calm_leader.proofs.RowsOfOne.{moment_is, stepped_up}
 use Rattle.calm_rounds.specs.Running.{quiet_within}
 use Rattle.calm_rounds.proofs.AsksKept.{IsPast, by_later, settled_then}
-use Rattle.calm_rounds.proofs.AsksScene.{Asker, calm_at, harm_row, here, laws_at, listed, next_cut, one_is, runs_at, runs_next, w0, was_one}
+use Rattle.calm_rounds.proofs.AsksScene.{Asker, here, laws_at, listed, next_cut, one_is, runs_next, the_calm, w0, was_one}
 use Rattle.calm_rounds.proofs.AsksState.{Is, among, fits, is_candidate_or_not, now_is, one_row, same_request, told_term, u_is}
 use Rattle.calm_rounds.proofs.AsksTurns.{HasAsked, is_asked, not_asked, not_listed, stood}
 use Rattle.calm_rounds.proofs.AsksWaits.{Waits, in_time, told_answered, told_pending}
+use Rattle.calm_rounds.proofs.CalmFronts.{harm_row, recut, runs_at}
 use Rattle.cluster_calm.specs.Calm.{AreCalm, Member as OfMember, Traffic, no_traffic, traffic_after}
 use Rattle.cluster_calm.specs.Comes.{Delivers}
 use Rattle.cluster_calm.proofs.Pair.{same_event}
@@ -37,7 +38,7 @@ use Rattle.cluster_spec.specs.Members.MemberStatus.{Up}
 -- what is delivered comes at the moment that the member's clock reads then
 its_ms : (s : Asker) (traffic : Traffic) (a b : List Timed) (x : Timed) (e : s.whole ≡ a ++ x ∷ b) → AreCalm s.group s.clocks s.pace traffic (here s a) (x ∷ b) → (y : SentTransfer)
     (d : Delivers s.n y (here s a) x.row) → d.ms ≡ x.at + s.clocks (OfMember s.n)
-its_ms s traffic a b x e calm y d = moment_is (here s a) s.n d.server (record { status = d.runs; quiet = (runs_at s s.n s.member a (x ∷ b) e).up.quiet })
+its_ms s traffic a b x e calm y d = moment_is (here s a) s.n d.server (record { status = d.runs; quiet = (runs_at (the_calm s) s.n s.member a (x ∷ b) e).up.quiet })
     s.group s.clocks s.pace traffic x.at x.row (receipt_of (here s a) d.k d.ms) (ap (λ (r : Row). step_of (here s a) r) d.comes) calm.1
 
 module _ (s : Asker) (m : ℕ) (in_m : In (OfMember m) s.group) (apart : s.n ≢ m) (low : m < 128) (young : NoCallIsOld) where
@@ -58,7 +59,7 @@ module _ (s : Asker) (m : ℕ) (in_m : In (OfMember m) s.group) (apart : s.n ≢
   walk (y ∷ more) done x b traffic e calm so = subst (λ (l : List Timed). Known l b x) (append_assoc done (y ∷ []) more)
       (walk more (done ++ y ∷ []) x b (traffic_after traffic (here s done) y) (e ∙ sym (append_assoc done (y ∷ []) (more ++ x ∷ b)))
       (subst (λ (w : Cluster). AreCalm s.group s.clocks s.pace (traffic_after traffic (here s done) y) w (more ++ x ∷ b)) (sym (here_more (w0 s) done y)) calm.2)
-      (λ u up_then. let runs = runs_at s s.n s.member done (y ∷ (more ++ x ∷ b)) e in
+      (λ u up_then. let runs = runs_at (the_calm s) s.n s.member done (y ∷ (more ++ x ∷ b)) e in
       one_row s m in_m apart low young traffic done (more ++ x ∷ b) y e calm runs.server u runs.up.status
       (ap (λ (w : Cluster). (w.member s.n).status) (sym (here_more (w0 s) done y)) ∙ up_then) (so runs.server runs.up.status)))
 
@@ -71,7 +72,7 @@ module _ (s : Asker) (m : ℕ) (in_m : In (OfMember m) s.group) (apart : s.n ≢
         }
 
     known : (a b : List Timed) (x : Timed) → s.whole ≡ a ++ x ∷ b → Known a b x
-    known a b x e = walk a [] x b (no_traffic s.start) e (calm_at s [] (a ++ x ∷ b) e) at_first
+    known a b x e = walk a [] x b (no_traffic s.start) e (recut (the_calm s) (a ++ x ∷ b) e).calm at_first
 
     -- ---- a row in which the peer is asked
 
@@ -162,7 +163,7 @@ module _ (s : Asker) (m : ℕ) (in_m : In (OfMember m) s.group) (apart : s.n ≢
                 ))
 
             waits_then : WaitsForVote m w.offer.id (w.timed.at + s.clocks (OfMember s.n)) w.request u
-            waits_then = (laws_at s a (x ∷ b) e).waits_on s.n m w.offer.id (w.timed.at + s.clocks (OfMember s.n)) w.request x.row asks.server u (listed s) (harm_row s a b x e)
+            waits_then = (laws_at s a (x ∷ b) e).waits_on s.n m w.offer.id (w.timed.at + s.clocks (OfMember s.n)) w.request x.row asks.server u (listed s) (harm_row (the_calm s) a b x e)
                 asks.runs up_then w.waits young_then none_stands (λ f. cc (sym role ∙ f)) silent
 
             asked_anew : told.allocator.raft_server.memory.pending m ≡ None → told.allocator.times.answered m ≡ false → ⊥
@@ -219,7 +220,7 @@ asks_not_itself s a b x e asks = elim (is_candidate_or_not (step asks.server ((h
 
     up_then : ((here s (a ++ x ∷ [])).member s.n).status ≡ Up (step asks.server ((here s a).rows + 1) asks.event).step_state.allocator
     up_then = ap (λ (w : Cluster). (w.member s.n).status) (here_more (w0 s) a x)
-        ∙ (stepped_up (here s a) s.n asks.server (record { status = asks.runs; quiet = (runs_at s s.n s.member a (x ∷ b) e).up.quiet }) x.row asks.event asks.in_step).status
+        ∙ (stepped_up (here s a) s.n asks.server (record { status = asks.runs; quiet = (runs_at (the_calm s) s.n s.member a (x ∷ b) e).up.quiet }) x.row asks.event asks.in_step).status
 
     me : u.me ≡ s.n
     me = (laws_at s (a ++ x ∷ []) b (next_cut s a b x e)).me s.n u (listed s) up_then

@@ -1,13 +1,12 @@
 -- A member of a group in a calm: what is given, and what each row of the calm leaves of it where it is a candidate.
-use Rattle.std.proofs.Common.{◌≡◌, ℕ, ◌+◌, arith, List, [], ◌∷◌, ◌++◌, inl, inr, refl, sym, ◌∙◌, ap, subst}
-use Rattle.std.specs.Prelude.{⊤, ◌⊎◌}
+use Rattle.std.proofs.Common.{◌≡◌, ℕ, ◌+◌, arith, List, [], ◌∷◌, ◌++◌, inl, inr, sym, ◌∙◌, ap, subst}
+use Rattle.std.specs.Prelude.{◌⊎◌}
 use Rattle.std.proofs.lemmas.List.{append_assoc}
 use Rattle.raft_model.specs.Lists.{In}
 use Rattle.raft_model.specs.Server.{Role}
 use Rattle.raft_model.specs.Server.Role.{Candidate, Follower, Leader}
 use Rattle.replay_text.specs.declared.row.Row.{Row}
 use Rattle.alloc_spec.specs.AllocatorState.{AllocatorState}
-use Rattle.cluster_agreement.proofs.Concatenations.{first_harmless, row_harmless}
 use Rattle.cluster_discovery.specs.Members.{Event as Discovered, IsMemberList, IsStart, Start, members}
 use Rattle.cluster_recovery.specs.Calm.{Pace, Timed, end_of, rows_in}
 use Rattle.calm_election.specs.Votes.{Stands}
@@ -15,15 +14,15 @@ use Rattle.calm_election.proofs.RowsLeave.{row_leaves}
 use Rattle.calm_election.proofs.TermsSteps.{stands_or_stays}
 use Rattle.calm_election.proofs.WinsFronts.{here_more}
 use Rattle.calm_election.proofs.WinsScene.{RowLaws}
-use Rattle.calm_leader.proofs.Stretches.{GoesOnFrom, calm_rest, rows_both}
 use Rattle.calm_rounds.specs.Running.{IsCalmOf}
 use Rattle.calm_rounds.proofs.AsksRoles.{frame_role}
+use Rattle.calm_rounds.proofs.CalmFronts.{Calm, ShowsBy, calm_of, harm_front, harm_row, recut, runs_at}
 use Rattle.cluster_calm.specs.Calls.{Lists, ListsStay}
-use Rattle.cluster_calm.specs.Calm.{AreCalm, Member as OfMember, Party, no_traffic}
-use Rattle.cluster_calm.proofs.CallsKept.{IsKept, RunsWith, further}
+use Rattle.cluster_calm.specs.Calm.{Member as OfMember, Party, no_traffic}
+use Rattle.cluster_calm.proofs.CallsKept.{RunsWith}
 use Rattle.cluster_calm.proofs.Pair.{same_server}
 use Rattle.cluster_spec.specs.Cluster.{Cluster, after_row, after_rows, arrival_at, frame_at, world_of}
-use Rattle.cluster_spec.specs.Lawful.{DoNoHarm, DoesNoHarm}
+use Rattle.cluster_spec.specs.Lawful.{DoNoHarm}
 use Rattle.cluster_spec.specs.Members.MemberStatus.{Up}
 
 -- a calm, and one member of its group
@@ -42,21 +41,14 @@ pub record Asker : Type 0 where
   pub n : ℕ
   pub member : In (OfMember n) group
 
--- whatever comes
-abbrev Always : ℕ → Type 0
-Always moment = ⊤
-
-abbrev pub Anything : AllocatorState → Type 0
-Anything t = ⊤
-
-any_kept : IsKept Always Anything
-any_kept = record { stepped = λ t number event may is. tt; popped = λ t is. tt }
-
 no_candidate : (role : Role) → role ≡ Follower → role ≡ Candidate → ⊥
 no_candidate role e f = cc (sym e ∙ f)
 
 no_leader : (role : Role) → role ≡ Leader → role ≡ Candidate → ⊥
 no_leader role e f = cc (sym e ∙ f)
+
+abbrev pub the_calm : Asker → Calm
+the_calm s = calm_of s.ids s.rows s.group s.clocks s.pace s.start s.whole s.calm
 
 module _ (s : Asker) where
   abbrev pub w0 : Cluster
@@ -71,50 +63,21 @@ module _ (s : Asker) where
 
   -- ---- fronts
 
-  pub calm_at : (a b : List Timed) → s.whole ≡ a ++ b → AreCalm s.group s.clocks s.pace (no_traffic s.start) w0 (a ++ b)
-  calm_at a b e = subst (AreCalm s.group s.clocks s.pace (no_traffic s.start) w0) e s.calm.calm
-
-  harm_at : (a b : List Timed) → s.whole ≡ a ++ b → DoNoHarm w0 (rows_in a ++ rows_in b)
-  harm_at a b e = subst (DoNoHarm w0) (ap rows_in e ∙ rows_both a b) s.calm.harmless
-
-  pub harm_upto : (a b : List Timed) → s.whole ≡ a ++ b → DoNoHarm w0 (rows_in a)
-  harm_upto a b e = first_harmless w0 (rows_in a) (rows_in b) (harm_at a b e)
-
-  pub harm_row : (a b : List Timed) (x : Timed) → s.whole ≡ a ++ x ∷ b → DoesNoHarm (here a) x.row
-  harm_row a b x e = row_harmless w0 (rows_in a) (rows_in b) x.row (harm_at a (x ∷ b) e)
-
   pub laws_at : (a b : List Timed) → s.whole ≡ a ++ b → RowLaws s.ids (here a)
-  laws_at a b e = s.row_laws (rows_in a) (harm_upto a b e)
+  laws_at a b e = s.row_laws (rows_in a) (harm_front (the_calm s) a b e)
 
   pub next_cut : (a b : List Timed) (x : Timed) → s.whole ≡ a ++ x ∷ b → s.whole ≡ (a ++ x ∷ []) ++ b
   next_cut a b x e = e ∙ sym (append_assoc a (x ∷ []) b)
 
-  -- from a front on
-  pub from_at : (a b : List Timed) → s.whole ≡ a ++ b → GoesOnFrom s.group s.clocks s.pace (end_of s.start a) (here a) b
-  from_at a b e = calm_rest s.group s.clocks s.pace a b s.start w0
-      (record { traffic = no_traffic s.start; calm = calm_at a b e; at_end = refl; ticked = λ party. omega arith })
-
   -- a member of the group runs
-  pub runs_at : (p : ℕ) → In (OfMember p) s.group → (a b : List Timed) → s.whole ≡ a ++ b → RunsWith Anything ((here a).member p)
-  runs_at p i a b e = (further Always Anything any_kept s.group s.clocks s.pace p a b w0 (λ timed j. tt)
-      (record {
-        traffic = no_traffic s.start;
-        calm = calm_at a b e;
-        runs = record {
-          server = (s.calm.running p i).server;
-          up = record { status = (s.calm.running p i).runs; quiet = record { faults = (s.calm.running p i).faults; calls = (s.calm.running p i).disk } };
-          holds = tt;
-        };
-      })).runs
-
   pub runs_next : (p : ℕ) → In (OfMember p) s.group → (a b : List Timed) (x : Timed) → s.whole ≡ a ++ x ∷ b
-      → RunsWith Anything ((after_row (here a) x.row).member p)
-  runs_next p i a b x e = subst (λ (w : Cluster). RunsWith Anything (w.member p)) (here_more w0 a x)
-      (runs_at p i (a ++ x ∷ []) b (next_cut a b x e))
+      → RunsWith (ShowsBy (end_of s.start (a ++ x ∷ []) + s.clocks (OfMember p))) ((after_row (here a) x.row).member p)
+  runs_next p i a b x e = subst (λ (w : Cluster). RunsWith (ShowsBy (end_of s.start (a ++ x ∷ []) + s.clocks (OfMember p))) (w.member p)) (here_more w0 a x)
+      (runs_at (the_calm s) p i (a ++ x ∷ []) b (next_cut a b x e))
 
   -- who is listed stays listed
   pub lists_at : (m : ℕ) → Lists s.n m w0 → (a b : List Timed) → s.whole ≡ a ++ b → Lists s.n m (here a)
-  lists_at m lists a b e = s.stay s.group s.clocks s.pace (no_traffic s.start) s.n m a b w0 (s.calm.running s.n s.member) (calm_at a b e) lists
+  lists_at m lists a b e = s.stay s.group s.clocks s.pace (no_traffic s.start) s.n m a b w0 (s.calm.running s.n s.member) (recut (the_calm s) (a ++ b) e).calm lists
 
   pub lists_next : (m : ℕ) → Lists s.n m w0 → (a b : List Timed) (x : Timed) → s.whole ≡ a ++ x ∷ b → Lists s.n m (after_row (here a) x.row)
   lists_next m lists a b x e = subst (Lists s.n m) (here_more w0 a x) (lists_at m lists (a ++ x ∷ []) b (next_cut a b x e))
@@ -128,7 +91,7 @@ module _ (s : Asker) where
   -- who is a candidate behind a row has stood in it, or was one in the same term before it
   pub was_one : (a b : List Timed) (x : Timed) → s.whole ≡ a ++ x ∷ b → (t u : AllocatorState) → ((here a).member s.n).status ≡ Up t
       → ((after_row (here a) x.row).member s.n).status ≡ Up u → (term : ℕ) → IsOne term u → Stands s.n term (here a) x.row ⊎ IsOne term t
-  was_one a b x e t u up up_then term is = elim (row_leaves (here a) s.n t u up x.row (harm_row a b x e) up_then) [
+  was_one a b x e t u up up_then term is = elim (row_leaves (here a) s.n t u up x.row (harm_row (the_calm s) a b x e) up_then) [
     | inl ticked ↦
         let its = (laws_at a (x ∷ b) e).starts s.n t listed up in
         elim (stands_or_stays s.listing ((here a).rows + 1) t ticked.ms ticked.word its.0 (let size = its.1 in let two = s.calm.others in omega (arith, size, two))) [

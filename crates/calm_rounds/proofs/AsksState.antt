@@ -29,9 +29,10 @@ use Rattle.calm_leader.proofs.EntriesParts.{listed_behind, reads_step}
 use Rattle.calm_leader.proofs.RowsOfOne.{moment_is}
 use Rattle.calm_leader.proofs.Stretches.{world_both}
 use Rattle.calm_rounds.proofs.AsksKept.{CalledBy}
-use Rattle.calm_rounds.proofs.AsksScene.{Asker, harm_row, here, laws_at, lists_next, listed, next_cut, one_is, runs_at, w0, was_one}
+use Rattle.calm_rounds.proofs.AsksScene.{Asker, here, laws_at, listed, lists_next, next_cut, one_is, the_calm, w0, was_one}
 use Rattle.calm_rounds.proofs.AsksTurns.{HasAsked, IsKept, settled, term_same}
 use Rattle.calm_rounds.proofs.AsksWaits.{IsAnswered, Waits, heard, steps_to}
+use Rattle.calm_rounds.proofs.CalmFronts.{harm_row, runs_at}
 use Rattle.cluster_calm.specs.Calm.{AreCalm, Member as OfMember, Traffic, reads, traffic_after}
 use Rattle.cluster_calm.specs.Comes.{Delivers}
 use Rattle.cluster_calm.proofs.Counting.{now_after}
@@ -160,7 +161,7 @@ module _ (s : Asker) (m : ℕ) (in_m : In (OfMember m) s.group) (apart : s.n ≢
 
     module _ (event : Event) (in_its_step : step_of (here s a) x.row ≡ Some (s.n, event)) where
       is_up : IsUp t ((here s a).member s.n)
-      is_up = record { status = up; quiet = (runs_at s s.n s.member a (x ∷ b) e).up.quiet }
+      is_up = record { status = up; quiet = (runs_at (the_calm s) s.n s.member a (x ∷ b) e).up.quiet }
 
       abbrev after : AllocatorState
       after = (step t number event).step_state.allocator
@@ -224,7 +225,7 @@ module _ (s : Asker) (m : ℕ) (in_m : In (OfMember m) s.group) (apart : s.n ≢
       stands : (term : ℕ) → Stands s.n term (here s a) x.row → Waits s m in_m apart (a ++ x ∷ []) u
       stands term st =
           let then_u : st.after ≡ u = one_is s (after_row (here s a) x.row) st.after u st.runs_then up_then in
-          let asks : AsksFor s.n m term (here s a) x.row st = ((laws_at s a (x ∷ b) e).asked s.n term x.row (listed s) (harm_row s a b x e) st).asks m
+          let asks : AsksFor s.n m term (here s a) x.row st = ((laws_at s a (x ∷ b) e).asked s.n term x.row (listed s) (harm_row (the_calm s) a b x e) st).asks m
           (subst (λ (q : AllocatorState). In m (members_of q)) (sym then_u) its_list) (λ same. apart (sym same)) in
           let before_is : st.before ≡ t = one_is s (here s a) st.before t st.runs up in
           let event_is : tick_of st.ms st.word ≡ event = same_event s.n s.n (tick_of st.ms st.word) event (sym (ap (λ (r : Row). step_of (here s a) r) st.reads) ∙ in_its_step) in
@@ -306,7 +307,7 @@ module _ (s : Asker) (m : ℕ) (in_m : In (OfMember m) s.group) (apart : s.n ≢
     pub one_row : Next
     one_row = elim (steps_or_not (here s a) x.row s.n) [
       | inl z ↦ stepped z.0 z.1
-      | inr none ↦ elim (row_leaves (here s a) s.n t u up x.row (harm_row s a b x e) up_then) [
+      | inr none ↦ elim (row_leaves (here s a) s.n t u up x.row (harm_row (the_calm s) a b x e) up_then) [
         | inl ticked ↦ absurd (none (tick_of ticked.ms ticked.word) (ap (λ (r : Row). step_of (here s a) r) ticked.reads))
         | inr (inl received) ↦ absurd (none (receipt_of (here s a) received.k received.ms) (ap (λ (r : Row). step_of (here s a) r) received.comes))
         | inr (inr (inl same)) ↦ rests (ap (λ (q : AllocatorState). q.raft_server) same) (ap (λ (q : AllocatorState). q.times) same)

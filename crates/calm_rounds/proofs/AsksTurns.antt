@@ -23,9 +23,9 @@ use Rattle.alloc_spec_laws.specs.Phases.{when_told}
 use Rattle.alloc_spec_laws.proofs.Choices.{either}
 use Rattle.alloc_spec_laws.proofs.DistinctTransfers.{rank}
 use Rattle.alloc_spec_laws.proofs.Lists.{in_append, in_back, in_front}
-use Rattle.calm_leader.proofs.CallsPast.{told_only}
 use Rattle.calm_rounds.proofs.AsksKept.{settled_then}
 use Rattle.cluster_calm.proofs.CallsOffered.{called, same_after}
+use Rattle.cluster_calm.proofs.PeerMoves.{told_only}
 
 -- a request to the peer for its vote is among these offers
 abbrev pub HasAskedIn : ℕ → List Offer → Type 0

@@ -24,8 +24,9 @@ use Rattle.calm_leader.specs.CallsComeBack.{HasPlace}
 use Rattle.calm_leader.proofs.RowsOfOne.{stepped_up}
 use Rattle.calm_leader.proofs.Stretches.{end_both, end_last, in_between, not_before, throughout_at, world_both}
 use Rattle.calm_rounds.proofs.AsksAnswered.{answered_told, pending_told}
-use Rattle.calm_rounds.proofs.AsksScene.{Asker, calm_at, from_at, harm_row, here, laws_at, listed, one_is, runs_at, w0}
+use Rattle.calm_rounds.proofs.AsksScene.{Asker, here, laws_at, listed, one_is, the_calm, w0}
 use Rattle.calm_rounds.proofs.AsksTurns.{answered_same}
+use Rattle.calm_rounds.proofs.CalmFronts.{goes_at, harm_row, recut, runs_at}
 use Rattle.cluster_calm.specs.Calm.{Member as OfMember}
 use Rattle.cluster_calm.specs.Comes.{ComesBy, Delivers, Sends, Throughout, sent_by}
 use Rattle.cluster_calm.proofs.Pair.{same_server}
@@ -84,13 +85,13 @@ module _ (s : Asker) (m : ℕ) (in_m : In (OfMember m) s.group) (apart : s.n ≢
     not_early : (one : Timed) → In one b → x.at ≤ one.at
     not_early one i =
         let k = in_between s.group s.clocks s.pace b (end_of s.start (a ++ x ∷ [])) (here s (a ++ x ∷ []))
-        (from_at s (a ++ x ∷ []) b (e ∙ sym (append_assoc a (x ∷ []) b))) one i in
+        (goes_at (the_calm s) (a ++ x ∷ []) b (e ∙ sym (append_assoc a (x ∷ []) b))) one i in
         let l = end_last s.start a x in let low = k.0 in omega (arith, low, l)
 
     ends_late : x.at ≤ end_of w.timed.at (w.more ++ x ∷ b)
     ends_late =
         let k = not_before s.group s.clocks s.pace b (end_of s.start (a ++ x ∷ [])) (here s (a ++ x ∷ []))
-        (from_at s (a ++ x ∷ []) b (e ∙ sym (append_assoc a (x ∷ []) b))) in
+        (goes_at (the_calm s) (a ++ x ∷ []) b (e ∙ sym (append_assoc a (x ∷ []) b))) in
         let l = end_last s.start a x in
         let same = ap (λ (n : ℕ). end_of n b) l in
         let j = end_both w.timed.at w.more (x ∷ b) in omega (arith, k, l, same, j)
@@ -99,7 +100,7 @@ module _ (s : Asker) (m : ℕ) (in_m : In (OfMember m) s.group) (apart : s.n ≢
       back_is : VotesComeBack s.ids s.rows → (read : VoteReadsAsSaid (sent_by s.n (here s w.front) w.offer))
           × VoteComesBack s.n m (sent_by s.n (here s w.front) w.offer) read.request w.timed.at s.pace.delay (here s w.front) (w.timed ∷ (w.more ++ x ∷ b))
       back_is back = back s.group s.clocks s.pace s.start s.n m w.front (w.more ++ x ∷ b) w.timed w.offer s.calm.listed s.calm.running s.member in_m apart
-          (let quick = s.calm.quick in omega (arith, quick)) (subst (CanAsk s.n m (w0 s)) cut can) (calm_at s w.front (w.timed ∷ (w.more ++ x ∷ b)) cut)
+          (let quick = s.calm.quick in omega (arith, quick)) (subst (CanAsk s.n m (w0 s)) cut can) (recut (the_calm s) (w.front ++ w.timed ∷ (w.more ++ x ∷ b)) cut).calm
           (subst (λ (l : List Timed). DoNoHarm (w0 s) (rows_in l)) cut s.calm.harmless) w.sends w.what w.to (let k = ends_late in omega (arith, k, late))
 
       -- the answer is among those rows, and it is none of the rows behind the request and before x
@@ -128,8 +129,8 @@ module _ (s : Asker) (m : ℕ) (in_m : In (OfMember m) s.group) (apart : s.n ≢
 
         reads : VoteAnswersAsSaid y
         reads = subst (λ (v : Cluster). Sends m v cb.timed.row cb.answers.offer → VoteAnswersAsSaid (sent_by m v cb.answers.offer)) upto_is
-            (λ sends. (laws_at s upto (cb.timed ∷ cb.rest) whole_is).answers_read m cb.timed.row cb.answers.offer (harm_row s upto cb.rest cb.timed whole_is)
-            (let r = runs_at s m in_m upto (cb.timed ∷ cb.rest) whole_is in
+            (λ sends. (laws_at s upto (cb.timed ∷ cb.rest) whole_is).answers_read m cb.timed.row cb.answers.offer (harm_row (the_calm s) upto cb.rest cb.timed whole_is)
+            (let r = runs_at (the_calm s) m in_m upto (cb.timed ∷ cb.rest) whole_is in
             record { server = r.server; runs = r.up.status; faults = r.up.quiet.faults; disk = r.up.quiet.calls }) sends cb.answers.what) sent
 
         abbrev its : ComesBy s.n y (w.timed.at + 4 * s.pace.delay) (after_row asked_at cb.timed.row) cb.rest
@@ -194,7 +195,7 @@ module _ (s : Asker) (m : ℕ) (in_m : In (OfMember m) s.group) (apart : s.n ≢
     number = (here s a).rows + 1
 
     is_up : IsUp t ((here s a).member s.n)
-    is_up = record { status = up; quiet = (runs_at s s.n s.member a (x ∷ b) e).up.quiet }
+    is_up = record { status = up; quiet = (runs_at (the_calm s) s.n s.member a (x ∷ b) e).up.quiet }
 
     -- a row that is a step of the member leaves what the step does
     pub steps_to : (event : Event) → step_of (here s a) x.row ≡ Some (s.n, event) → u ≡ (step t number event).step_state.allocator

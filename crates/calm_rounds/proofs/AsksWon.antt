@@ -23,7 +23,8 @@ use Rattle.calm_election.proofs.WinsFronts.{here_more}
 use Rattle.calm_leader.proofs.Stretches.{end_last, in_between}
 use Rattle.calm_rounds.specs.Sent.{HasAsked}
 use Rattle.calm_rounds.proofs.AsksRoles.{BringsVote, frame_role}
-use Rattle.calm_rounds.proofs.AsksScene.{Asker, IsOne, from_at, harm_row, here, laws_at, lists_next, listed, one_is, runs_at, runs_next, w0, was_one}
+use Rattle.calm_rounds.proofs.AsksScene.{Asker, IsOne, here, laws_at, listed, lists_next, one_is, runs_next, the_calm, w0, was_one}
+use Rattle.calm_rounds.proofs.CalmFronts.{goes_at, harm_row, runs_at}
 use Rattle.cluster_calm.specs.Calm.{Member as OfMember}
 use Rattle.cluster_calm.specs.Comes.{delivery_of}
 use Rattle.cluster_spec.specs.Cluster.{Cluster, after_row, arrival_at, frame_at, step_of, tick_of}
@@ -66,7 +67,7 @@ module _ (s : Asker) where
     where
       by : IsOneAt term (done ++ x ∷ []) → HasStoodIn term done (x ∷ more) ⊎ IsOneAt term done
       by one =
-          let before = runs_at s s.n s.member done (x ∷ (more ++ b)) e in
+          let before = runs_at (the_calm s) s.n s.member done (x ∷ (more ++ b)) e in
           let behind = runs_next s s.n s.member done (more ++ b) x e in
           elim (was_one s done (more ++ b) x e before.server behind.server before.up.status behind.up.status term
           (one behind.server (ap (λ (w : Cluster). (w.member s.n).status) (here_more (w0 s) done x) ∙ behind.up.status))) [
@@ -93,7 +94,7 @@ module _ (s : Asker) where
       pub was : IsOne s u.raft_server.store.term t
 
     pub is_won : IsWon
-    is_won = elim (row_leaves (here s a) s.n t u up x.row (harm_row s a b x e) up_then) [
+    is_won = elim (row_leaves (here s a) s.n t u up x.row (harm_row (the_calm s) a b x e) up_then) [
       | inl ticked ↦
           let its = (laws_at s a (x ∷ b) e).starts s.n t (listed s) up in
           absurd (elim (stands_or_stays s.listing ((here s a).rows + 1) t ticked.ms ticked.word its.0 (let size = its.1 in let two = s.calm.others in omega (arith, size, two))) [
@@ -195,13 +196,13 @@ module _ (s : Asker) where
 
           asks_it : AsksFor s.n m u.raft_server.store.term (here s upto) h.timed.row h.stands
           asks_it = ((laws_at s upto (h.timed ∷ (h.rest ++ x ∷ b)) whole_split).asked s.n u.raft_server.store.term h.timed.row (listed s)
-              (harm_row s upto (h.rest ++ x ∷ b) h.timed whole_split) h.stands).asks m
+              (harm_row (the_calm s) upto (h.rest ++ x ∷ b) h.timed whole_split) h.stands).asks m
               (lists_next s m (s.calm.ask s.n m s.member in_m (λ f. other (sym f))).asks_it upto (h.rest ++ x ∷ b) h.timed whole_split h.stands.after h.stands.runs_then) other
 
           later : q.timed.at ≤ h.timed.at
           later =
               let k = in_between s.group s.clocks s.pace (q.more ++ x ∷ b) (end_of s.start (q.first ++ q.timed ∷ [])) (here s (q.first ++ q.timed ∷ []))
-              (from_at s (q.first ++ q.timed ∷ []) (q.more ++ x ∷ b) cut) h.timed
+              (goes_at (the_calm s) (q.first ++ q.timed ∷ []) (q.more ++ x ∷ b) cut) h.timed
               (in_front h.timed q.more (x ∷ b) (subst (λ (l : List Timed). In h.timed l) (sym h.split) (in_back h.timed h.first (h.timed ∷ h.rest) (inl refl)))) in
               let l = end_last s.start q.first q.timed in let low = k.0 in omega (arith, low, l)
 

@@ -15,7 +15,8 @@ use Rattle.cluster_calm.proofs.Pair.{same_server}
 use Rattle.calm_leader.specs.LeadsOn.{LeadsIn}
 use Rattle.calm_leader.proofs.CallsPast.{calls_past_in, until_later}
 use Rattle.calm_leader.proofs.Stretches.{GoesOnFrom, calm_first, calm_rest, end_both, throughout_so, world_both}
-use Rattle.calm_rounds.proofs.NobodyScene.{Course, IsKnown, goes_at, here, is_calm, known_at, runs_at, w}
+use Rattle.calm_rounds.proofs.CalmFronts.{goes_at, is_running, recut}
+use Rattle.calm_rounds.proofs.NobodyScene.{Course, IsKnown, here, known_at, the_calm, w}
 use Rattle.calm_rounds.proofs.NobodyStands.{FirstBehind, first_behind}
 use Rattle.cluster_spec.specs.Cluster.{Cluster, after_row, after_rows, cluster}
 use Rattle.cluster_spec.specs.Members.MemberStatus.{Up}
@@ -25,7 +26,7 @@ use Rattle.cluster_spec.specs.Members.MemberStatus.{Up}
 module _ (s : Course) (n : ℕ) (in_n : In (OfMember n) s.group) (front early rest : List Timed) (timed : Timed) (cut : s.whole ≡ front ++ timed ∷ (early ++ rest))
     (late : timed.at + 4 * s.pace.delay < end_of timed.at early) where
   goes_behind : GoesOnFrom s.group s.clocks s.pace timed.at (after_row (here s front) timed.row) (early ++ rest)
-  goes_behind = calm_rest s.group s.clocks s.pace (timed ∷ []) (early ++ rest) (end_of s.start front) (here s front) (goes_at s front (timed ∷ (early ++ rest)) cut)
+  goes_behind = calm_rest s.group s.clocks s.pace (timed ∷ []) (early ++ rest) (end_of s.start front) (here s front) (goes_at (the_calm s) front (timed ∷ (early ++ rest)) cut)
 
   pub next_row : FirstBehind s.pace (timed.at + 4 * s.pace.delay) timed.at early
   next_row = first_behind s.group s.clocks s.pace n in_n (timed.at + 4 * s.pace.delay) early rest timed.at (after_row (here s front) timed.row) goes_behind
@@ -48,7 +49,7 @@ module _ (s : Course) (in_time : LeadersCallInTime) (stay : ListsStay) (n m term
   moment = end_of s.start first
 
   goes_few : GoesOnFrom s.group s.clocks s.pace moment there few
-  goes_few = calm_first s.group s.clocks s.pace few rest moment there (goes_at s first (few ++ rest) cut)
+  goes_few = calm_first s.group s.clocks s.pace few rest moment there (goes_at (the_calm s) first (few ++ rest) cut)
 
   abbrev run : RunsWith (IsKnown n (moment + s.clocks (OfMember n))) (there.member n)
   run = known_at s n in_n first (few ++ rest) cut
@@ -65,11 +66,11 @@ module _ (s : Course) (in_time : LeadersCallInTime) (stay : ListsStay) (n m term
       record { pending = late.0; appended = late.1 }
 
   whole_calm : AreCalm s.group s.clocks s.pace (no_traffic s.start) (w s) (first ++ (few ++ rest))
-  whole_calm = (is_calm s (first ++ (few ++ rest)) cut).calm
+  whole_calm = (recut (the_calm s) (first ++ (few ++ rest)) cut).calm
 
   pub call_in_time : OffersCallBy n m (moment + call_timeout + s.pace.period) there few
   call_in_time = in_time s.group s.clocks s.pace goes_few.traffic n m (moment + s.clocks (OfMember n)) (moment + call_timeout) few there
-      (runs_at s n in_n first (few ++ rest) cut) in_n
+      (is_running n there run) in_n
       (stay s.group s.clocks s.pace (no_traffic s.start) n m first (few ++ rest) (w s) (s.calm.running n in_n) whole_calm
       (s.calm.exchange n m in_n in_m differs).calls_it run.server run.up.status)
       (λ e. differs (sym (e ∙ run.holds.me))) until goes_few.calm

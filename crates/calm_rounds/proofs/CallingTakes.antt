@@ -14,8 +14,9 @@ use Rattle.calm_leader.specs.NoElection.{heard_within}
 use Rattle.calm_leader.proofs.Stretches.{fits_at, throughout_by, world_both}
 use Rattle.calm_rounds.specs.Running.{IsCalmOf}
 use Rattle.calm_rounds.proofs.CallingInTime.{call_in_time, cut_call, end_call, world_call}
+use Rattle.calm_rounds.proofs.CalmFronts.{recut}
 use Rattle.calm_rounds.proofs.LearnsGrounds.{Grounds}
-use Rattle.calm_rounds.proofs.NobodyScene.{Course, here, is_calm, w}
+use Rattle.calm_rounds.proofs.NobodyScene.{Course, here, the_calm, w}
 use Rattle.cluster_calm.specs.Calm.{Member as OfMember}
 use Rattle.cluster_calm.specs.CallsInTime.{LeadersCallInTime, OffersCall, OffersCallBy}
 use Rattle.cluster_calm.specs.Comes.{Sends, Throughout}
@@ -63,7 +64,7 @@ module _ (s : Course) (g : Grounds s.ids s.rows) (laws : EntryLaws s.ids s.rows)
   cut_here = cut_call s in_time laws.stay n m term first few rest cut in_n in_m apart leads_throughout leads_first long_enough
 
   calm_here : IsCalmOf s.ids s.rows s.group s.clocks s.pace s.start (front ++ x ∷ (early ++ rest))
-  calm_here = is_calm s (front ++ x ∷ (early ++ rest)) cut_here
+  calm_here = recut (the_calm s) (front ++ x ∷ (early ++ rest)) cut_here
 
   offers : OffersCall n m (here s front) x.row
   offers = subst (λ (v : Cluster). OffersCall n m v x.row)

@@ -19,8 +19,9 @@ use Rattle.calm_election.proofs.WinsFronts.{Longest, longest}
 use Rattle.calm_election.proofs.WinsTerms.{front_of_more}
 use Rattle.calm_rounds.specs.Rounds.{WhoStandsAtTheTop, step_within}
 use Rattle.calm_rounds.specs.Running.{IsLedBy, quiet_within}
+use Rattle.calm_rounds.proofs.CalmFronts.{end_before}
 use Rattle.calm_rounds.proofs.InStepApart.{apart}
-use Rattle.calm_rounds.proofs.InStepFronts.{next_cut, not_sooner, row_before, runs_at, term_rises, there, there_both, there_more}
+use Rattle.calm_rounds.proofs.InStepFronts.{next_cut, row_before, runs_at, term_rises, the_calm, there, there_both, there_more}
 use Rattle.calm_rounds.proofs.InStepGiven.{Given, Ground}
 use Rattle.calm_rounds.proofs.InStepHeard.{is_heard}
 use Rattle.calm_rounds.proofs.InStepLists.{Place, behind_is, none_is, one_more, place_of}
@@ -152,7 +153,7 @@ module _ (g : Ground) (front rest : List Timed) (timed : Timed) (cut : g.whole �
         by : Place front l.front x y timed z → z.at ≤ timed.at
         by (Place.Before tail a) =
             let h = row_before g x tail (timed ∷ rest) z (cut ∙ ap (λ (r : List Timed). r ++ timed ∷ rest) a) in
-            let k = not_sooner g front rest timed cut in
+            let k = end_before (the_calm g) front rest timed cut in
             let d = ap (end_of g.start) a in omega (arith, h, k, d)
         by (Place.Same a b) = let d = ap (λ (q : Timed). q.at) b in omega (arith, d)
         by (Place.Behind tail a b) =
@@ -176,7 +177,7 @@ module _ (g : Ground) (front rest : List Timed) (timed : Timed) (cut : g.whole �
         by (v ∷ x) f is =
             let a = l.late v (x ++ z ∷ y) is in
             let b = row_before g ((front ++ timed ∷ []) ++ l.front) x (z ∷ y) v f in
-            let d = not_sooner g (((front ++ timed ∷ []) ++ l.front) ++ v ∷ x) y z f in
+            let d = end_before (the_calm g) (((front ++ timed ∷ []) ++ l.front) ++ v ∷ x) y z f in
             omega (arith, a, b, d)
 
     module _ (next : Timed) (more : List Timed) (is_rest : l.rest ≡ next ∷ more) (scene : Scene g base term begun) where

@@ -11,7 +11,8 @@ use Rattle.cluster_calm.proofs.CallsKept.{RunsWith}
 use Rattle.cluster_calm.proofs.Pair.{same_server}
 use Rattle.calm_election.specs.Votes.{IsAsStanding, Stands}
 use Rattle.calm_election.proofs.OneStands.{IsOfSize, OneStands}
-use Rattle.calm_rounds.proofs.InStepFronts.{clock_at, decided, facts, not_sooner, now_rises, reading, row_harm, runs_at, there, there_more}
+use Rattle.calm_rounds.proofs.CalmFronts.{clock_at, end_before, harm_row}
+use Rattle.calm_rounds.proofs.InStepFronts.{decided, facts, now_rises, reading, runs_at, the_calm, there, there_more}
 use Rattle.calm_rounds.proofs.InStepGiven.{Ground}
 use Rattle.calm_rounds.proofs.InStepLists.{one_more}
 use Rattle.cluster_spec.specs.Cluster.{Cluster, after_row}
@@ -40,7 +41,7 @@ module _ (g : Ground) where
 
     is_standing : IsAsStanding n term (there g first) one.row s
     is_standing = (facts g first (one ∷ (middle ++ other ∷ rest)) cut).asked n term one.row (g.calm.listed n i)
-        (row_harm g first (middle ++ other ∷ rest) one cut) s
+        (harm_row (the_calm g) first (middle ++ other ∷ rest) one cut) s
 
     up_then : ((there g (first ++ one ∷ [])).member n).status ≡ Up s.after
     up_then = ap (λ (u : Cluster). (u.member n).status) (there_more g first one) ∙ s.runs_then
@@ -98,14 +99,14 @@ module _ (g : Ground) where
         anew_so : ((its : ℕ) → Stands n its (there g ((first ++ one ∷ []) ++ done)) x.row → ⊥) → u.times.since ≢ t.server.times.since → low ≤ u.times.since
         anew_so stands_not differs =
             let e = ((facts g ((first ++ one ∷ []) ++ done) (x ∷ (more ++ other ∷ rest)) cut_here).begin n x.row (g.calm.listed n i)
-            (row_harm g ((first ++ one ∷ []) ++ done) (more ++ other ∷ rest) x cut_here)).0
+            (harm_row (the_calm g) ((first ++ one ∷ []) ++ done) (more ++ other ∷ rest) x cut_here)).0
             (record { before = t.server; runs = t.up.status; after = u; runs_then = up_after; anew = differs; stands_not = stands_not }) in
             let l = later in omega (arith, e, l)
 
         stood_so : (stood : OneStands g.group (there g ((first ++ one ∷ []) ++ done)) x.row) → stood.n ≡ n → low ≤ u.times.since
         stood_so stood same =
             let is = (facts g ((first ++ one ∷ []) ++ done) (x ∷ (more ++ other ∷ rest)) cut_here).asked stood.n stood.term x.row (g.calm.listed stood.n stood.member)
-            (row_harm g ((first ++ one ∷ []) ++ done) (more ++ other ∷ rest) x cut_here) stood.stands in
+            (harm_row (the_calm g) ((first ++ one ∷ []) ++ done) (more ++ other ∷ rest) x cut_here) stood.stands in
             let own = same_server u stood.stands.after
             (sym up_after ∙ (ap (λ (k : ℕ). ((after_row (there g ((first ++ one ∷ []) ++ done)) x.row).member k).status) (sym same) ∙ stood.stands.runs_then)) in
             let a = ap (λ (v : AllocatorState). v.times.since) own in
@@ -124,7 +125,7 @@ module _ (g : Ground) where
         let waits = in_words in
         let h = waits o.before o.runs in
         let long = ((facts g ((first ++ one ∷ []) ++ middle) (other ∷ rest) cut_all).begin n other.row (g.calm.listed n i)
-        (row_harm g ((first ++ one ∷ []) ++ middle) rest other cut_all)).1 later o in
+        (harm_row (the_calm g) ((first ++ one ∷ []) ++ middle) rest other cut_all)).1 later o in
         let reads = reading g ((first ++ one ∷ []) ++ middle) rest other cut_all n later o in
         let clock = clock_so o.before o.runs in
         let soon = g.calm.soon in
@@ -135,8 +136,8 @@ module _ (g : Ground) where
 
         clock_so : (t : AllocatorState) → ((there g ((first ++ one ∷ []) ++ middle)).member n).status ≡ Up t → t.now ≤ other.at + g.clocks (OfMember n)
         clock_so t up =
-            let a = clock_at g ((first ++ one ∷ []) ++ middle) (other ∷ rest) cut_all n i t up in
-            let b = not_sooner g ((first ++ one ∷ []) ++ middle) rest other cut_all in
+            let a = clock_at (the_calm g) n i ((first ++ one ∷ []) ++ middle) (other ∷ rest) cut_all t up in
+            let b = end_before (the_calm g) ((first ++ one ∷ []) ++ middle) rest other cut_all in
             omega (arith, a, b)
 
   -- ---- any two

@@ -17,7 +17,8 @@ use Rattle.calm_election.specs.Votes.{AsksFor, CanAsk, Stands, VoteComesBack, Vo
 use Rattle.calm_election.specs.Wins.{VoteRequestsFit}
 use Rattle.calm_election.proofs.OneStands.{fit_at, same_request}
 use Rattle.calm_election.proofs.WinsFronts.{part_of}
-use Rattle.calm_rounds.proofs.InStepFronts.{calm_at, facts, next_cut, not_sooner, row_before, row_harm, runs_at, term_rises, there, there_both, there_more, w0}
+use Rattle.calm_rounds.proofs.CalmFronts.{end_before, harm_row}
+use Rattle.calm_rounds.proofs.InStepFronts.{calm_at, facts, next_cut, row_before, runs_at, term_rises, the_calm, there, there_both, there_more, w0}
 use Rattle.calm_rounds.proofs.InStepGiven.{Ground}
 use Rattle.calm_rounds.proofs.InStepLists.{first_or, one_more}
 use Rattle.cluster_spec.specs.Cluster.{Cluster, after_row, after_rows, receipt_of, step_of, tick_of}
@@ -45,7 +46,7 @@ module _ (g : Ground) (front early late : List Timed) (timed next : Timed) (cut 
         (ap (λ (u : Cluster). (u.member c).status) (there_more g front timed) ∙ s.runs_then)
 
     abbrev asked : AsksFor c m term (there g front) timed.row s
-    asked = ((facts g front (timed ∷ (early ++ next ∷ late)) cut).asked c term timed.row (g.calm.listed c i) (row_harm g front (early ++ next ∷ late) timed cut) s).asks
+    asked = ((facts g front (timed ∷ (early ++ next ∷ late)) cut).asked c term timed.row (g.calm.listed c i) (harm_row (the_calm g) front (early ++ next ∷ late) timed cut) s).asks
         m listed_then (λ e. differs (sym e))
 
     in_step : step_of (there g front) timed.row ≡ Some (c, tick_of s.ms s.word)
@@ -105,7 +106,7 @@ module _ (g : Ground) (front early late : List Timed) (timed next : Timed) (cut 
             let cut_y : g.whole ≡ ((front ++ timed ∷ early) ++ y ∷ tail) ++ comes.timed ∷ comes.rest
             = cut_next ∙ (ap (λ (l : List Timed). (front ++ timed ∷ early) ++ l) e ∙ sym (append_assoc (front ++ timed ∷ early) (y ∷ tail) (comes.timed ∷ comes.rest))) in
             let h = row_before g (front ++ timed ∷ early) tail (comes.timed ∷ comes.rest) y cut_y in
-            let k = not_sooner g ((front ++ timed ∷ early) ++ y ∷ tail) comes.rest comes.timed cut_y in
+            let k = end_before (the_calm g) ((front ++ timed ∷ early) ++ y ∷ tail) comes.rest comes.timed cut_y in
             let soon = comes.soon in
             omega (arith, h, k, same, soon, gap)
 

@@ -15,7 +15,8 @@ use Rattle.calm_election.specs.Votes.{HearsAppend}
 use Rattle.calm_election.proofs.LogsChange.{log_or_hears}
 use Rattle.calm_election.proofs.WaitsRows.{Takes, takes}
 use Rattle.calm_rounds.specs.Sent.{HasCalled}
-use Rattle.calm_rounds.proofs.InStepFronts.{calm_at, next_cut, row_before, row_harm, runs_at, term_rises, there, there_more, w0}
+use Rattle.calm_rounds.proofs.CalmFronts.{harm_row}
+use Rattle.calm_rounds.proofs.InStepFronts.{calm_at, next_cut, row_before, runs_at, term_rises, the_calm, there, there_more, w0}
 use Rattle.calm_rounds.proofs.InStepGiven.{Ground}
 use Rattle.calm_rounds.proofs.InStepLists.{one_more}
 use Rattle.calm_rounds.proofs.InStepScene.{IsLedFrom, Scene, leads_not}
@@ -54,7 +55,7 @@ module _ (g : Ground) (base : List Timed) (top last : ℕ) (long : last + 8 * g.
     log_kept : (m : ℕ) → In (OfMember m) g.group → (t u : AllocatorState) → ((there g front).member m).status ≡ Up t
         → ((after_row (there g front) timed.row).member m).status ≡ Up u → u.raft_server.memory.role ≢ Leader
         → u.raft_server.store.log ≡ t.raft_server.store.log
-    log_kept m i t u up up_then leads_so = by (takes (there g front) m t u up timed.row (row_harm g front rest timed cut) up_then)
+    log_kept m i t u up up_then leads_so = by (takes (there g front) m t u up timed.row (harm_row (the_calm g) front rest timed cut) up_then)
       where
         by : Takes (there g front) timed.row m t u → u.raft_server.store.log ≡ t.raft_server.store.log
         by (Takes.Rests times server queue) = ap (λ (s : RaftServer). s.store.log) server

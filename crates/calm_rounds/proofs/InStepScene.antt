@@ -13,8 +13,9 @@ use Rattle.calm_election.specs.Votes.{Stands}
 use Rattle.calm_election.proofs.OneStands.{one_stands}
 use Rattle.calm_election.proofs.WinsFronts.{nobody_above, nobody_else}
 use Rattle.calm_rounds.specs.Running.{IsCalmOf, quiet_within}
+use Rattle.calm_rounds.proofs.CalmFronts.{harm_front}
 use Rattle.calm_rounds.proofs.InStepApart.{apart, one_stander}
-use Rattle.calm_rounds.proofs.InStepFronts.{calm_at, harmless, term_rises, there, there_both, there_more, w0}
+use Rattle.calm_rounds.proofs.InStepFronts.{calm_at, term_rises, the_calm, there, there_both, there_more, w0}
 use Rattle.calm_rounds.proofs.InStepGiven.{Ground}
 use Rattle.calm_rounds.proofs.InStepHeard.{is_heard}
 use Rattle.calm_rounds.proofs.InStepLists.{Place, first_or, one_more, place_of}
@@ -120,7 +121,7 @@ module _ (g : Ground) where
       calm_so = calm_at g s.first (s.one ∷ (s.early ++ rest)) cut_all
 
       harm_so : DoNoHarm (w0 g) (rows_in front)
-      harm_so = harmless g front rest cut
+      harm_so = harm_front (the_calm g) front rest cut
 
       -- all are within its term
       pub within_term : AreWithin g.group s.term (there g front)

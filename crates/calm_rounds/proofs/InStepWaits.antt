@@ -19,7 +19,8 @@ use Rattle.calm_election.specs.Votes.{HearsAppend, Stands}
 use Rattle.calm_election.specs.Waits.{GivesVote, HasTermLeft, StandsBy, WaitsAnew}
 use Rattle.calm_election.proofs.OneStands.{IsOfSize}
 use Rattle.calm_election.proofs.Unled.{HasStood, has_stood}
-use Rattle.calm_rounds.proofs.InStepFronts.{facts, goes_from, clock_at, harmless, knows_at, not_sooner, row_before, row_harm, running_at, runs_at, there, there_both, there_more, w0}
+use Rattle.calm_rounds.proofs.CalmFronts.{clock_at, end_before, goes_at, harm_front, harm_row, running_at}
+use Rattle.calm_rounds.proofs.InStepFronts.{facts, knows_at, row_before, runs_at, the_calm, there, there_both, there_more, w0}
 use Rattle.calm_rounds.proofs.InStepGiven.{Ground}
 use Rattle.calm_rounds.proofs.InStepLogs.{Held, hears_none, hold}
 use Rattle.calm_rounds.proofs.InStepScene.{IsLedFrom, leads_not}
@@ -79,8 +80,8 @@ module _ (g : Ground) (base : List Timed) (top last : ℕ) (long : last + 8 * g.
 
     stands_by : StandsBy f (end_of g.start (begun ++ more) + longest_wait + g.pace.period) (there g (begun ++ more)) rest
     stands_by =
-        let goes = goes_from g (begun ++ more) rest cut in
-        let is = running_at g (begun ++ more) rest cut f in_f in
+        let goes = goes_at (the_calm g) (begun ++ more) rest cut in
+        let is = running_at (the_calm g) f in_f (begun ++ more) rest cut in
         let its = facts g (begun ++ more) rest cut in
         its.stands_in_time g.group g.clocks g.pace goes.traffic f (end_of g.start (begun ++ more) + longest_wait) rest is (g.calm.listed f in_f) in_f g.calm.others
         (knows_at g (begun ++ more) rest cut f in_f is.server is.runs)
@@ -88,7 +89,7 @@ module _ (g : Ground) (base : List Timed) (top last : ℕ) (long : last + 8 * g.
         (throughout_rest (HasTermLeft f) (begun ++ more) rest (w0 g) (subst (Throughout (HasTermLeft f) (w0 g)) cut (g.calm.left f in_f)))
         goes.calm
         (let o = over_by is.server.times.since is.server.times.word is.server.now (end_of g.start (begun ++ more) + g.clocks (OfMember f))
-        (its.past f is.server (g.calm.listed f in_f) is.runs) (clock_at g (begun ++ more) rest cut f in_f is.server is.runs) in omega (arith, o))
+        (its.past f is.server (g.calm.listed f in_f) is.runs) (clock_at (the_calm g) f in_f (begun ++ more) rest cut is.server is.runs) in omega (arith, o))
         (let e = goes.at_end in omega (arith, e)) (let e = goes.ticked (OfMember f) in omega (arith, e))
         (let e = ends in let a = goes.at_end in
         let b = ap (λ (k : ℕ). end_of k rest) a in omega (arith, e, b, soon, long))
@@ -110,7 +111,7 @@ module _ (g : Ground) (base : List Timed) (top last : ℕ) (long : last + 8 * g.
       anew_so : WaitsAnew f (there g ((begun ++ more) ++ s.front)) s.timed.row
           → Led ⊎ Turned (end_of g.start (begun ++ more) + longest_wait + g.pace.period) (begun ++ more)
       anew_so anew = by ((facts g ((begun ++ more) ++ s.front) (s.timed ∷ s.rest) cut_row).reasons f s.timed.row (g.calm.listed f in_f) g.calm.others
-          (row_harm g ((begun ++ more) ++ s.front) s.rest s.timed cut_row) anew)
+          (harm_row (the_calm g) ((begun ++ more) ++ s.front) s.rest s.timed cut_row) anew)
         where
           by : HearsAppend f (there g ((begun ++ more) ++ s.front)) s.timed.row
               ⊎ (((anew.before.raft_server.memory.role ≢ Follower) × (anew.after.raft_server.memory.role ≡ Follower))
@@ -150,7 +151,7 @@ module _ (g : Ground) (base : List Timed) (top last : ℕ) (long : last + 8 * g.
     -- it wins, or another one does, or it comes to follow
     pub waits : Led ⊎ Turned (end_of g.start (begun ++ more) + longest_wait + g.pace.period) (begun ++ more)
     waits = elim (hold g base top last long begun (begun ++ more) s.front (s.timed ∷ s.rest) h cut_row
-        (let a = not_sooner g ((begun ++ more) ++ s.front) s.rest s.timed cut_row in let b = row_soon in omega (arith, a, b))) [
+        (let a = end_before (the_calm g) ((begun ++ more) ++ s.front) s.rest s.timed cut_row in let b = row_soon in omega (arith, a, b))) [
           | inl led ↦ inl led
           | inr then_ ↦ by_stands then_ (subst (λ (u : Cluster). ((term : ℕ) × Stands f term u s.timed.row)
               ⊎ (WaitsAnew f u s.timed.row ⊎ (LeadsNotIfUp f u → ⊥))) world_is s.stands)
@@ -169,14 +170,14 @@ module _ (g : Ground) (base : List Timed) (top last : ℕ) (long : last + 8 * g.
         cut_few = t.cut ∙ append_assoc (begun ++ more) t.few (t.timed ∷ t.rest)
 
         goes : GoesOnFrom g.group g.clocks g.pace (end_of g.start (begun ++ more)) (there g (begun ++ more)) (t.few ++ t.timed ∷ t.rest)
-        goes = goes_from g (begun ++ more) (t.few ++ t.timed ∷ t.rest) cut_few
+        goes = goes_at (the_calm g) (begun ++ more) (t.few ++ t.timed ∷ t.rest) cut_few
 
         is : RunsWith (IsOfSize (length g.ids)) ((there g (begun ++ more)).member f)
         is = runs_at g (begun ++ more) (t.few ++ t.timed ∷ t.rest) cut_few f in_f
 
         harm : DoNoHarm (there g (begun ++ more)) (rows_in t.few)
         harm = harmless_rest (w0 g) (rows_in (begun ++ more)) (rows_in t.few)
-            (subst (DoNoHarm (w0 g)) (rows_both (begun ++ more) t.few) (harmless g ((begun ++ more) ++ t.few) (t.timed ∷ t.rest) t.cut))
+            (subst (DoNoHarm (w0 g)) (rows_both (begun ++ more) t.few) (harm_front (the_calm g) ((begun ++ more) ++ t.few) (t.timed ∷ t.rest) t.cut))
 
         by : HasStood f (there g (begun ++ more)) t.few → Led
         by stood =
@@ -186,12 +187,12 @@ module _ (g : Ground) (base : List Timed) (top last : ℕ) (long : last + 8 * g.
             ∙ append_assoc ((begun ++ more) ++ stood.first) (stood.timed ∷ stood.more) (t.timed ∷ t.rest)) in
             let a = row_before g ((begun ++ more) ++ stood.first) stood.more (t.timed ∷ t.rest) stood.timed
             (t.cut ∙ ap (λ (l : List Timed). l ++ t.timed ∷ t.rest) few_is) in
-            let b = not_sooner g ((begun ++ more) ++ t.few) t.rest t.timed t.cut in
+            let b = end_before (the_calm g) ((begun ++ more) ++ t.few) t.rest t.timed t.cut in
             let e = ap (end_of g.start) few_is in
             let k = t.soon in
             let in_time : stood.timed.at + 4 * g.pace.delay ≤ last = omega (arith, a, b, e, k, soon) in
             elim (hold g base top last long begun (begun ++ more) stood.first (stood.timed ∷ (stood.more ++ t.timed ∷ t.rest)) h cut_stood
-            (let c = not_sooner g ((begun ++ more) ++ stood.first) (stood.more ++ t.timed ∷ t.rest) stood.timed cut_stood in omega (arith, c, in_time))) [
+            (let c = end_before (the_calm g) ((begun ++ more) ++ stood.first) (stood.more ++ t.timed ∷ t.rest) stood.timed cut_stood in omega (arith, c, in_time))) [
               | inl led ↦ led
               | inr then_ ↦ furthest_stands g base top last long begun behind begun_cut ((begun ++ more) ++ stood.first) (stood.more ++ t.timed ∷ t.rest) stood.timed then_
                   cut_stood in_time f stood.term in_f

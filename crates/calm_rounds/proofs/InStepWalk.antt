@@ -20,8 +20,9 @@ use Rattle.calm_election.proofs.WinsFronts.{part_of}
 use Rattle.calm_election.proofs.WinsTerms.{front_of_more, leads_or_not}
 use Rattle.calm_rounds.specs.Running.{IsLedBy}
 use Rattle.calm_rounds.specs.Sent.{HasAsked}
+use Rattle.calm_rounds.proofs.CalmFronts.{end_before}
 use Rattle.calm_rounds.proofs.InStepApart.{apart, one_stander}
-use Rattle.calm_rounds.proofs.InStepFronts.{calm_at, decided, next_cut, not_sooner, row_before, runs_at, term_rises, there, there_both, there_more, w0}
+use Rattle.calm_rounds.proofs.InStepFronts.{calm_at, decided, next_cut, row_before, runs_at, term_rises, the_calm, there, there_both, there_more, w0}
 use Rattle.calm_rounds.proofs.InStepGiven.{Ground}
 use Rattle.calm_rounds.proofs.InStepLists.{none_is, one_is, one_more}
 use Rattle.calm_rounds.proofs.InStepScene.{IsLedFrom, Scene, Stood, free_at, is_the_last, own_term, reached, within_term}
@@ -95,7 +96,7 @@ module _ (g : Ground) where
       one_before =
           let h = row_before g d.first d.early (timed ∷ rest) d.one
           (cut ∙ ap (λ (l : List Timed). l ++ timed ∷ rest) (d.split ∙ append_assoc d.first (d.one ∷ []) d.early)) in
-          let k = not_sooner g front rest timed cut in
+          let k = end_before (the_calm g) front rest timed cut in
           let e = ap (end_of g.start) (d.split ∙ append_assoc d.first (d.one ∷ []) d.early) in
           omega (arith, h, k, e)
 

@@ -24,7 +24,8 @@ use Rattle.calm_election.proofs.TermsMoves.{log_with_term}
 use Rattle.calm_election.proofs.WinsFronts.{part_of}
 use Rattle.calm_rounds.specs.Rounds.{AreInStep, NobodyLedIn}
 use Rattle.calm_rounds.specs.Sent.{HasAskedFor}
-use Rattle.calm_rounds.proofs.InStepFronts.{calm_at, facts, not_sooner, row_before, row_harm, runs_at, there, w0}
+use Rattle.calm_rounds.proofs.CalmFronts.{end_before, harm_row}
+use Rattle.calm_rounds.proofs.InStepFronts.{calm_at, facts, row_before, runs_at, the_calm, there, w0}
 use Rattle.calm_rounds.proofs.InStepGiven.{Ground}
 use Rattle.calm_rounds.proofs.InStepLogs.{Held, hold}
 use Rattle.calm_rounds.proofs.InStepScene.{IsLedFrom, Stood, follow_at, leads_not, within_term}
@@ -153,7 +154,7 @@ module _ (g : Ground) (base : List Timed) (top last : ℕ) (long : last + 8 * g.
             asked_far then_ m server other k up_c up_m =
                 let its = runs_at g begun behind begun_cut f i in
                 let standing = (facts g a.front (a.timed ∷ (a.rest ++ timed ∷ rest)) cut_asked).asked c stood.0 a.timed.row (g.calm.listed c j)
-                (row_harm g a.front (a.rest ++ timed ∷ rest) a.timed cut_asked) stood.1 in
+                (harm_row (the_calm g) a.front (a.rest ++ timed ∷ rest) a.timed cut_asked) stood.1 in
                 let log_is : a.server.raft_server.store.log ≡ server.raft_server.store.log =
                 ap (λ (t : AllocatorState). t.raft_server.store.log) (same_server a.server stood.1.after (sym a.runs ∙ stood.1.runs_then))
                 ∙ (standing.log ∙ then_.logs c server stood.1.before j up_c stood.1.runs) in
@@ -173,7 +174,7 @@ module _ (g : Ground) (base : List Timed) (top last : ℕ) (long : last + 8 * g.
             asked_soon : a.timed.at ≤ timed.at
             asked_soon =
                 let k = row_before g a.front a.rest (timed ∷ rest) a.timed (cut ∙ ap (λ (l : List Timed). l ++ timed ∷ rest) a.split) in
-                let l = not_sooner g (begun ++ more) rest timed cut in
+                let l = end_before (the_calm g) (begun ++ more) rest timed cut in
                 let e = ap (end_of g.start) a.split in
                 omega (arith, k, l, e)
 
@@ -195,5 +196,5 @@ module _ (g : Ground) (base : List Timed) (top last : ℕ) (long : last + 8 * g.
               where
                 ends_soon : end_of g.start a.front ≤ last
                 ends_soon =
-                    let k = not_sooner g a.front (a.rest ++ timed ∷ rest) a.timed cut_asked in
+                    let k = end_before (the_calm g) a.front (a.rest ++ timed ∷ rest) a.timed cut_asked in
                     let l = asked_soon in omega (arith, k, l, soon)

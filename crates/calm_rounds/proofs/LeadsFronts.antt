@@ -23,10 +23,6 @@ use Rattle.cluster_spec.specs.Members.MemberStatus.{Up}
 
 -- ---- nobody stands
 
-pub nobody_front : (group : List Party) (front rest : List Timed) (w : Cluster) → NobodyStandsIn group w (front ++ rest) → NobodyStandsIn group w front
-nobody_front group [] rest w all = tt
-nobody_front group (first ∷ front) rest w all = (all.0, nobody_front group front rest (after_row w first.row) all.1)
-
 pub nobody_at : (group : List Party) (front rest : List Timed) (timed : Timed) (w : Cluster) → NobodyStandsIn group w (front ++ timed ∷ rest)
     → (n term : ℕ) → In (Member n) group → Stands n term (after_rows w (rows_in front)) timed.row → ⊥
 nobody_at group [] rest timed w all = all.0

@@ -1,6 +1,6 @@
 -- From a front on at which a member leads in a term that none of the group is above, through rows in which nobody stands
 -- for election: it leads on, and each other member may follow it.
-use Rattle.std.proofs.Common.{◌≡◌, ℕ, ◌+◌, ◌≤◌, arith, List, [], ◌∷◌, ◌++◌, refl, sym, ◌∙◌, ap, subst, inl, inr}
+use Rattle.std.proofs.Common.{◌≡◌, ℕ, ◌+◌, ◌≤◌, arith, List, [], ◌∷◌, ◌++◌, sym, ◌∙◌, ap, subst, inl, inr}
 use Rattle.std.proofs.lemmas.List.{append_assoc, append-nil}
 use Rattle.raft_model.specs.Lists.{In}
 use Rattle.raft_model.specs.Server.Role.{Leader}
@@ -8,7 +8,6 @@ use Rattle.replay_text.specs.declared.row.Row.{Row}
 use Rattle.alloc_spec.specs.AllocatorState.{AllocatorState}
 use Rattle.alloc_spec.specs.Step.{Event, step}
 use Rattle.alloc_spec_laws.proofs.Choices.{lt_tells}
-use Rattle.cluster_agreement.proofs.Concatenations.{first_harmless, row_harmless}
 use Rattle.cluster_recovery.specs.Calm.{Pace, Timed, end_of, rows_in}
 use Rattle.cluster_recovery.proofs.Goes.{after_both}
 use Rattle.calm_election.specs.Terms.{AreWithin}
@@ -17,14 +16,15 @@ use Rattle.calm_election.proofs.RowsLeave.{IsLeft, row_leaves}
 use Rattle.calm_election.proofs.WinsFronts.{nobody_above}
 use Rattle.calm_leader.specs.LeadsOn.{LeadsIn}
 use Rattle.calm_leader.proofs.NextCall.{HasRead, IsHeeded, runs_at}
-use Rattle.calm_leader.proofs.Stretches.{GoesOnFrom, calm_rest, rows_both, world_both}
+use Rattle.calm_leader.proofs.Stretches.{world_both}
 use Rattle.calm_rounds.specs.Running.{IsCalmOf, NobodyStandsIn}
+use Rattle.calm_rounds.proofs.CalmFronts.{Calm, calm_of, from_start, harm_front, harm_row}
 use Rattle.calm_rounds.proofs.LeadsBelow.{LeadLaws, OneLeads}
-use Rattle.calm_rounds.proofs.LeadsFronts.{nobody_at, nobody_front}
-use Rattle.cluster_calm.specs.Calm.{AreCalm, IsRunning, Member as OfMember, Party, no_traffic}
+use Rattle.calm_rounds.proofs.LeadsFronts.{nobody_at}
+use Rattle.calm_rounds.proofs.NobodyStands.{nobody_front}
+use Rattle.cluster_calm.specs.Calm.{AreCalm, Member as OfMember, Party, no_traffic}
 use Rattle.cluster_calm.proofs.CallsKept.{RunsWith}
 use Rattle.cluster_spec.specs.Cluster.{Cluster, after_rows, cluster, world_of}
-use Rattle.cluster_spec.specs.Lawful.{DoNoHarm, DoesNoHarm}
 use Rattle.cluster_spec.specs.Members.MemberStatus.{Up}
 
 module _ (ids : List ℕ) (rows : List Row) (laws : LeadLaws ids rows) (group : List Party) (clocks : Party → ℕ) (pace : Pace) (start : ℕ)
@@ -35,13 +35,10 @@ module _ (ids : List ℕ) (rows : List Row) (laws : LeadLaws ids rows) (group : 
   abbrev pub here : List Timed → Cluster
   here a = after_rows w (rows_in a)
 
+  abbrev cut_calm : Calm
+  cut_calm = calm_of ids rows group clocks pace start whole calm
+
   -- ---- at a front
-
-  pub from : GoesOnFrom group clocks pace start w whole
-  from = record { traffic = no_traffic start; calm = calm.calm; at_end = refl; ticked = λ party. omega arith }
-
-  pub goes_at : (a b : List Timed) → whole ≡ a ++ b → GoesOnFrom group clocks pace (end_of start a) (here a) b
-  goes_at a b cut = calm_rest group clocks pace a b start w (subst (GoesOnFrom group clocks pace start w) cut from)
 
   pub node_is : (p : ℕ) → In (OfMember p) group → (server : AllocatorState) → (w.member p).status ≡ Up server → server.me ≡ p
   node_is p i server up = laws.node p server (calm.listed p i) up
@@ -49,23 +46,10 @@ module _ (ids : List ℕ) (rows : List Row) (laws : LeadLaws ids rows) (group : 
   pub run_at : (p : ℕ) → In (OfMember p) group → (a b : List Timed) → whole ≡ a ++ b
       → RunsWith (HasRead p (end_of start a + clocks (OfMember p))) ((here a).member p)
   run_at p i a b cut = runs_at ids rows laws.calls group clocks pace start calm.running node_is calm.clock p i a b
-      (subst (GoesOnFrom group clocks pace start w) cut from)
-
-  pub running_at : (p : ℕ) → In (OfMember p) group → (a b : List Timed) → whole ≡ a ++ b → IsRunning p (here a)
-  running_at p i a b cut = let run = run_at p i a b cut in
-      record { server = run.server; runs = run.up.status; faults = run.up.quiet.faults; disk = run.up.quiet.calls }
-
-  pub harm_in : (a b : List Timed) → whole ≡ a ++ b → DoNoHarm w (rows_in a ++ rows_in b)
-  harm_in a b cut = subst (DoNoHarm w) (ap rows_in cut ∙ rows_both a b) calm.harmless
-
-  pub harm_front : (a b : List Timed) → whole ≡ a ++ b → DoNoHarm w (rows_in a)
-  harm_front a b cut = first_harmless w (rows_in a) (rows_in b) (harm_in a b cut)
-
-  pub harm_row : (a b : List Timed) (x : Timed) → whole ≡ a ++ x ∷ b → DoesNoHarm (here a) x.row
-  harm_row a b x cut = row_harmless w (rows_in a) (rows_in b) x.row (harm_in a (x ∷ b) cut)
+      (from_start cut_calm (a ++ b) cut)
 
   pub one_at : (a b : List Timed) → whole ≡ a ++ b → OneLeads ids (here a)
-  one_at a b cut = subst (OneLeads ids) (after_both (cluster ids) rows (rows_in a)) (laws.alone (rows_in a) (harm_front a b cut))
+  one_at a b cut = subst (OneLeads ids) (after_both (cluster ids) rows (rows_in a)) (laws.alone (rows_in a) (harm_front cut_calm a b cut))
 
   -- terms do not fall
   pub rises : (p : ℕ) → In (OfMember p) group → (a few b : List Timed) → whole ≡ a ++ (few ++ b) → (before after : AllocatorState)
@@ -98,7 +82,7 @@ module _ (ids : List ℕ) (rows : List Row) (laws : LeadLaws ids rows) (group : 
       u = run.server
 
       left : IsLeft (here a) n x.row leads.server u
-      left = row_leaves (here a) n leads.server u leads.runs x.row (harm_row a b x cut)
+      left = row_leaves (here a) n leads.server u leads.runs x.row (harm_row cut_calm a b x cut)
           (subst (λ (v : Cluster). (v.member n).status ≡ Up u) (world_both w a (x ∷ [])) run.up.status)
 
       low : u.raft_server.store.term ≤ term
@@ -131,7 +115,7 @@ module _ (ids : List ℕ) (rows : List Row) (laws : LeadLaws ids rows) (group : 
     within_at top within a b part = subst (AreWithin group top) (sym (world_both w first a))
         (laws.terms group clocks pace start top first a (b ++ rest) calm.listed calm.running calm.others
         (subst (AreCalm group clocks pace (no_traffic start) w) (cut_at a b part) calm.calm)
-        (harm_front (first ++ a) (b ++ rest) (cut_then a b part)) within
+        (harm_front cut_calm (first ++ a) (b ++ rest) (cut_then a b part)) within
         (nobody_above group top a (here first) (λ front more x n term same i s.
         absurd (nobody_at group front more x (here first) (subst (NobodyStandsIn group (here first)) same (nobody_then a b part)) n term i s))))
 

@@ -20,10 +20,12 @@ use Rattle.calm_leader.proofs.NextCall.{HasRead, IsHeeded}
 use Rattle.calm_leader.proofs.NoElectionBegins.{hears_in_time}
 use Rattle.calm_leader.proofs.Stretches.{GoesOnFrom, end_both, end_last, fits_rest, harmless_rest, none_or_last, not_before, calm_first, throughout_by, throughout_more, world_both}
 use Rattle.calm_rounds.specs.Running.{IsCalmOf, IsLedBy, NobodyStandsIn}
+use Rattle.calm_rounds.proofs.CalmFronts.{Calm, calm_of, goes_at, harm_front, harm_in, harm_row, running_at}
 use Rattle.calm_rounds.proofs.LeadsBelow.{LeadLaws}
-use Rattle.calm_rounds.proofs.LeadsFronts.{leader_stands_not, nobody_front, nobody_more}
+use Rattle.calm_rounds.proofs.LeadsFronts.{leader_stands_not, nobody_more}
 use Rattle.calm_rounds.proofs.LeadsLately.{GoesOnHere, HeardLately, Lately, heard_lately}
-use Rattle.calm_rounds.proofs.LeadsRows.{goes_at, harm_front, harm_in, harm_row, heeded_at, run_at, running_at, within_at}
+use Rattle.calm_rounds.proofs.LeadsRows.{heeded_at, run_at, within_at}
+use Rattle.calm_rounds.proofs.NobodyStands.{nobody_front}
 use Rattle.cluster_calm.specs.Calm.{IsCalmRow, Member as OfMember, Party, no_traffic}
 use Rattle.cluster_calm.proofs.CallsKept.{RunsWith}
 use Rattle.cluster_calm.proofs.Pair.{same_server}
@@ -63,6 +65,9 @@ module _ (ids : List ℕ) (rows : List Row) (laws : LeadLaws ids rows) (group : 
   abbrev whole : List Timed
   whole = first ++ later
 
+  abbrev cut_calm : Calm
+  cut_calm = calm_of ids rows group clocks pace start whole calm
+
   abbrev begin : ℕ
   begin = end_of start first
 
@@ -76,11 +81,11 @@ module _ (ids : List ℕ) (rows : List Row) (laws : LeadLaws ids rows) (group : 
 
   begins : GoesOnHere group clocks pace begin n term later there
   begins = record {
-    running = λ p i. running_at ids rows laws group clocks pace start whole calm p i first later refl;
+    running = λ p i. running_at cut_calm p i first later refl;
     server_me = λ p i server up. (is_run p i server up).me;
     clocks_go = λ p i server up. (is_run p i server up).clock;
-    from = goes_at ids rows laws group clocks pace start whole calm first later refl;
-    harmless = harmless_rest w (rows_in first) (rows_in later) (harm_in ids rows laws group clocks pace start whole calm first later refl);
+    from = goes_at cut_calm first later refl;
+    harmless = harmless_rest w (rows_in first) (rows_in later) (harm_in cut_calm first later refl);
     fits = fits_rest n first later w (calm.calls_fit n in_n);
     hear = λ m i other. let x : CanExchange n m w whole = calm.exchange n m in_n i (λ e. other (sym e)) in record {
       calls = laws.calls.stay group clocks pace (no_traffic start) n m first later w (calm.running n in_n) calm.calm x.calls_it;
@@ -93,14 +98,14 @@ module _ (ids : List ℕ) (rows : List Row) (laws : LeadLaws ids rows) (group : 
   heard : HeardLately group clocks pace begin n term later there
   heard = subst (HeardLately group clocks pace begin n term later) (after_both (cluster ids) rows (rows_in first))
       (heard_lately ids (rows ++ rows_in first)
-      (laws.calls_then (rows_in first) (harm_front ids rows laws group clocks pace start whole calm first later refl)) group clocks pace begin n term later in_n
+      (laws.calls_then (rows_in first) (harm_front cut_calm first later refl)) group clocks pace begin n term later in_n
       (let s8 = calm.soon in omega (arith, s8)))
 
   -- moments do not go back behind the first few rows
   from_few : GoesOnFrom group clocks pace (end_of begin few) (then_at few) rest
   from_few = subst (λ (v : Cluster). GoesOnFrom group clocks pace (end_of begin few) v rest) (world_both w first few)
       (subst (λ (k : ℕ). GoesOnFrom group clocks pace k (here (first ++ few)) rest) (end_both start first few)
-      (goes_at ids rows laws group clocks pace start whole calm (first ++ few) rest (sym (append_assoc first few rest))))
+      (goes_at cut_calm (first ++ few) rest (sym (append_assoc first few rest))))
 
   not_sooner : (d e : List Timed) → rest ≡ d ++ e → end_of begin few ≤ end_of begin (few ++ d)
   not_sooner d e cut =
@@ -147,7 +152,7 @@ module _ (ids : List ℕ) (rows : List Row) (laws : LeadLaws ids rows) (group : 
     upto_cut = ap (λ (l : List Timed). few ++ l) cut ∙ sym (append_assoc few done (x ∷ todo))
 
     goes : GoesOnFrom group clocks pace (end_of start (first ++ upto)) (here (first ++ upto)) (x ∷ todo)
-    goes = goes_at ids rows laws group clocks pace start whole calm (first ++ upto) (x ∷ todo) (cut_here upto (x ∷ todo) upto_cut none)
+    goes = goes_at cut_calm (first ++ upto) (x ∷ todo) (cut_here upto (x ∷ todo) upto_cut none)
 
     -- it is later than the first call
     long_x : begin + heard_within pace < x.at
@@ -177,13 +182,13 @@ module _ (ids : List ℕ) (rows : List Row) (laws : LeadLaws ids rows) (group : 
           (subst (λ (k : ℕ). Stands k other (then_at upto) x.row) z.1 s)
       | inr z ↦
           let begins_then : WaitsBeginThen ids (rows ++ rows_in (first ++ upto))
-          = laws.begin (rows_in (first ++ upto)) (harm_front ids rows laws group clocks pace start whole calm (first ++ upto) (x ∷ todo) (cut_here upto (x ∷ todo) upto_cut none)) in
+          = laws.begin (rows_in (first ++ upto)) (harm_front cut_calm (first ++ upto) (x ∷ todo) (cut_here upto (x ∷ todo) upto_cut none)) in
           let same_world = after_both (cluster ids) rows (rows_in (first ++ upto)) in
           let over = (subst (λ (v : Cluster). (other : ℕ) (t : Stands m other v x.row) → t.before.times.since + election_wait ≤ max t.before.now t.ms)
           (same_world ∙ world_both w first upto)
           (begins_then m x.row (calm.listed m i)
           (subst (λ (v : Cluster). Rattle.cluster_spec.specs.Lawful.DoesNoHarm v x.row) (sym same_world)
-          (harm_row ids rows laws group clocks pace start whole calm (first ++ upto) todo x (cut_here upto (x ∷ todo) upto_cut none)))).1) other s in
+          (harm_row cut_calm (first ++ upto) todo x (cut_here upto (x ∷ todo) upto_cut none)))).1) other s in
           let its = waits m i z.1 s.before s.runs in
           let wait = its.0 in let read = its.1 in
           let row : IsCalmRow group clocks pace goes.traffic (here (first ++ upto)) x.at (Tick m s.ms s.word)

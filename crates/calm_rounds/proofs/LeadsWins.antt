@@ -22,9 +22,10 @@ use Rattle.calm_leader.proofs.NextCall.{CallsInTerm, IsHeeded, MayHeed, call_in_
 use Rattle.calm_leader.proofs.Stretches.{GoesOnFrom, calm_first, calm_rest, end_both, end_last, fits_at, fits_rest, in_between, world_both}
 use Rattle.calm_leader.proofs.WinnersCall.{winner_offers_it}
 use Rattle.calm_rounds.specs.Running.{IsCalmOf, IsLedBy, NobodyStandsIn}
+use Rattle.calm_rounds.proofs.CalmFronts.{Calm, calm_of, goes_at, harm_front, harm_in, running_at}
 use Rattle.calm_rounds.proofs.LeadsBelow.{LeadLaws}
 use Rattle.calm_rounds.proofs.LeadsFronts.{ComesToLead, comes_to_lead, leader_stands_not, nobody_by, nobody_more}
-use Rattle.calm_rounds.proofs.LeadsRows.{goes_at, harm_front, harm_in, heeded_at, leads_at, rises, running_at, within_at}
+use Rattle.calm_rounds.proofs.LeadsRows.{heeded_at, leads_at, rises, within_at}
 use Rattle.cluster_calm.specs.Calls.{FollowsFrom, FollowsSince, HearsCallBy, Lists, MayFollow}
 use Rattle.cluster_calm.specs.Calm.{AreCalm, IsRunning, Member as OfMember, Party, no_traffic}
 use Rattle.cluster_calm.specs.CallsInTime.{Leads, OffersCall}
@@ -56,6 +57,9 @@ module _ (ids : List ℕ) (rows : List Row) (laws : LeadLaws ids rows) (group : 
 
   abbrev whole : List Timed
   whole = front ++ timed ∷ (early ++ late)
+
+  abbrev cut_calm : Calm
+  cut_calm = calm_of ids rows group clocks pace start whole calm
 
   abbrev first : List Timed
   first = front ++ timed ∷ []
@@ -101,7 +105,7 @@ module _ (ids : List ℕ) (rows : List Row) (laws : LeadLaws ids rows) (group : 
 
   -- their moments
   from_first : GoesOnFrom group clocks pace (end_of start first) (here first) (reached ++ behind)
-  from_first = goes_at ids rows laws group clocks pace start whole calm first (reached ++ behind) whole_cut
+  from_first = goes_at cut_calm first (reached ++ behind) whole_cut
 
   at_first : end_of start first ≡ timed.at
   at_first = end_last start front timed
@@ -125,7 +129,7 @@ module _ (ids : List ℕ) (rows : List Row) (laws : LeadLaws ids rows) (group : 
   later a (y ∷ l) e cut x (inr i) =
       let b = in_between group clocks pace l y.at (after_row (here a) y.row)
       (calm_rest group clocks pace (y ∷ []) l (end_of start a) (here a)
-      (goes_at ids rows laws group clocks pace start whole calm a (y ∷ l) cut)) x i in
+      (goes_at cut_calm a (y ∷ l) cut)) x i in
       let low = b.0 in let low_y = by_then.late y l e in omega (arith, low, low_y)
 
   -- ---- nobody else stands by then
@@ -170,7 +174,7 @@ module _ (ids : List ℕ) (rows : List Row) (laws : LeadLaws ids rows) (group : 
   comes : ComesToLead c (here first) early
   comes = comes_to_lead c early (here first)
       (λ a b e. subst (IsRunning c) (world_both w first a)
-      (running_at ids rows laws group clocks pace start whole calm c in_c (first ++ a) (b ++ late) (early_cut a b e)))
+      (running_at cut_calm c in_c (first ++ a) (b ++ late) (early_cut a b e)))
       (λ server up leader. no_candidate s.after.raft_server.memory.role s.stands (subst (λ (t : AllocatorState). t.raft_server.memory.role ≡ Leader)
       (same_server server s.after (sym up ∙ (ap (λ (v : Cluster). (v.member c).status) here_first ∙ s.runs_then))) leader))
       (λ server up. subst (λ (t : AllocatorState). t.raft_server.memory.role ≡ Leader)
@@ -216,7 +220,7 @@ module _ (ids : List ℕ) (rows : List Row) (laws : LeadLaws ids rows) (group : 
   within_first : AreWithin group term (here first)
   within_first = subst (AreWithin group term) (sym here_first)
       (laws.terms group clocks pace start term front (timed ∷ []) (early ++ late) calm.listed calm.running calm.others calm.calm
-      (harm_front ids rows laws group clocks pace start whole calm first (early ++ late) first_cut)
+      (harm_front cut_calm first (early ++ late) first_cut)
       (λ m i server up. let low = within m i server up in let next = s.next in omega (arith, low, next))
       ((λ n other i again. let low = within n i again.before again.runs in let next = s.next in let its = again.next in omega (arith, low, next, its)), tt))
 
@@ -229,7 +233,7 @@ module _ (ids : List ℕ) (rows : List Row) (laws : LeadLaws ids rows) (group : 
 
   leads_won : LeadsIn c term (here led_from)
   leads_won =
-      let run = running_at ids rows laws group clocks pace start whole calm c in_c led_from (then_rows ++ behind) led_cut in record {
+      let run = running_at cut_calm c in_c led_from (then_rows ++ behind) led_cut in record {
         server = run.server;
         runs = run.runs;
         leads = comes.leads run.server (ap (λ (v : Cluster). (v.member c).status) (sym here_won) ∙ run.runs);
@@ -282,8 +286,8 @@ module _ (ids : List ℕ) (rows : List Row) (laws : LeadLaws ids rows) (group : 
 
     call : CallsInTerm c m term (here upto) win.row
     call = call_in_term ids rows laws.calls c m term (rows_in upto) (rows_in (e2 ++ late)) win.row
-        (harm_in ids rows laws group clocks pace start whole calm upto (win ∷ (e2 ++ late)) win_cut)
-        (running_at ids rows laws group clocks pace start whole calm c in_c upto (win ∷ (e2 ++ late)) win_cut) offers
+        (harm_in cut_calm upto (win ∷ (e2 ++ late)) win_cut)
+        (running_at cut_calm c in_c upto (win ∷ (e2 ++ late)) win_cut) offers
         (fits_at c upto (e2 ++ late) win w (subst (CallsFit c w) win_cut (calm.calls_fit c in_c)) m offers)
         (subst (LeadsIn c term) (here_more first e1 win) leads_won)
 
@@ -291,7 +295,7 @@ module _ (ids : List ℕ) (rows : List Row) (laws : LeadLaws ids rows) (group : 
     win_soon =
         let b = in_between group clocks pace early (end_of start first) (here first)
         (calm_first group clocks pace early late (end_of start first) (here first)
-        (goes_at ids rows laws group clocks pace start whole calm first (early ++ late) first_cut)) win
+        (goes_at cut_calm first (early ++ late) first_cut)) win
         (subst (In win) (sym comes.split) (in_back win e1 (win ∷ e2) (inl refl))) in
         let high = b.1 in let same = ap (λ (k : ℕ). end_of k early) at_first in omega (arith, high, same, soon)
 
@@ -367,7 +371,7 @@ module _ (ids : List ℕ) (rows : List Row) (laws : LeadLaws ids rows) (group : 
           ∙ ap (λ (l : List Timed). l ++ (heard_at.rest ++ behind)) (append_assoc led_from tail (x ∷ []))
 
       goes : GoesOnFrom group clocks pace (end_of start heard_rows) (here heard_rows) (heard_at.rest ++ behind)
-      goes = goes_at ids rows laws group clocks pace start whole calm heard_rows (heard_at.rest ++ behind) heard_cut
+      goes = goes_at cut_calm heard_rows (heard_at.rest ++ behind) heard_cut
 
       reached_x : reached ≡ (won ++ tail) ++ x ∷ heard_at.rest
       reached_x = reached_won ∙ (ap (λ (l : List Timed). won ++ l) heard_at.split ∙ sym (append_assoc won tail (x ∷ heard_at.rest)))

@@ -24,8 +24,8 @@ use Rattle.calm_rounds.proofs.LearnsBack.{Along, ReplyComes, RequestComes, along
 use Rattle.calm_rounds.proofs.LearnsCallers as callers
 use Rattle.calm_rounds.proofs.LearnsCallers.{stands_not}
 use Rattle.calm_rounds.proofs.LearnsChain.{AllTurns}
-use Rattle.calm_election.proofs.Exchange.{AllGiven, Exchange}
-use Rattle.calm_election.proofs.ExchangeStart.{all_given}
+use Rattle.calm_leader.proofs.Exchange.{AllGiven, Exchange}
+use Rattle.calm_leader.proofs.ExchangeStart.{all_given}
 use Rattle.calm_election.proofs.VotesAsked.{fresh}
 use Rattle.calm_rounds.proofs.LearnsGrounds.{VoteGrounds, from_there, up_to_end_of}
 use Rattle.calm_rounds.proofs.LearnsVotes.{AllSteps, Asked, LeadsNotBy, Waiting, all_turns, asking, steps_on, twice_quick, waits_on}

@@ -9,10 +9,10 @@ use Rattle.alloc_spec.specs.AllocatorState.{AllocatorState}
 use Rattle.alloc_spec.specs.Step.{step}
 use Rattle.alloc_spec.specs.Transfers.{Offer, SentTransfer, id_of}
 use Rattle.calm_election.specs.Votes.{Stands}
-use Rattle.calm_election.proofs.ExchangeGoes.{answered_in_time, asked_in_time, at_first as going_first}
-use Rattle.calm_election.proofs.ExchangeStart.{Fresh}
+use Rattle.calm_leader.proofs.ExchangeGoes.{answered_in_time, asked_in_time, at_first as going_first}
+use Rattle.calm_leader.proofs.ExchangeStart.{Fresh}
 use Rattle.calm_rounds.proofs.LearnsChain.{AllTurns, NoAnswer}
-use Rattle.calm_election.proofs.Exchange.{Exchange, IsAnswered}
+use Rattle.calm_leader.proofs.Exchange.{Exchange, IsAnswered}
 use Rattle.calm_rounds.proofs.LearnsUnder.{Stepped, Under, stepped}
 use Rattle.calm_leader.proofs.RowsOfOne.{stepped_up}
 use Rattle.cluster_calm.specs.Calm.{IsCalmRow, Member as OfMember, Party}

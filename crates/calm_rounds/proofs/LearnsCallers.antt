@@ -14,10 +14,11 @@ use Rattle.calm_leader.specs.Entries.{CanExchange}
 use Rattle.calm_leader.proofs.Stretches.{calm_front, fits_at, rows_both}
 use Rattle.calm_rounds.specs.Running.{IsCalmOf, NobodyStandsIn}
 use Rattle.calm_rounds.proofs.LearnsBack.{Along, ReplyComes, RequestComes, StandsNot, at_first, comes_back, open_stays, turns_on}
-use Rattle.calm_rounds.proofs.LearnsCalls.{Called, all_turns, calling}
+use Rattle.calm_leader.proofs.CallsExchange.{calling, fresh}
+use Rattle.calm_rounds.proofs.LearnsCalls.{Called, all_turns}
 use Rattle.calm_rounds.proofs.LearnsChain.{AllTurns}
-use Rattle.calm_election.proofs.Exchange.{AllGiven, Exchange}
-use Rattle.calm_election.proofs.ExchangeStart.{all_given}
+use Rattle.calm_leader.proofs.Exchange.{AllGiven, Exchange}
+use Rattle.calm_leader.proofs.ExchangeStart.{all_given}
 use Rattle.calm_rounds.proofs.LearnsGrounds.{Grounds, from_there, up_to_end_of}
 use Rattle.calm_rounds.proofs.LearnsTakes.{WaitsForAppend, learns}
 use Rattle.cluster_agreement.proofs.Concatenations.{first_harmless}
@@ -143,13 +144,13 @@ module _ (ids : List ℕ) (rows : List Row) (g : Grounds ids rows) (group : List
   -- ---- who calls asks
 
   abbrev both : Exchange
-  both = calling g.laws g.apart_offers g.stay g.ask g.calls group clocks pace nodes n m in_n in_m apart calm.quick w whole can
+  both = calling g.laws g.apart_offers g.stay group clocks pace nodes n m in_n in_m apart calm.quick w whole can
 
   abbrev IsOpen : Made → AllocatorState → Type 0
-  IsOpen = Called g.laws g.apart_offers g.stay g.ask g.calls group clocks pace nodes n m in_n in_m apart calm.quick w whole can
+  IsOpen = Called g.laws g.apart_offers g.stay g.ask group clocks pace nodes n m in_n in_m apart calm.quick w whole can
 
   turns : AllTurns both IsOpen w whole
-  turns = all_turns g.laws g.apart_offers g.stay g.ask g.calls group clocks pace nodes n m in_n in_m apart calm.quick w whole can whole (no_traffic start) w calm.calm are
+  turns = all_turns g.laws g.apart_offers g.stay g.ask group clocks pace nodes n m in_n in_m apart calm.quick w whole can whole (no_traffic start) w calm.calm are
       calm.harmless can.calls_it (calm.clock n in_n)
 
   given : AllGiven both w whole
@@ -157,24 +158,9 @@ module _ (ids : List ℕ) (rows : List Row) (g : Grounds ids rows) (group : List
       (no_traffic start) w refl g.harmless are calm.calm calm.harmless can.memory can.its_memory can.place
 
   along : Along both IsOpen IsOpen calm.quick w whole
-  along = at_first both IsOpen IsOpen calm.quick start w whole (record {
-    requests = can.calls;
-    replies = can.answers;
-    base_m = refl;
-    base_n = refl;
-    admits_m = λ id begins. begins;
-    admits_n = λ id begins. begins;
-    may = can.first_call;
-    may_answer = can.first_answer;
-    lists = can.hears_it;
-    is_n = g.is n (calm.listed n in_n);
-    is_m = g.is m (calm.listed m in_m);
-    quiet_n = quiet n in_n;
-    quiet_m = quiet m in_m;
-    calm = calm.calm;
-    are = are;
-    given = given;
-  }) turns
+  along = at_first both IsOpen IsOpen calm.quick start w whole
+      (fresh g.laws g.apart_offers g.stay group clocks pace nodes n m in_n in_m apart calm.quick w whole can start (g.is n (calm.listed n in_n)) (g.is m (calm.listed m in_m))
+      (quiet n in_n) (quiet m in_m) calm.calm are given) turns
 
   module _ (offer : Offer) (sends : Sends n there timed.row offer) (what : offer.what ≡ AppQ) (to : offer.to ≡ m) (nobody : StandsNot n then_w early)
       (long : timed.at + 4 * pace.delay < next.at) where

@@ -1,54 +1,44 @@
 -- A member that calls another one, in a calm, as one that asks: what a row does to a call that is open.
-use Rattle.std.proofs.Common.{◌≡◌, ◌≢◌, ℕ, ◌+◌, ◌*◌, ◌<◌, ◌≤◌, arith, true, List, [], ◌∷◌, length, max, refl, sym, ◌∙◌, ap, subst, inl, inr, Some}
+use Rattle.std.proofs.Common.{◌≡◌, ◌≢◌, ℕ, ◌+◌, ◌*◌, ◌<◌, ◌≤◌, arith, List, [], ◌∷◌, max, refl, sym, ◌∙◌, ap, subst, inl, inr, Some}
 use Rattle.std.specs.Prelude.{◌⊎◌}
-use Rattle.std.proofs.lemmas.Bool.{le-leb}
 use Rattle.can_frame.specs.declared.identifier.Kind.TheVariants.{Response}
-use Rattle.can_frame.specs.declared.step.What.TheVariants.{Alloc, App, AppQ}
+use Rattle.can_frame.specs.declared.step.What.TheVariants.{AppQ}
 use Rattle.raft_core.specs.Times.{Sending}
 use Rattle.raft_model.specs.Lists.{In}
-use Rattle.raft_model.specs.Messages.{Answer, Request}
+use Rattle.raft_model.specs.Messages.{Request}
 use Rattle.raft_model.specs.Messages.Message.{Requests}
 use Rattle.raft_model.specs.Server.{Role}
 use Rattle.raft_model.specs.Server.Role.{Candidate, Leader}
-use Rattle.replay_text.specs.declared.row.Row.{Row}
 use Rattle.replay_text.specs.declared.row.Row.TheVariants.{Rx}
 use Rattle.transfer_rx.specs.Reassembly.{Delivery, Gives, answer}
-use Rattle.transfer_tx.specs.Queue.{Queued}
 use Rattle.alloc_spec.specs.Accepted.{setting_for}
 use Rattle.alloc_spec.specs.AllocatorState.{AllocatorState, members_of}
 use Rattle.alloc_spec.specs.Step.{Event, moment_of, step}
-use Rattle.alloc_spec.specs.Transfers.{Offer, SentTransfer, has_room}
+use Rattle.alloc_spec.specs.Transfers.{Offer}
 use Rattle.alloc_spec_laws.specs.Apart.{AreAllApart}
-use Rattle.alloc_spec_laws.specs.Saying.{append_bytes}
 use Rattle.calm_election.specs.Votes.{Stands}
 use Rattle.calm_election.proofs.RowsLeave.{IsLeft}
-use Rattle.calm_election.proofs.VotesAsked.{TellsTerm, no_lower}
-use Rattle.calm_leader.specs.Answers.{AnswersAsSaid, AnswersCall, CallsAreAnswered, answer_by, asked_by}
 use Rattle.calm_leader.specs.CallsAsk.{AsksNext, CallsAskNext, next_request}
-use Rattle.calm_leader.specs.CallsComeBack.{HasPlace}
 use Rattle.calm_leader.specs.Entries.{CanExchange}
+use Rattle.calm_leader.proofs.CallsExchange.{calling as calling_of}
 use Rattle.calm_leader.proofs.RowsOfOne.{stepped_up}
 use Rattle.calm_rounds.proofs.LearnsChain.{AllTurns, NoAnswer, Turn}
-use Rattle.calm_election.proofs.Exchange.{Exchange, IsAnswered}
+use Rattle.calm_leader.proofs.Exchange.{Exchange}
 use Rattle.calm_rounds.proofs.LearnsPends.{IsNext, Still, pends_at_frame, pends_at_tick}
 use Rattle.calm_rounds.proofs.LearnsRows.{Known, clock_then, its_moment, left, receipt_at, since_then, stands_then, step_at, stood_then, tick_at}
 use Rattle.calm_rounds.proofs.LearnsTakes.{WaitsForAppend}
-use Rattle.cluster_calm.specs.Calls.{Lists, ReadsAsSaid}
+use Rattle.cluster_calm.specs.Calls.{Lists}
 use Rattle.cluster_calm.specs.Calm.{AreCalm, Member as OfMember, Party, Traffic, traffic_after}
-use Rattle.cluster_calm.specs.Comes.{Delivers, MayComeFirst, Sends, sent_by}
+use Rattle.cluster_calm.specs.Comes.{Sends, sent_by}
 use Rattle.cluster_calm.proofs.Calls.{lists_on}
 use Rattle.cluster_calm.proofs.Counting.{now_after}
 use Rattle.cluster_calm.proofs.Group.{AreWell, CalmLaws, IsWell, well_after}
 use Rattle.cluster_calm.proofs.Pair.{same_server}
 use Rattle.cluster_calm.proofs.Pending.{Made}
 use Rattle.cluster_recovery.specs.Calm.{Pace, Timed, rows_in}
-use Rattle.cluster_spec.specs.Cluster.{Cluster, after_row, arrival_at, frame_at, receipt_of, step_of, tick_of}
+use Rattle.cluster_spec.specs.Cluster.{Cluster, after_row, arrival_at, frame_at, receipt_of, tick_of}
 use Rattle.cluster_spec.specs.Lawful.{DoNoHarm}
 use Rattle.cluster_spec.specs.Members.MemberStatus.{Up}
-
--- an answer is one frame, for which a queue with a place left has room
-pub answer_fits : (queue : List Queued) (a : Answer) → length queue < 32 → has_room queue (append_bytes a) ≡ true
-answer_fits queue a few_wait = le-leb (length queue + 1) 32 (omega (arith, few_wait))
 
 one_id : (a b : Sending) → Some a ≡ Some b → a.id ≡ b.id
 one_id a b e = ap (λ (s : Sending). s.id) (the_same e)
@@ -59,73 +49,14 @@ one_id a b e = ap (λ (s : Sending). s.id) (the_same e)
 pub no_leader : (role : Role) → role ≡ Leader → role ≢ Candidate
 no_leader role e f = cc (sym e ∙ f)
 
--- neither is an Allocation
-pub call_is_other : AppQ ≢ Alloc
-call_is_other e = cc e
-
-pub answer_is_other : App ≢ Alloc
-answer_is_other e = cc e
-
 module _ (laws : CalmLaws) (apart_offers : (t : AllocatorState) (number : ℕ) (event : Event) → AreAllApart (step t number event).step_state.offers)
     (stay : (t : AllocatorState) (number : ℕ) (event : Event) (node : ℕ) → In node (members_of t) → In node (members_of (step t number event).step_state.allocator))
-    (ask : CallsAskNext) (calls_answered : CallsAreAnswered) (group : List Party) (clocks : Party → ℕ) (pace : Pace)
+    (ask : CallsAskNext) (group : List Party) (clocks : Party → ℕ) (pace : Pace)
     (nodes : (p : ℕ) → In (OfMember p) group → (1 ≤ p) × (p ≤ 125)) (n m : ℕ) (in_n : In (OfMember n) group) (in_m : In (OfMember m) group) (apart : n ≢ m)
     (quick : 4 * pace.delay < 1000) (first_w : Cluster) (whole : List Timed) (can : CanExchange n m first_w whole) where
-  -- who is called answers
-  pub its_answer : (x : SentTransfer) (w : Cluster) (row : Row) (delivers : Delivers m x w row) → delivers.server.me ≡ m → x.offer.what ≡ AppQ → ReadsAsSaid x
-      → In x.by (members_of delivers.server) → HasPlace m w → IsAnswered m App TellsTerm x w row
-  its_answer x w row delivers me what reads listed place = let a : AnswersCall m x reads.request w row delivers = calls_answered m x reads.request w row delivers me what reads.read listed in record {
-    offer = a.offer;
-    sends = record {
-      server = delivers.server;
-      runs = delivers.runs;
-      event = receipt_of w delivers.k delivers.ms;
-      in_step = ap (λ (r : Row). step_of w r) delivers.comes;
-      offered = a.offered;
-      fitted = a.fitted ∙ (ap (has_room delivers.server.queue) a.written
-          ∙ answer_fits delivers.server.queue (answer_by (w.rows + 1) delivers.server (asked_by x reads.request m)) (place delivers.server delivers.runs));
-    };
-    what = a.what;
-    to = a.to;
-    id = a.id;
-    server = delivers.server;
-    runs = delivers.runs;
-    tells = (answer_by (w.rows + 1) delivers.server (asked_by x reads.request m), a.says, no_lower delivers.server.raft_server.store (asked_by x reads.request m).term);
-  }
-
   -- the two
-  abbrev pub calling : Exchange
-  calling = record {
-    laws = laws;
-    apart_offers = apart_offers;
-    stay = stay;
-    group = group;
-    clocks = clocks;
-    pace = pace;
-    nodes = nodes;
-    n = n;
-    m = m;
-    in_n = in_n;
-    in_m = in_m;
-    apart = apart;
-    quick = omega (arith, quick);
-    asks = AppQ;
-    answers = App;
-    heard_asks = (call_is_other, refl);
-    heard_answers = (answer_is_other, refl);
-    counted = omega (arith, (nodes m in_m).1);
-    asks_kind = refl;
-    answers_kind = refl;
-    numbers = refl;
-    Reads = ReadsAsSaid;
-    Tells = TellsTerm;
-    Told = AnswersAsSaid;
-    answered = its_answer;
-    base_m = can.calls.receiver.now;
-    BeginsM = MayComeFirst n AppQ m can.calls.receiver;
-    base_n = can.answers.receiver.now;
-    BeginsN = MayComeFirst m App n can.answers.receiver;
-  }
+  abbrev calling : Exchange
+  calling = calling_of laws apart_offers stay group clocks pace nodes n m in_n in_m apart quick first_w whole can
 
   -- A call is open: the caller is no candidate, and waits for the answer to the request that the call says.
   abbrev pub Called : Made → AllocatorState → Type 0

@@ -12,8 +12,8 @@ use Rattle.alloc_spec.specs.Accepted.{setting_for}
 use Rattle.alloc_spec.specs.AllocatorState.{AllocatorState}
 use Rattle.alloc_spec.specs.Transfers.{Offer, id_after, ident_of}
 use Rattle.calm_election.specs.Votes.{Stands}
-use Rattle.calm_election.proofs.ExchangeAsks.{ids_made}
-use Rattle.calm_election.proofs.Exchange.{Exchange}
+use Rattle.calm_leader.proofs.ExchangeAsks.{ids_made}
+use Rattle.calm_leader.proofs.Exchange.{Exchange}
 use Rattle.cluster_calm.specs.Calm.{Member as OfMember, Party}
 use Rattle.cluster_calm.specs.Comes.{Sends, sent_by}
 use Rattle.cluster_calm.proofs.Counting.{Follow}

@@ -17,7 +17,7 @@ use Rattle.alloc_spec.specs.Step.{Event, step}
 use Rattle.alloc_spec.specs.StepState.{StepState, with_moves}
 use Rattle.alloc_spec_laws.proofs.Choices.{either}
 use Rattle.cluster_progress.proofs.FollowUps.{begun, when_come}
-use Rattle.calm_election.proofs.RaftPhases.{Keeps, OfRole, Takes, at_frame, role_ends, role_grows}
+use Rattle.calm_leader.proofs.RaftPhases.{Keeps, OfRole, Takes, at_frame, role_ends, role_grows}
 
 no_candidate : (role : Role) → role ≢ Candidate → is_candidate role ≡ false
 no_candidate Follower other = refl
@@ -64,12 +64,12 @@ module _ (number : ℕ) (d : Delivery) (g : StepState) (h : Keeps (OfRole IsNone
 
   takes : Takes number (OfRole IsNone) d g
   takes = record {
-    vote_request = λ message read. let asked = vote_request_of message d.mark.step d.ident.source g.allocator.me in
+    vote_request = λ kind one thirty message read listed. let asked = vote_request_of message d.mark.step d.ident.source g.allocator.me in
         vote_asked asked (grants (with_term g.allocator.raft_server.store asked.term) asked);
     append_request = λ kind thirty message read listed. let asked = append_request_of message d.mark.step d.ident.source g.allocator.me in
         append_asked asked (verdict_on g.allocator.raft_server asked);
-    vote_answer = λ kind one thirty message asked listed awaited pending. vote_answered (answer_of d.mark.step d.ident.source asked message.term message.granted);
-    append_answer = λ message asked awaited pending. append_answered (answer_of d.mark.step d.ident.source asked message.term message.success);
+    vote_answer = λ kind one thirty message read asked listed awaited pending. vote_answered (answer_of d.mark.step d.ident.source asked message.term message.granted);
+    append_answer = λ kind thirty message read asked listed awaited pending. append_answered (answer_of d.mark.step d.ident.source asked message.term message.success);
   }
 
 pub none_at_frame : (t : AllocatorState) (number : ℕ) (arrival : Arrival) → t.raft_server.memory.role ≢ Candidate

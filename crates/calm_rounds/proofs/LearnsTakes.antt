@@ -27,7 +27,7 @@ use Rattle.alloc_spec_laws.proofs.Choices.{lt_tells}
 use Rattle.cluster_progress.proofs.Begins.{IsAsBefore}
 use Rattle.cluster_progress.proofs.FollowUps.{begun, same_number, when_come}
 use Rattle.calm_leader.proofs.AnswersTaken.{Keeps as KeepsCall, is_young, kept_call, not_given_up}
-use Rattle.calm_election.proofs.RaftPhases.{Keeps, OfRole, at_end, role_ends}
+use Rattle.calm_leader.proofs.RaftPhases.{Keeps, OfRole, at_end, role_ends}
 use Rattle.calm_election.proofs.VotesTaken.{raised_term, same_term}
 use Rattle.cluster_calm.specs.Comes.{Delivers, delivery_of}
 use Rattle.cluster_calm.proofs.Calls.{on_list}

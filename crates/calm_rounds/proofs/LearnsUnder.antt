@@ -10,14 +10,13 @@ use Rattle.alloc_spec.specs.AllocatorState.{AllocatorState}
 use Rattle.alloc_spec.specs.Step.{Event}
 use Rattle.alloc_spec.specs.Transfers.{Offer, id_after, id_of}
 use Rattle.alloc_spec_laws.proofs.Lists.{in_back, in_front}
-use Rattle.calm_election.proofs.ExchangeAnswers as replies
-use Rattle.calm_election.proofs.ExchangeAnswers.{in_one, none_in}
-use Rattle.calm_election.proofs.ExchangeAsks as questions
-use Rattle.calm_election.proofs.ExchangeAsks.{ids_made}
-use Rattle.calm_election.proofs.ExchangeGoes as goes
-use Rattle.calm_election.proofs.ExchangeGoes.{Going, a_row, answered_in_time, asked_in_time, goes_on, q_row}
+use Rattle.calm_leader.proofs.ExchangeAnswers as replies
+use Rattle.calm_leader.proofs.ExchangeAsks as questions
+use Rattle.calm_leader.proofs.ExchangeAsks.{ids_made}
+use Rattle.calm_leader.proofs.ExchangeGoes as goes
+use Rattle.calm_leader.proofs.ExchangeGoes.{Going, a_row, answered_in_time, asked_in_time, goes_on, q_row}
 use Rattle.calm_rounds.proofs.LearnsChain.{Few, Match, NoAnswer, Turn, brings_few, match_first, match_late, match_more, match_of, passes_few, second_id}
-use Rattle.calm_election.proofs.Exchange.{Exchange, IsAnswered}
+use Rattle.calm_leader.proofs.Exchange.{Exchange, IsAnswered, in_one, none_in}
 use Rattle.cluster_agreement.proofs.Lists.{in_append}
 use Rattle.cluster_calm.specs.Comes.{Delivers, Sends, sent_by}
 use Rattle.cluster_calm.proofs.Counting.{Follow}

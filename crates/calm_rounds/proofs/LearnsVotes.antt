@@ -21,7 +21,7 @@ use Rattle.calm_leader.specs.CallsComeBack.{LeadsNotIfUp}
 use Rattle.calm_leader.proofs.RowsOfOne.{stepped_up}
 use Rattle.calm_rounds.proofs.LearnsBack.{StandsNot, Stays}
 use Rattle.calm_rounds.proofs.LearnsChain.{AllTurns, NoAnswer, Turn}
-use Rattle.calm_election.proofs.Exchange.{Exchange}
+use Rattle.calm_leader.proofs.Exchange.{Exchange}
 use Rattle.calm_rounds.proofs.LearnsRows.{Known, clock_then, its_moment, left, receipt_at, since_then, stands_then, step_at, stood_then, tick_at}
 use Rattle.cluster_calm.specs.Calls.{Lists}
 use Rattle.cluster_calm.specs.Calm.{AreCalm, Member as OfMember, Party, Traffic, traffic_after}

@@ -6,6 +6,7 @@ pub mod HeardCalls
 pub mod SilenceSteps
 pub mod Silence
 pub mod NobodyStands
+pub mod CalmFronts
 pub mod NobodyScene
 pub mod NobodyStays
 pub mod SomebodyTop
@@ -20,7 +21,6 @@ pub mod LeadsRows
 pub mod LeadsLately
 pub mod LeadsTop
 pub mod LeadsWins
-pub mod AsksMoves
 pub mod AsksKept
 pub mod AsksTurns
 pub mod AsksRoles
@@ -32,7 +32,6 @@ pub mod AsksLaw
 pub mod AsksFrames
 pub mod AsksWon
 pub mod AsksGrounds
-pub mod LearnsFrames
 pub mod LearnsPends
 pub mod LearnsTakes
 pub mod LearnsChain
@@ -63,7 +62,6 @@ pub mod InStep
 pub mod RoundsLists
 pub mod Rounds
 pub mod StandingAnewHeard
-pub mod StandingAnewRows
 pub mod StandingAnewTwice
 pub mod StandingAnewWins
 pub mod CallingInTime
@@ -72,4 +70,5 @@ pub mod ReturnsTaken
 pub mod Returns
 pub mod CallingTakes
 pub mod Calling
+pub mod RoundsGrounds
 pub mod Opened

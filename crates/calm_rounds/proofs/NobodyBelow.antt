@@ -22,7 +22,8 @@ use Rattle.calm_rounds.specs.Rounds.{LeadersBelowStepDown}
 use Rattle.calm_rounds.specs.Running.{NobodyStandsIn}
 use Rattle.calm_rounds.specs.Sent.{CallersLearn}
 use Rattle.calm_rounds.proofs.CallingInTime.{call_in_time, cut_call, cut_next, end_call, next_row}
-use Rattle.calm_rounds.proofs.NobodyScene.{Course, IsKnown, StepLaws, here, is_calm, known_at, w}
+use Rattle.calm_rounds.proofs.CalmFronts.{recut}
+use Rattle.calm_rounds.proofs.NobodyScene.{Course, IsKnown, StepLaws, here, known_at, the_calm, w}
 use Rattle.calm_rounds.proofs.NobodyStands.{FirstBehind, nobody_front, nobody_rest}
 use Rattle.calm_rounds.proofs.NobodyStays.{leads_in_or_not}
 use Rattle.cluster_spec.specs.Cluster.{Cluster, after_row, after_rows, world_of}
@@ -79,7 +80,7 @@ module _ (s : Course) (callers : CallersLearn s.ids s.rows) (in_time : LeadersCa
 
     rises : server.raft_server.store.term ≤ other.server.raft_server.store.term
     rises = terms_rise s.group s.clocks s.pace m first call.front ((call.timed ∷ call.rest) ++ rest) (w s) (no_traffic s.start) (s.calm.running m in_m)
-        (is_calm s (first ++ (call.front ++ ((call.timed ∷ call.rest) ++ rest))) (cut_here ∙ append_assoc first call.front ((call.timed ∷ call.rest) ++ rest))).calm
+        (recut (the_calm s) (first ++ (call.front ++ ((call.timed ∷ call.rest) ++ rest))) (cut_here ∙ append_assoc first call.front ((call.timed ∷ call.rest) ++ rest))).calm
         server other.server up other.up.status
 
     abbrev then_w : Cluster
@@ -114,7 +115,7 @@ module _ (s : Course) (callers : CallersLearn s.ids s.rows) (in_time : LeadersCa
         (nobody_front s.group next.before (next.last ∷ next.later) then_w none_in_rest)
 
     learns : other.server.raft_server.store.term ≤ before_next.server.raft_server.store.term
-    learns = callers s.group s.clocks s.pace s.start n m a next.before (next.later ++ rest) call.timed next.last other.server before_next.server (is_calm s _ cut_then)
+    learns = callers s.group s.clocks s.pace s.start n m a next.before (next.later ++ rest) call.timed next.last other.server before_next.server (recut (the_calm s) _ cut_then)
         in_n in_m differs (subst (λ (v : Cluster). OffersCall n m v call.timed.row) (sym same) call.offers) other.up.status none_behind next.late
         (ap (λ (v : Cluster). ((after_rows (after_row v call.timed.row) (rows_in next.before)).member n).status) same ∙ before_next.runs)
 

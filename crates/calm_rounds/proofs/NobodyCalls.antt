@@ -17,7 +17,8 @@ use Rattle.calm_election.specs.Wins.{OffersVoteRequest}
 use Rattle.calm_election.proofs.WinsFronts.{part_of}
 use Rattle.calm_election.proofs.WinsStays.{in_middle}
 use Rattle.calm_rounds.specs.Sent.{IsSilentSince, WhoAsksStands}
-use Rattle.calm_rounds.proofs.NobodyScene.{Course, Stretch, by_end, cut_at, ends, ends_next, here, known_at, there, there_next, w}
+use Rattle.calm_rounds.proofs.CalmFronts.{by_end}
+use Rattle.calm_rounds.proofs.NobodyScene.{Course, Stretch, cut_at, ends, ends_next, here, known_at, the_calm, there, there_next, w}
 use Rattle.calm_rounds.proofs.NobodyWins.{asks_nobody}
 use Rattle.cluster_spec.specs.Cluster.{Cluster}
 use Rattle.cluster_spec.specs.Members.MemberStatus.{Up}
@@ -52,7 +53,7 @@ module _ (s : Course) (calls_ask : CallsAskNext) (p : Stretch s) where
       → IsSilentSince s.group since (w s) (p.first ++ a)
   is_silent asks_stands since begun unled a b e front rest timed n m split late i j differs = elim (part_of p.first a front rest timed split) [
     | inl k ↦
-        let soon = by_end s p.first (p.few ++ p.rest) p.cut timed (subst (In timed) (sym k.1) (in_middle front k.0 timed)) in
+        let soon = by_end (the_calm s) p.first (p.few ++ p.rest) p.cut timed (subst (In timed) (sym k.1) (in_middle front k.0 timed)) in
         absurd (omega (arith, soon, late, begun))
     | inr k ↦
         let cut : p.few ≡ k.0 ++ timed ∷ (rest ++ b) = e ∙ (ap (λ (l : List Timed). l ++ b) k.1 ∙ append_assoc k.0 (timed ∷ rest) b) in (

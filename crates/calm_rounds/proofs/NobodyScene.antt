@@ -1,21 +1,20 @@
 -- A calm of a group whose members may have any roles, and what is known at each front of its rows.
-use Rattle.std.proofs.Common.{◌≡◌, ℕ, ◌+◌, ◌≤◌, arith, true, List, [], ◌∷◌, ◌++◌, length, refl, sym, ◌∙◌, ap, subst}
+use Rattle.std.proofs.Common.{◌≡◌, ℕ, ◌+◌, ◌≤◌, arith, true, List, [], ◌∷◌, ◌++◌, length, sym, ◌∙◌, ap, subst}
 use Rattle.std.specs.Prelude.{nat_eq}
 use Rattle.std.proofs.lemmas.List.{append_assoc}
 use Rattle.raft_model.specs.Lists.{In}
 use Rattle.replay_text.specs.declared.row.Row.{Row}
 use Rattle.alloc_spec.specs.AllocatorState.{AllocatorState, knows_all, members_of}
 use Rattle.alloc_spec.specs.Step.{Event, step}
-use Rattle.cluster_agreement.proofs.Concatenations.{first_harmless, row_harmless}
 use Rattle.cluster_recovery.specs.Calm.{Pace, Timed, end_of, rows_in}
-use Rattle.cluster_calm.specs.Calm.{AreCalm, IsRunning, Member as OfMember, Party, no_traffic}
-use Rattle.cluster_calm.proofs.CallsKept.{GoesOn, IsKept, RunsWith, further}
+use Rattle.cluster_calm.specs.Calm.{Member as OfMember, Party}
+use Rattle.cluster_calm.proofs.CallsKept.{IsKept, RunsWith}
 use Rattle.cluster_calm.proofs.Counting.{now_after}
-use Rattle.calm_leader.proofs.Stretches.{GoesOnFrom, calm_first, calm_rest, end_both, end_last, in_between, not_before, rows_both, world_both}
+use Rattle.calm_leader.proofs.Stretches.{GoesOnFrom, calm_first, end_both, end_last, not_before, world_both}
 use Rattle.calm_rounds.specs.Running.{IsCalmOf, NobodyStandsIn, quiet_within}
+use Rattle.calm_rounds.proofs.CalmFronts.{Calm, by_end, calm_of, goes_at, goes_to, kept_at}
 use Rattle.calm_rounds.proofs.NobodyStands.{nobody_rest}
 use Rattle.cluster_spec.specs.Cluster.{Cluster, after_row, after_rows, world_of}
-use Rattle.cluster_spec.specs.Lawful.{DoNoHarm, DoesNoHarm}
 use Rattle.cluster_spec.specs.Members.MemberStatus.{Up}
 
 -- what is known of each step
@@ -55,6 +54,9 @@ known_kept laws p last = record {
   popped = λ t is. record { me = is.me; clock = is.clock; knows = is.knows };
 }
 
+abbrev pub the_calm : Course → Calm
+the_calm s = calm_of s.ids s.rows s.group s.clocks s.pace s.start s.whole s.calm
+
 module _ (s : Course) where
   abbrev pub w : Cluster
   w = world_of s.ids s.rows
@@ -62,61 +64,18 @@ module _ (s : Course) where
   abbrev pub here : List Timed → Cluster
   here front = after_rows w (rows_in front)
 
-  from_start : GoesOnFrom s.group s.clocks s.pace s.start w s.whole
-  from_start = record { traffic = no_traffic s.start; calm = s.calm.calm; at_end = refl; ticked = λ party. omega arith }
-
-  -- ---- at a front
-
-  pub goes_at : (a b : List Timed) → s.whole ≡ a ++ b → GoesOnFrom s.group s.clocks s.pace (end_of s.start a) (here a) b
-  goes_at a b cut = calm_rest s.group s.clocks s.pace a b s.start w (subst (GoesOnFrom s.group s.clocks s.pace s.start w) cut from_start)
-
-  goes_first : (a b : List Timed) → s.whole ≡ a ++ b → GoesOnFrom s.group s.clocks s.pace s.start w a
-  goes_first a b cut = calm_first s.group s.clocks s.pace a b s.start w (subst (GoesOnFrom s.group s.clocks s.pace s.start w) cut from_start)
-
-  -- rows of a front are no later than its end
-  pub by_end : (a b : List Timed) → s.whole ≡ a ++ b → (x : Timed) → In x a → x.at ≤ end_of s.start a
-  by_end a b cut x i = (in_between s.group s.clocks s.pace a s.start w (goes_first a b cut) x i).1
-
-  pub is_calm : (list : List Timed) → s.whole ≡ list → IsCalmOf s.ids s.rows s.group s.clocks s.pace s.start list
-  is_calm list cut = subst (IsCalmOf s.ids s.rows s.group s.clocks s.pace s.start) cut s.calm
-
-  pub harmless_at : (a b : List Timed) → s.whole ≡ a ++ b → DoNoHarm w (rows_in a)
-  harmless_at a b cut = first_harmless w (rows_in a) (rows_in b) (subst (DoNoHarm w) (ap rows_in cut ∙ rows_both a b) s.calm.harmless)
-
-  pub row_harm : (a b : List Timed) (x : Timed) → s.whole ≡ a ++ x ∷ b → DoesNoHarm (here a) x.row
-  row_harm a b x cut = row_harmless w (rows_in a) (rows_in b) x.row (subst (DoNoHarm w) (ap rows_in cut ∙ rows_both a (x ∷ b)) s.calm.harmless)
-
   -- a member of the group behind a front
   pub known_at : (p : ℕ) → In (OfMember p) s.group → (a b : List Timed) → s.whole ≡ a ++ b
       → RunsWith (IsKnown p (end_of s.start a + s.clocks (OfMember p))) ((here a).member p)
-  known_at p i a b cut = later.runs
-    where
-      last : ℕ
-      last = end_of s.start a + s.clocks (OfMember p)
-
-      is : IsRunning p w
-      is = s.calm.running p i
-
-      later : GoesOn (IsBy last) (IsKnown p last) (known_kept s.steps p last) s.group s.clocks s.pace p (here a) b
-      later = further (IsBy last) (IsKnown p last) (known_kept s.steps p last) s.group s.clocks s.pace p a b w
-          (λ timed j. let soon = by_end a b cut timed j in omega (arith, soon)) (record {
-            traffic = no_traffic s.start;
-            calm = subst (AreCalm s.group s.clocks s.pace (no_traffic s.start) w) cut s.calm.calm;
-            runs = record {
-              server = is.server;
-              up = record { status = is.runs; quiet = record { faults = is.faults; calls = is.disk } };
-              holds = record {
-                me = s.me p i is.server is.runs;
-                clock = let low = s.calm.clock p i is.server is.runs in
-                    let more = not_before s.group s.clocks s.pace a s.start w (goes_first a b cut) in omega (arith, low, more);
-                knows = s.calm.complete p is.server i is.runs;
-              };
-            };
-          })
-
-  abbrev pub runs_at : (p : ℕ) → In (OfMember p) s.group → (a b : List Timed) → s.whole ≡ a ++ b → IsRunning p (here a)
-  runs_at p i a b cut = let is = known_at p i a b cut in
-      record { server = is.server; runs = is.up.status; faults = is.up.quiet.faults; disk = is.up.quiet.calls }
+  known_at p i a b cut =
+      let last : ℕ = end_of s.start a + s.clocks (OfMember p) in
+      kept_at (the_calm s) p i (IsBy last) (IsKnown p last) (known_kept s.steps p last)
+      (λ t up. record {
+        me = s.me p i t up;
+        clock = let low = s.calm.clock p i t up in
+            let more = not_before s.group s.clocks s.pace a s.start w (goes_to (the_calm s) a b cut) in omega (arith, low, more);
+        knows = s.calm.complete p t i up;
+      }) a b cut (λ x j. let soon = by_end (the_calm s) a b cut x j in omega (arith, soon))
 
 -- ---- a stretch of it in which nobody stands
 
@@ -143,7 +102,7 @@ module _ (s : Course) (p : Stretch s) where
       ∙ sym (append_assoc p.first a (b ++ p.rest))))
 
   pub goes_there : (a b : List Timed) → p.few ≡ a ++ b → GoesOnFrom s.group s.clocks s.pace (ends a) (there a) (b ++ p.rest)
-  goes_there a b e = goes_at s (p.first ++ a) (b ++ p.rest) (cut_at a b e)
+  goes_there a b e = goes_at (the_calm s) (p.first ++ a) (b ++ p.rest) (cut_at a b e)
 
   pub there_next : (a : List Timed) (x : Timed) → there (a ++ x ∷ []) ≡ after_row (there a) x.row
   there_next a x = ap (here s) (sym (append_assoc p.first a (x ∷ []))) ∙ world_both (w s) (p.first ++ a) (x ∷ [])
@@ -157,7 +116,7 @@ module _ (s : Course) (p : Stretch s) where
 
   pub goes_in : (a b : List Timed) → p.few ≡ a ++ b → GoesOnFrom s.group s.clocks s.pace (end_of s.start p.first) (here s p.first) a
   goes_in a b e = calm_first s.group s.clocks s.pace a (b ++ p.rest) (end_of s.start p.first) (here s p.first)
-      (goes_at s p.first (a ++ (b ++ p.rest)) (p.cut ∙ ap (λ (l : List Timed). p.first ++ l) (ap (λ (l : List Timed). l ++ p.rest) e ∙ append_assoc a b p.rest)))
+      (goes_at (the_calm s) p.first (a ++ (b ++ p.rest)) (p.cut ∙ ap (λ (l : List Timed). p.first ++ l) (ap (λ (l : List Timed). l ++ p.rest) e ∙ append_assoc a b p.rest)))
 
   pub nobody_there : (a b : List Timed) (x : Timed) → p.few ≡ a ++ x ∷ b → NobodyStandsIn s.group (there a) (x ∷ b)
   nobody_there a b x e = subst (λ (v : Cluster). NobodyStandsIn s.group v (x ∷ b)) (sym (world_both (w s) p.first a))

@@ -12,7 +12,8 @@ use Rattle.calm_election.specs.Wins.{OffersVoteRequest}
 use Rattle.calm_election.proofs.WinsFronts.{part_of}
 use Rattle.calm_election.proofs.WinsStays.{in_middle}
 use Rattle.calm_rounds.specs.Sent.{HasAsked, WhoAsksStands, WhoWinsHasAsked}
-use Rattle.calm_rounds.proofs.NobodyScene.{Course, Stretch, by_end, cut_at, ends, ends_next, here, is_calm, nobody_there, not_early, row_harm, there, there_next, w}
+use Rattle.calm_rounds.proofs.CalmFronts.{by_end, harm_row, recut}
+use Rattle.calm_rounds.proofs.NobodyScene.{Course, Stretch, cut_at, ends, ends_next, here, nobody_there, not_early, the_calm, there, there_next, w}
 use Rattle.calm_rounds.proofs.NobodyStays.{leads_some_or_not, one_term}
 use Rattle.cluster_spec.specs.Cluster.{Cluster}
 
@@ -25,7 +26,7 @@ module _ (s : Course) (asks_stands : WhoAsksStands s.ids s.rows) (p : Stretch s)
       → OffersVoteRequest n m (there s p a) x.row → ⊥
   asks_nobody a b x e late n m i j asks =
       let settled = p.settled in
-      let stands = asks_stands s.group s.clocks s.pace s.start n m (p.first ++ a) (b ++ p.rest) x (is_calm s _ (cut_at s p a (x ∷ b) e)) i j
+      let stands = asks_stands s.group s.clocks s.pace s.start n m (p.first ++ a) (b ++ p.rest) x (recut (the_calm s) _ (cut_at s p a (x ∷ b) e)) i j
       (omega (arith, settled, late)) asks in
       (nobody_there s p a b x e).0 n stands.0 i stands.1
 
@@ -35,7 +36,7 @@ module _ (s : Course) (asks_stands : WhoAsksStands s.ids s.rows) (p : Stretch s)
         → LeadsNotIfUp n (there s p a) → LeadsNotIfUp n (there s p (a ++ x ∷ []))
     wins_not a b x e late n i off server up leads = elim (part_of p.first a h.front h.rest h.timed h.split) [
       | inl k ↦
-          let soon = by_end s p.first (p.few ++ p.rest) p.cut h.timed (subst (In h.timed) (sym k.1) (in_middle h.front k.0 h.timed)) in
+          let soon = by_end (the_calm s) p.first (p.few ++ p.rest) p.cut h.timed (subst (In h.timed) (sym k.1) (in_middle h.front k.0 h.timed)) in
           let lately = h.lately in absurd (omega (arith, soon, lately, late))
       | inr k ↦ asks_nobody k.0 (h.rest ++ x ∷ b) h.timed (e ∙ (ap (λ (l : List Timed). l ++ x ∷ b) k.1 ∙ append_assoc k.0 (h.timed ∷ h.rest) (x ∷ b)))
           (let lately = h.lately in omega (arith, lately, late)) n h.m i h.member
@@ -43,7 +44,7 @@ module _ (s : Course) (asks_stands : WhoAsksStands s.ids s.rows) (p : Stretch s)
     ]
       where
         h : HasAsked s.group n server.raft_server.store.term x.at (4 * s.pace.delay) (w s) (p.first ++ a)
-        h = wins_asked s.group s.clocks s.pace s.start n (p.first ++ a) (b ++ p.rest) x server (is_calm s _ (cut_at s p a (x ∷ b) e)) i off
+        h = wins_asked s.group s.clocks s.pace s.start n (p.first ++ a) (b ++ p.rest) x server (recut (the_calm s) _ (cut_at s p a (x ∷ b) e)) i off
             (ap (λ (v : Cluster). (v.member n).status) (sym (there_next s p a x)) ∙ up) leads
 
     -- a front with one row more ends late too
@@ -77,7 +78,7 @@ module _ (s : Course) (asks_stands : WhoAsksStands s.ids s.rows) (p : Stretch s)
                 runs = still.1.runs;
                 leads = still.1.leads;
                 its_term = one_term (there s p a) x.row n on.server still.1.server
-                    (row_harm s (p.first ++ a) ((list ++ b) ++ p.rest) x (cut_at s p a (x ∷ (list ++ b)) e)) on.runs
+                    (harm_row (the_calm s) (p.first ++ a) ((list ++ b) ++ p.rest) x (cut_at s p a (x ∷ (list ++ b)) e)) on.runs
                     (ap (λ (v : Cluster). (v.member n).status) (sym (there_next s p a x)) ∙ still.1.runs) on.leads still.1.leads ∙ on.its_term;
               }))
         ]

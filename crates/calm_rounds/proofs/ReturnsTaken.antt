@@ -15,30 +15,33 @@ use Rattle.alloc_spec.specs.Step.{Event, step}
 use Rattle.alloc_spec.specs.Transfers.{Offer, has_room}
 use Rattle.alloc_spec_laws.specs.Apart.{AreAllApart, AreApart}
 use Rattle.cluster_recovery.specs.Calm.{Timed, end_of, rows_in}
+use Rattle.cluster_recovery.proofs.Goes.{after_both}
 use Rattle.calm_leader.specs.Answers.{AnswersAreTaken, AnswersCall, TakesAnswer, WaitsForAnswer, answer_by, asked_by}
 use Rattle.calm_leader.specs.CallsAsk.{AsksNext, next_request}
 use Rattle.calm_leader.specs.CallsComeBack.{ComesBack, HasPlace, IsTakenBy}
+use Rattle.calm_leader.specs.Entries.{PendsSince}
 use Rattle.calm_leader.specs.EntriesBelow.{EntryLaws}
 use Rattle.calm_leader.specs.LeadsOn.{LeadsIn}
 use Rattle.calm_leader.proofs.EntriesParts.{rows_counted}
-use Rattle.calm_leader.proofs.EntriesSteps.{Knows, longer, step_knows, still_left}
+use Rattle.calm_leader.proofs.EntriesSteps.{Knows, Leads, longer, step_knows, still_left}
 use Rattle.calm_leader.proofs.RowsOfOne.{stepped_up}
 use Rattle.calm_leader.proofs.Stretches.{throughout_at, world_both}
 use Rattle.calm_rounds.proofs.CallingInTime.{cut_next, next_row}
-use Rattle.calm_rounds.proofs.CallingKept.{AreOurs, AtIt, IsNear, cut_at, goes_on, inside_at, its_request, leads_at, near_stays, next_world, ours_stay, world_at}
+use Rattle.calm_rounds.proofs.CallingKept.{Near, cut_at, inside_at, leads_at, near_on, pends_on}
+use Rattle.calm_rounds.proofs.CalmFronts.{harm_front, harm_row, recut, running_at}
 use Rattle.calm_rounds.proofs.LeadsFronts.{leader_stands_not}
 use Rattle.calm_rounds.proofs.LearnsBack.{StandsNot}
 use Rattle.calm_rounds.proofs.LearnsCallers.{ReplyIsTaken, one_answer, reply_is_taken, reply_longer}
-use Rattle.calm_rounds.proofs.LearnsCalls.{answer_fits}
+use Rattle.calm_leader.proofs.AnswersOffered.{answer_fits}
 use Rattle.calm_rounds.proofs.LearnsGrounds.{Grounds}
 use Rattle.calm_rounds.proofs.LearnsTakes.{least_term}
-use Rattle.calm_rounds.proofs.NobodyScene.{Course, harmless_at, here, is_calm, known_at, row_harm, runs_at, w}
+use Rattle.calm_rounds.proofs.NobodyScene.{Course, here, known_at, the_calm, w}
 use Rattle.calm_rounds.proofs.NobodyStands.{FirstBehind}
 use Rattle.cluster_calm.specs.Calls.{ReadsAsSaid}
 use Rattle.cluster_calm.specs.Calm.{IsRunning, Member as OfMember, no_traffic}
 use Rattle.cluster_calm.specs.Comes.{Delivers, Sends, Throughout, sent_by}
 use Rattle.cluster_calm.proofs.Pair.{same_event, same_server}
-use Rattle.cluster_spec.specs.Cluster.{Cluster, after_row, after_rows, receipt_of, step_of}
+use Rattle.cluster_spec.specs.Cluster.{Cluster, after_row, after_rows, cluster, receipt_of, step_of}
 use Rattle.cluster_spec.specs.Lawful.{DoesNoHarm}
 use Rattle.cluster_spec.specs.Members.MemberStatus.{Up}
 
@@ -46,6 +49,9 @@ use Rattle.cluster_spec.specs.Members.MemberStatus.{Up}
 
 pub one_request : (a b : Request) → ◌≡◌ {A = Option Message} (Some (Requests a)) (Some (Requests b)) → a ≡ b
 one_request a b e = cc e
+
+its_request : (a b : Request) → Some a ≡ Some b → a ≡ b
+its_request a b e = cc e
 
 -- of transfers that are apart, two that fitted, of one kind and to one node, are one
 one_of : (offers : List Offer) → AreAllApart offers → (p q : Offer) → In p offers → In q offers → p.fitted ≡ true → q.fitted ≡ true → p.what ≡ q.what → p.to ≡ q.to
@@ -127,7 +133,7 @@ module _ (s : Course) (g : Grounds s.ids s.rows) (laws : EntryLaws s.ids s.rows)
   reply = reply_longer n m (sent_by n (here s k.front) k.offer) k.timed.at s.pace.delay (k.timed.at + s.clocks (OfMember n)) then_w
       next.before (next.last ∷ next.later) k.early next.split
       (reply_is_taken s.ids s.rows g s.group s.clocks s.pace s.start n m k.front next.before (next.later ++ k.rest) k.timed next.last
-      (is_calm s (k.front ++ k.timed ∷ (next.before ++ next.last ∷ (next.later ++ k.rest))) cut_then) in_n in_m apart k.offer k.sends k.what k.to
+      (recut (the_calm s) (k.front ++ k.timed ∷ (next.before ++ next.last ∷ (next.later ++ k.rest))) cut_then) in_n in_m apart k.offer k.sends k.what k.to
       (nobody_before next.before (next.last ∷ next.later) next.split) next.late)
 
   -- ---- behind the row of the call
@@ -139,14 +145,15 @@ module _ (s : Course) (g : Grounds s.ids s.rows) (laws : EntryLaws s.ids s.rows)
   called_up = (stepped_up (here s k.front) n k.sends.server
       (record { status = k.sends.runs; quiet = (known_at s n in_n k.front (k.timed ∷ (k.early ++ k.rest)) k.cut).up.quiet }) k.timed.row k.sends.event k.sends.in_step).status
 
-  pub called_then : ((here s (upto ++ [])).member n).status ≡ Up called
-  called_then = ap (λ (v : Cluster). (v.member n).status) (world_then []) ∙ called_up
+  called_then : ((here s upto).member n).status ≡ Up called
+  called_then = ap (λ (v : Cluster). (v.member n).status) (world_both (w s) k.front (k.timed ∷ [])) ∙ called_up
 
   pub asks : AsksNext m ((here s k.front).rows + 1) k.offer called
   asks = laws.ask k.sends.server ((here s k.front).rows + 1) k.sends.event m k.offer k.sends.offered k.what k.to k.sends.fitted
 
   pub called_term : called.raft_server.store.term ≡ term
-  called_term = (leads_at s laws n m term in_n upto k.early k.rest cut_behind k.led [] k.early refl called called_then).1
+  called_term = (leads_at s n term in_n upto k.early k.rest cut_behind k.led [] k.early refl called
+      (ap (λ (v : Cluster). (v.member n).status) (world_then []) ∙ called_up)).1
 
   request_is : reply.request ≡ next_request m ((here s k.front).rows + 1) called
   request_is = one_request _ _ (sym reply.asked ∙ asks.says)
@@ -176,7 +183,8 @@ module _ (s : Course) (g : Grounds s.ids s.rows) (laws : EntryLaws s.ids s.rows)
   taking_is = world_then between ∙ world_both then_w reply.front (reply.heard ∷ reply.between)
 
   taken_is : here s (upto ++ (between ++ reply.taken ∷ [])) ≡ after_row taking reply.taken.row
-  taken_is = next_world s laws n m term in_n upto k.early k.rest cut_behind k.led between reply.taken ∙ ap (λ (v : Cluster). after_row v reply.taken.row) taking_is
+  taken_is = world_then (between ++ reply.taken ∷ []) ∙ (world_both then_w between (reply.taken ∷ [])
+      ∙ ap (λ (v : Cluster). after_row v reply.taken.row) (world_both then_w reply.front (reply.heard ∷ reply.between)))
 
   abbrev pub before : AllocatorState
   before = reply.delivers.server
@@ -197,17 +205,17 @@ module _ (s : Course) (g : Grounds s.ids s.rows) (laws : EntryLaws s.ids s.rows)
   after_up = ap (λ (v : Cluster). (v.member n).status) taken_is ∙ reply.runs_then
 
   pub leads_before : (before.raft_server.memory.role ≡ Leader) × (before.raft_server.store.term ≡ term)
-  leads_before = leads_at s laws n m term in_n upto k.early k.rest cut_behind k.led between (reply.taken ∷ reply.last) part_take before before_up
+  leads_before = leads_at s n term in_n upto k.early k.rest cut_behind k.led between (reply.taken ∷ reply.last) part_take before before_up
 
   pub leads_after : (after.raft_server.memory.role ≡ Leader) × (after.raft_server.store.term ≡ term)
-  leads_after = leads_at s laws n m term in_n upto k.early k.rest cut_behind k.led (between ++ reply.taken ∷ []) reply.last part_taken after after_up
+  leads_after = leads_at s n term in_n upto k.early k.rest cut_behind k.led (between ++ reply.taken ∷ []) reply.last part_taken after after_up
 
   -- ---- the call is answered
 
   pub reads : ReadsAsSaid (sent_by n (here s k.front) k.offer)
-  reads = subst CallsReadIn (world_at s laws n m term in_n upto k.early k.rest cut_behind k.led k.front)
-      (laws.read (rows_in k.front) (harmless_at s k.front (k.timed ∷ (k.early ++ k.rest)) k.cut))
-      n k.timed.row k.offer (row_harm s k.front (k.early ++ k.rest) k.timed k.cut) (runs_at s n in_n k.front (k.timed ∷ (k.early ++ k.rest)) k.cut) k.sends k.what
+  reads = subst CallsReadIn (after_both (cluster s.ids) s.rows (rows_in k.front))
+      (laws.read (rows_in k.front) (harm_front (the_calm s) k.front (k.timed ∷ (k.early ++ k.rest)) k.cut))
+      n k.timed.row k.offer (harm_row (the_calm s) k.front (k.early ++ k.rest) k.timed k.cut) (running_at (the_calm s) n in_n k.front (k.timed ∷ (k.early ++ k.rest)) k.cut) k.sends k.what
 
   said_is : reply.request ≡ handled.append_request_of reads.request (sent_by n (here s k.front) k.offer).step n k.offer.to
   said_is = one_request _ _ (sym reply.asked ∙ reads.said)
@@ -223,7 +231,7 @@ module _ (s : Course) (g : Grounds s.ids s.rows) (laws : EntryLaws s.ids s.rows)
 
   -- the front before the row in which the call is heard
   cut_heard : s.whole ≡ (upto ++ reply.front) ++ reply.heard ∷ (behind_heard ++ k.rest)
-  cut_heard = cut_at s laws n m term in_n upto k.early k.rest cut_behind k.led reply.front (reply.heard ∷ behind_heard) reply.split
+  cut_heard = cut_at s n term in_n upto k.early k.rest cut_behind k.led reply.front (reply.heard ∷ behind_heard) reply.split
 
   heard_up : ((here s (upto ++ reply.front)).member m).status ≡ Up d.server
   heard_up = ap (λ (v : Cluster). (v.member m).status) (world_then reply.front) ∙ d.runs
@@ -234,7 +242,7 @@ module _ (s : Course) (g : Grounds s.ids s.rows) (laws : EntryLaws s.ids s.rows)
 
   listed : In n (members_of d.server)
   listed = laws.stay s.group s.clocks s.pace (no_traffic s.start) m n (upto ++ reply.front) (reply.heard ∷ (behind_heard ++ k.rest)) (w s) (s.calm.running m in_m)
-      (is_calm s _ cut_heard).calm (s.calm.exchange n m in_n in_m apart).hears_it d.server heard_up
+      (recut (the_calm s) _ cut_heard).calm (s.calm.exchange n m in_n in_m apart).hears_it d.server heard_up
 
   place : HasPlace m (here s (upto ++ reply.front))
   place = throughout_at (HasPlace m) (upto ++ reply.front) (behind_heard ++ k.rest) reply.heard (w s)
@@ -335,7 +343,7 @@ module _ (s : Course) (g : Grounds s.ids s.rows) (laws : EntryLaws s.ids s.rows)
       by (inl high) = absurd (let own = leads_after.1 in omega (arith, high, own))
       by (inr l) = longer m term 0 before.raft_server.store.log left over after.raft_server l
 
-  near_after : IsNear s laws n m term in_n upto k.early k.rest cut_behind k.led (after.raft_server.memory.next m) after.raft_server
+  near_after : Leads m term 0 [] (after.raft_server.memory.next m) 0 after.raft_server
   near_after = record {
     its_term = leads_after.1;
     leads = leads_after.0;
@@ -343,48 +351,32 @@ module _ (s : Course) (g : Grounds s.ids s.rows) (laws : EntryLaws s.ids s.rows)
     few = omega arith;
     near = let near = near_by got.success (before.raft_server.memory.next m) (before.raft_server.memory.matched m) (reach got.request) (length before.raft_server.store.log)
         (after.raft_server.memory.next m) (after.raft_server.memory.matched m) (length after.raft_server.store.log) takes_got.next takes_got.matched
-        (inside_at s laws n m term in_n upto k.early k.rest cut_behind k.led between (reply.taken ∷ reply.last) part_take before before_up).1 grown in omega (arith, near);
+        (inside_at s n term in_n upto k.early k.rest cut_behind k.led laws m between (reply.taken ∷ reply.last) part_take before before_up).1 grown in omega (arith, near);
     more = after.raft_server.store.log;
     log_is = refl;
   }
 
-  abbrev Near : List Timed → Type 0
-  Near = AtIt s laws n m term in_n upto k.early k.rest cut_behind k.led (IsNear s laws n m term in_n upto k.early k.rest cut_behind k.led (after.raft_server.memory.next m))
+  near_last : Near s n term in_n upto k.early k.rest cut_behind k.led laws m (after.raft_server.memory.next m) k.early
+  near_last = near_on s n term in_n upto k.early k.rest cut_behind k.led laws m (after.raft_server.memory.next m) (between ++ reply.taken ∷ []) reply.last part_taken
+      (λ u up. subst (λ (a : AllocatorState). Leads m term 0 [] (after.raft_server.memory.next m) 0 a.raft_server) (same_server after u (sym after_up ∙ up)) near_after)
 
-  near_taken : Near (between ++ reply.taken ∷ [])
-  near_taken u up = subst (λ (a : AllocatorState). IsNear s laws n m term in_n upto k.early k.rest cut_behind k.led (after.raft_server.memory.next m) a.raft_server)
-      (same_server after u (sym after_up ∙ up)) near_after
-
-  near_last : Near k.early
-  near_last = subst Near (sym part_taken)
-      (goes_on s laws n m term in_n upto k.early k.rest cut_behind k.led (IsNear s laws n m term in_n upto k.early k.rest cut_behind k.led (after.raft_server.memory.next m))
-      (near_stays s laws n m term in_n upto k.early k.rest cut_behind k.led (after.raft_server.memory.next m)) reply.last (between ++ reply.taken ∷ []) []
-      (part_taken ∙ sym (append-nil ((between ++ reply.taken ∷ []) ++ reply.last))) near_taken)
-
-  abbrev Ours : List Timed → Type 0
-  Ours = AtIt s laws n m term in_n upto k.early k.rest cut_behind k.led (AreOurs m term (here s k.front).rows)
-
-  ours_called : Ours []
-  ours_called t up asked pends =
+  since_called : PendsSince n m (here s k.front).rows (here s upto)
+  since_called t asked up pends =
       let same = same_server called t (sym called_then ∙ up) in
       let is : asked ≡ next_request m ((here s k.front).rows + 1) called
       = its_request asked _ (sym pends ∙ (ap (λ (a : AllocatorState). a.raft_server.memory.pending m) (sym same) ∙ asks.pending)) in
       let its_number = ap (λ (r : Request). r.step) is in
-      (omega (arith, its_number), ap (λ (r : Request). r.term) is ∙ called_term)
-
-  front_is_low : (here s k.front).rows ≤ (here s upto).rows
-  front_is_low =
-      let all = rows_counted (w s) upto in
-      let some = rows_counted (w s) k.front in
-      let both = length-append k.front (k.timed ∷ []) in omega (arith, all, some, both)
-
-  ours_last : Ours k.early
-  ours_last = goes_on s laws n m term in_n upto k.early k.rest cut_behind k.led (AreOurs m term (here s k.front).rows) (ours_stay s laws n m term in_n upto k.early k.rest cut_behind k.led (here s k.front).rows front_is_low) k.early [] [] (sym (append-nil k.early)) ours_called
+      omega (arith, its_number)
 
   -- each call that pends was made in the row of this call, or behind it
   pub pends_since : (u : AllocatorState) (asked : Request) → ((here s (upto ++ k.early)).member n).status ≡ Up u → u.raft_server.memory.pending m ≡ Some asked
       → (here s k.front).rows < asked.step
-  pends_since u asked up pends = (ours_last u up asked pends).0
+  pends_since u asked up pends =
+      let all = rows_counted (w s) upto in
+      let some = rows_counted (w s) k.front in
+      let both = length-append k.front (k.timed ∷ []) in
+      pends_on s n term in_n upto k.early k.rest cut_behind k.led laws m (here s k.front).rows (omega (arith, some)) (omega (arith, all, some, both)) since_called
+      u asked up pends
 
   -- and the next call begins no further on than the log, and what is known
   pub next_is_near : (u : AllocatorState) → ((here s (upto ++ k.early)).member n).status ≡ Up u

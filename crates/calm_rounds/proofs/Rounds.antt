@@ -20,9 +20,10 @@ use Rattle.calm_election.proofs.WinsFronts.{Longest, longest}
 use Rattle.calm_rounds.specs.Rounds.{LeadersCome, SomebodyStandsOrLeads, StandsFirst, led_within, stand_within, step_within}
 use Rattle.calm_rounds.specs.Running.{IsLedBy, NobodyStandsIn, quiet_within}
 use Rattle.calm_rounds.specs.Sent.{StandersLearn}
+use Rattle.calm_rounds.proofs.CalmFronts.{end_before, goes_at, harm_front}
 use Rattle.calm_rounds.proofs.InStep.{who_stands_at_the_top}
 use Rattle.calm_rounds.proofs.InStepApart.{apart}
-use Rattle.calm_rounds.proofs.InStepFronts.{calm_at, ends_rise, goes_from, harmless, next_cut, not_sooner, runs_at, term_rises, there, there_both, there_more, w0}
+use Rattle.calm_rounds.proofs.InStepFronts.{calm_at, ends_rise, next_cut, runs_at, term_rises, the_calm, there, there_both, there_more, w0}
 use Rattle.calm_rounds.proofs.InStepGiven.{Given, Ground}
 use Rattle.calm_rounds.proofs.InStepScene.{IsLedFrom}
 use Rattle.calm_rounds.proofs.InStepWalk.{led_from, led_later}
@@ -46,7 +47,7 @@ module _ (g : Ground) where
       → NobodyStandsAbove g.group top (there g front) few → AreWithin g.group top (there g (front ++ few))
   stay top front few rest cut within none = subst (AreWithin g.group top) (sym (there_both g front few))
       (g.given.terms g.group g.clocks g.pace g.start top front few rest g.calm.listed g.calm.running g.calm.others
-      (calm_at g front (few ++ rest) (cut ∙ append_assoc front few rest)).calm (harmless g (front ++ few) rest cut) within none)
+      (calm_at g front (few ++ rest) (cut ∙ append_assoc front few rest)).calm (harm_front (the_calm g) (front ++ few) rest cut) within none)
 
   -- a member in whose term no other one of these parties is above
   pub record Highest (front : List Timed) (list : List Party) : Type 0 where
@@ -259,7 +260,7 @@ module _ (g : Ground) where
 
             later : g.start + quiet_within g.pace + 8 * g.pace.delay < f.timed.at
             later =
-                let a = not_sooner g (front ++ f.front) f.rest f.timed cut_row in
+                let a = end_before (the_calm g) (front ++ f.front) f.rest f.timed cut_row in
                 let b = ends_rise g front f.front (f.timed ∷ f.rest) cut_row in omega (arith, a, b, late)
 
     rounds : (k : ℕ) (left : List ℕ) (front rest : List Timed) → Window left top front → length left ≤ k → g.whole ≡ front ++ rest
@@ -300,7 +301,7 @@ module _ (g : Ground) where
 
       near : next.at ≤ g.start + quiet_within g.pace + 8 * g.pace.delay + g.pace.period
       near =
-          let goes = goes_from g old.front (next ∷ more) cut_old in
+          let goes = goes_at (the_calm g) old.front (next ∷ more) cut_old in
           let a = goes.calm.0.ticks (OfMember some.0) some.1 in
           let b = goes.ticked (OfMember some.0) in
           let c = old.soon in omega (arith, a, b, c)

@@ -22,9 +22,10 @@ use Rattle.calm_election.proofs.WinsStays.{in_middle}
 use Rattle.calm_rounds.specs.Rounds.{LeadersBelowStepDown, SomebodyStandsOrLeads, StandsFirst, WhoLeadsAtTheTop, stand_within}
 use Rattle.calm_rounds.specs.Running.{IsLedBy, NobodyStandsIn, quiet_within}
 use Rattle.calm_rounds.specs.Sent.{NothingChangesInSilence, WhoAsksStands, WhoWinsHasAsked}
+use Rattle.calm_rounds.proofs.CalmFronts.{goes_at, recut, running_at}
 use Rattle.calm_rounds.proofs.NobodyBelow.{Stops}
 use Rattle.calm_rounds.proofs.NobodyCalls.{UnledSince}
-use Rattle.calm_rounds.proofs.NobodyScene.{Course, StepLaws, Stretch, behind, cut_at, ends, ends_next, goes_at, here, is_calm, not_back, runs_at, same_end, there, there_both, w}
+use Rattle.calm_rounds.proofs.NobodyScene.{Course, StepLaws, Stretch, behind, cut_at, ends, ends_next, here, not_back, same_end, the_calm, there, there_both, w}
 use Rattle.calm_rounds.proofs.NobodyStands.{FirstBehind, OneStandsFirst, first_behind, first_or_nobody, nobody_front}
 use Rattle.calm_rounds.proofs.NobodyStays.{leads_some_or_not}
 use Rattle.calm_rounds.proofs.NobodyWins.{off_on, on_or_off}
@@ -68,7 +69,7 @@ module _ (s : Course) (laws : StandLaws s.ids s.rows (w s)) (k : ℕ) (in_k : In
   next : (q : Stretch s) (bound : ℕ) → end_of s.start q.first ≤ bound → bound < end_of (end_of s.start q.first) q.few
       → FirstBehind s.pace bound (end_of s.start q.first) q.few
   next q bound low high = first_behind s.group s.clocks s.pace k in_k bound q.few q.rest (end_of s.start q.first) (here s q.first)
-      (goes_at s q.first (q.few ++ q.rest) q.cut) low high
+      (goes_at (the_calm s) q.first (q.few ++ q.rest) q.cut) low high
 
   module _ (long : from + stand_within s.pace < final + s.pace.period) where
     -- ---- when the answers of the last election have come
@@ -95,7 +96,7 @@ module _ (s : Course) (laws : StandLaws s.ids s.rows (w s)) (k : ℕ) (in_k : In
     end1 = same_end s p a1 e1.later cut1
 
     abbrev top : HasTop s.group (there s p a1)
-    top = highest s.group (there s p a1) k in_k (λ q i. runs_at s q i (p.first ++ a1) (e1.later ++ p.rest) (cut_at s p a1 e1.later cut1))
+    top = highest s.group (there s p a1) k in_k (λ q i. running_at (the_calm s) q i (p.first ++ a1) (e1.later ++ p.rest) (cut_at s p a1 e1.later cut1))
 
     abbrev highest_term : ℕ
     highest_term = top.server.raft_server.store.term
@@ -104,7 +105,7 @@ module _ (s : Course) (laws : StandLaws s.ids s.rows (w s)) (k : ℕ) (in_k : In
 
     module _ (n : ℕ) (in_n : In (OfMember n) s.group) (leads : LeadsIn n highest_term (there s p a1)) (last : ℕ) (soon : final ≤ last) where
       abbrev r : IsLedBy s.group s.clocks s.pace (ends s p a1) (end_of (ends s p a1) e1.later) (there s p a1) (e1.later ++ p.rest)
-      r = laws.lead_at_top s.group s.clocks s.pace s.start n highest_term (p.first ++ a1) e1.later p.rest (is_calm s _ (cut_at s p a1 e1.later cut1)) in_n
+      r = laws.lead_at_top s.group s.clocks s.pace s.start n highest_term (p.first ++ a1) e1.later p.rest (recut (the_calm s) _ (cut_at s p a1 e1.later cut1)) in_n
           leads top.within p1.nobody (let early = soon1 in let e = end1 in omega (arith, early, e, long))
 
       moved : end_of from (a1 ++ r.front) ≡ end_of (ends s p a1) r.front
@@ -149,7 +150,7 @@ module _ (s : Course) (laws : StandLaws s.ids s.rows (w s)) (k : ℕ) (in_k : In
       -- who led below the top stops, and does not lead again
       stopped : (n term : ℕ) → In (OfMember n) s.group → LeadsIn n term (there s p a1) → LeadsNotIfUp n (there s p (a1 ++ a2))
       stopped n term i leads = by (laws.step_down s.group s.clocks s.pace s.start n top.c term (p.first ++ a1) a2 (e2.later ++ p.rest) top.server
-          (is_calm s _ whole2) i top.member top.runs below (nobody_front s.group a2 e2.later (there s p a1)
+          (recut (the_calm s) _ whole2) i top.member top.runs below (nobody_front s.group a2 e2.later (there s p a1)
           (subst (NobodyStandsIn s.group (there s p a1)) cut2 p1.nobody))
           (let is = end_last (ends s p a1) e2.before e2.last in let late = e2.late in omega (arith, is, late)))
         where
@@ -266,10 +267,10 @@ module _ (s : Course) (laws : StandLaws s.ids s.rows (w s)) (first later : List 
   one = some_member s.group s.ids _ (omega arith) s.calm.many
 
   goes : GoesOnFrom s.group s.clocks s.pace moment (here s first) later
-  goes = goes_at s first later cut
+  goes = goes_at (the_calm s) first later cut
 
   running : AreRunning s.group (here s first)
-  running n i = runs_at s n i first later cut
+  running n i = running_at (the_calm s) n i first later cut
 
   -- the first row that is too late
   abbrev l : FirstBehind s.pace last moment later

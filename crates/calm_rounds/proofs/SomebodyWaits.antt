@@ -31,8 +31,9 @@ use Rattle.calm_election.proofs.WaitsTicks.{tick_leaves}
 use Rattle.calm_election.proofs.WinsFronts.{part_of}
 use Rattle.calm_election.proofs.WinsStays.{in_middle}
 use Rattle.calm_rounds.specs.Sent.{IsAsItWas, NothingChangesInSilence, WhoAsksStands}
+use Rattle.calm_rounds.proofs.CalmFronts.{harm_front, is_running, recut}
 use Rattle.calm_rounds.proofs.NobodyCalls.{UnledSince, is_silent}
-use Rattle.calm_rounds.proofs.NobodyScene.{Course, IsKnown, Stretch, cut_at, ends, goes_there, harmless_at, here, is_calm, known_at, nobody_there, runs_at, there, w}
+use Rattle.calm_rounds.proofs.NobodyScene.{Course, IsKnown, Stretch, cut_at, ends, goes_there, here, known_at, nobody_there, the_calm, there, w}
 use Rattle.cluster_spec.specs.Cluster.{Cluster, after_rows, cluster, world_of}
 use Rattle.cluster_spec.specs.Lawful.{DoNoHarm}
 use Rattle.cluster_spec.specs.Members.MemberStatus.{Up}
@@ -105,10 +106,10 @@ module _ (s : Course) (asks_stands : WhoAsksStands s.ids s.rows) (nothing : Noth
 
   waits_here : WaitsIn s.ids v
   waits_here = subst (WaitsIn s.ids) (after_both (cluster s.ids) s.rows (rows_in (p.first ++ a)))
-      (waits (rows_in (p.first ++ a)) (harmless_at s (p.first ++ a) (b ++ p.rest) whole_cut))
+      (waits (rows_in (p.first ++ a)) (harm_front (the_calm s) (p.first ++ a) (b ++ p.rest) whole_cut))
 
   stands_by : StandsBy k (due + s.pace.period) v (b ++ p.rest)
-  stands_by = waits_here s.group s.clocks s.pace goes.traffic k due (b ++ p.rest) (runs_at s k in_k (p.first ++ a) (b ++ p.rest) whole_cut)
+  stands_by = waits_here s.group s.clocks s.pace goes.traffic k due (b ++ p.rest) (is_running k v run)
       (s.calm.listed k in_k) in_k s.calm.others run.holds.knows
       (unled a b cut (let q = quiet in omega (arith, q)) k in_k run.server run.up.status) left goes.calm
       (let low = past in let clock = run.holds.clock in
@@ -156,7 +157,7 @@ module _ (s : Course) (asks_stands : WhoAsksStands s.ids s.rows) (nothing : Noth
       where
         as_it_was : IsAsItWas anew.before anew.after
         as_it_was = nothing s.group s.clocks s.pace s.start since k (p.first ++ f) (tail ++ p.rest) stands_by.timed anew.before anew.after
-            (is_calm s _ (cut_at s p f (stands_by.timed ∷ tail) its_cut)) in_k late
+            (recut (the_calm s) _ (cut_at s p f (stands_by.timed ∷ tail) its_cut)) in_k late
             (is_silent s calls_ask p asks_stands since begun unled f (stands_by.timed ∷ tail) its_cut) anew.runs anew.runs_then
             (unled_here anew.before anew.runs) stands_not
 

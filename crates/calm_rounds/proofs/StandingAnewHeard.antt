@@ -9,7 +9,7 @@ use Rattle.calm_election.specs.Wins.{WhoStandsIsHeard}
 use Rattle.calm_leader.proofs.Stretches.{GoesOnFrom, end_both, end_last, in_between, not_before}
 use Rattle.calm_rounds.specs.Running.{IsCalmOf}
 use Rattle.calm_rounds.specs.Sent.{StandersAreHeard}
-use Rattle.calm_rounds.proofs.StandingAnewRows.{at, goes_from}
+use Rattle.calm_rounds.proofs.CalmFronts.{Calm, at, calm_of, goes_at}
 use Rattle.cluster_calm.specs.Calm.{Member as OfMember, Party}
 use Rattle.cluster_recovery.specs.Calm.{Pace, Timed, end_of, rows_in}
 use Rattle.cluster_spec.specs.Cluster.{after_row, after_rows, world_of}
@@ -19,17 +19,20 @@ use Rattle.cluster_spec.specs.Members.MemberStatus.{Up}
 
 module _ (ids : List ℕ) (rows : List Row) (group : List Party) (clocks : Party → ℕ) (pace : Pace) (start : ℕ) (whole : List Timed)
     (calm : IsCalmOf ids rows group clocks pace start whole) (first late : List Timed) (moment : ℕ) (e : whole ≡ first ++ late) (end_is : end_of start first ≡ moment) where
-  goes : GoesOnFrom group clocks pace moment (at ids rows group clocks pace start whole calm first) late
-  goes = subst (λ (m : ℕ). GoesOnFrom group clocks pace m (at ids rows group clocks pace start whole calm first) late) end_is
-      (goes_from ids rows group clocks pace start whole calm first late e)
+  abbrev cut_calm : Calm
+  cut_calm = calm_of ids rows group clocks pace start whole calm
+
+  goes : GoesOnFrom group clocks pace moment (at cut_calm first) late
+  goes = subst (λ (m : ℕ). GoesOnFrom group clocks pace m (at cut_calm first) late) end_is
+      (goes_at cut_calm first late e)
 
   -- they come no earlier than the front ends
   pub no_earlier : (x : Timed) → In x late → moment ≤ x.at
-  no_earlier x i = (in_between group clocks pace late moment (at ids rows group clocks pace start whole calm first) goes x i).0
+  no_earlier x i = (in_between group clocks pace late moment (at cut_calm first) goes x i).0
 
   -- nor end earlier
   pub ends_later : moment ≤ end_of moment late
-  ends_later = not_before group clocks pace late moment (at ids rows group clocks pace start whole calm first) goes
+  ends_later = not_before group clocks pace late moment (at cut_calm first) goes
 
 -- ---- who stands is heard
 

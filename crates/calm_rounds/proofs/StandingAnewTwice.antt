@@ -14,7 +14,7 @@ use Rattle.calm_election.proofs.WaitsTicks.{tick_leaves}
 use Rattle.calm_election.proofs.WinsScene.{NoLater}
 use Rattle.calm_leader.proofs.RowsOfOne.{stepped_up}
 use Rattle.calm_rounds.specs.Running.{IsCalmOf}
-use Rattle.calm_rounds.proofs.StandingAnewRows.{at, at_more, before_row, clock_low, end_before, goes_from, kept_from, row_calm, runs_at}
+use Rattle.calm_rounds.proofs.CalmFronts.{Calm, at, at_more, before_row, calm_of, clock_at, end_before, goes_at, kept_from, runs_at}
 use Rattle.cluster_calm.specs.Calm.{IsCalmRow, Member as OfMember, Party}
 use Rattle.cluster_calm.proofs.CallsKept.{IsKept, RunsWith}
 use Rattle.cluster_calm.proofs.Counting.{now_after}
@@ -72,20 +72,23 @@ waits_kept low high = record { stepped = stepped; popped = λ t is. is }
 
 module _ (ids : List ℕ) (rows : List Row) (group : List Party) (clocks : Party → ℕ) (pace : Pace) (start : ℕ) (whole : List Timed)
     (calm : IsCalmOf ids rows group clocks pace start whole) where
+  abbrev cut_calm : Calm
+  cut_calm = calm_of ids rows group clocks pace start whole calm
+
   -- a row in which a member reads its clock shows the moment
   reads_clock : (a b : List Timed) (x : Timed) → whole ≡ a ++ x ∷ b → (p ms word : ℕ) → x.row ≡ Tick p ms word → ms ≡ x.at + clocks (OfMember p)
-  reads_clock a b x e p ms word reads = (subst (λ (r : Row). IsCalmRow group clocks pace (goes_from ids rows group clocks pace start whole calm a (x ∷ b) e).traffic
-      (at ids rows group clocks pace start whole calm a) x.at r) reads (row_calm ids rows group clocks pace start whole calm a b x e)).1
+  reads_clock a b x e p ms word reads = (subst (λ (r : Row). IsCalmRow group clocks pace (goes_at cut_calm a (x ∷ b) e).traffic
+      (at cut_calm a) x.at r) reads ((goes_at cut_calm a (x ∷ b) e).calm.1)).1
 
   -- between two standings of a member the least wait passes
   pub twice : (c term later : ℕ) (a mid b : List Timed) (one two : Timed) → whole ≡ a ++ one ∷ (mid ++ two ∷ b) → In (OfMember c) group
-      → Stands c term (at ids rows group clocks pace start whole calm a) one.row
-      → Stands c later (at ids rows group clocks pace start whole calm (a ++ one ∷ mid)) two.row → one.at + election_wait ≤ two.at
+      → Stands c term (at cut_calm a) one.row
+      → Stands c later (at cut_calm (a ++ one ∷ mid)) two.row → one.at + election_wait ≤ two.at
   twice c term later a mid b one two e i s again =
-      let l = (has_waited_so c later (at ids rows group clocks pace start whole calm (a ++ one ∷ mid)) two.row quiet_then again).waited in
+      let l = (has_waited_so c later (at cut_calm (a ++ one ∷ mid)) two.row quiet_then again).waited in
       let ms = reads_clock (a ++ one ∷ mid) b two cut_two c again.ms again.word again.reads in
-      let clock = clock_low ids rows group clocks pace start whole calm c i (a ++ one ∷ mid) (two ∷ b) cut_two again.before again.runs in
-      let ends = end_before ids rows group clocks pace start whole calm (a ++ one ∷ mid) b two cut_two in
+      let clock = clock_at cut_calm c i (a ++ one ∷ mid) (two ∷ b) cut_two again.before again.runs in
+      let ends = end_before cut_calm (a ++ one ∷ mid) b two cut_two in
       let waits = (subst (WaitsFrom (one.at + clocks (OfMember c))) (same_server later_runs.server again.before (sym later_runs.up.status ∙ again.runs)) later_runs.holds).0 in
       omega (arith, l, ms, clock, ends, waits)
     where
@@ -95,33 +98,33 @@ module _ (ids : List ℕ) (rows : List Row) (group : List Party) (clocks : Party
       cut_mid : whole ≡ (a ++ one ∷ []) ++ (mid ++ two ∷ b)
       cut_mid = e ∙ sym (append_assoc a (one ∷ []) (mid ++ two ∷ b))
 
-      quiet_first : IsQuiet ((at ids rows group clocks pace start whole calm a).member c).disk
-      quiet_first = (runs_at ids rows group clocks pace start whole calm c i a (one ∷ (mid ++ two ∷ b)) e).up.quiet
+      quiet_first : IsQuiet ((at cut_calm a).member c).disk
+      quiet_first = (runs_at cut_calm c i a (one ∷ (mid ++ two ∷ b)) e).up.quiet
 
-      quiet_then : IsQuiet ((at ids rows group clocks pace start whole calm (a ++ one ∷ mid)).member c).disk
-      quiet_then = (runs_at ids rows group clocks pace start whole calm c i (a ++ one ∷ mid) (two ∷ b) cut_two).up.quiet
+      quiet_then : IsQuiet ((at cut_calm (a ++ one ∷ mid)).member c).disk
+      quiet_then = (runs_at cut_calm c i (a ++ one ∷ mid) (two ∷ b) cut_two).up.quiet
 
-      first : HasWaited c term (at ids rows group clocks pace start whole calm a) one.row s
-      first = has_waited_so c term (at ids rows group clocks pace start whole calm a) one.row quiet_first s
+      first : HasWaited c term (at cut_calm a) one.row s
+      first = has_waited_so c term (at cut_calm a) one.row quiet_first s
 
       ms_one : s.ms ≡ one.at + clocks (OfMember c)
       ms_one = reads_clock a (mid ++ two ∷ b) one e c s.ms s.word s.reads
 
-      first_runs : RunsWith (WaitsFrom (one.at + clocks (OfMember c))) ((at ids rows group clocks pace start whole calm (a ++ one ∷ [])).member c)
+      first_runs : RunsWith (WaitsFrom (one.at + clocks (OfMember c))) ((at cut_calm (a ++ one ∷ [])).member c)
       first_runs =
-          let runs = runs_at ids rows group clocks pace start whole calm c i (a ++ one ∷ []) (mid ++ two ∷ b) cut_mid in
-          let up = ap (λ (w : Cluster). (w.member c).status) (at_more ids rows group clocks pace start whole calm a (one ∷ [])) ∙ s.runs_then in
+          let runs = runs_at cut_calm c i (a ++ one ∷ []) (mid ++ two ∷ b) cut_mid in
+          let up = ap (λ (w : Cluster). (w.member c).status) (at_more cut_calm a (one ∷ [])) ∙ s.runs_then in
           record {
             server = s.after;
             up = record { status = up; quiet = runs.up.quiet };
             holds = (let k = first.anew in let m = ms_one in omega (arith, k, m), let k = first.now in let m = ms_one in omega (arith, k, m));
           }
 
-      later_runs : RunsWith (WaitsFrom (one.at + clocks (OfMember c))) ((at ids rows group clocks pace start whole calm (a ++ one ∷ mid)).member c)
-      later_runs = subst (λ (l : List Timed). RunsWith (WaitsFrom (one.at + clocks (OfMember c))) ((at ids rows group clocks pace start whole calm l).member c)) (append_assoc a (one ∷ []) mid)
-          (kept_from ids rows group clocks pace start whole calm c i (NoLater (two.at + clocks (OfMember c))) (WaitsFrom (one.at + clocks (OfMember c))) (waits_kept (one.at + clocks (OfMember c)) (two.at + clocks (OfMember c)))
+      later_runs : RunsWith (WaitsFrom (one.at + clocks (OfMember c))) ((at cut_calm (a ++ one ∷ mid)).member c)
+      later_runs = subst (λ (l : List Timed). RunsWith (WaitsFrom (one.at + clocks (OfMember c))) ((at cut_calm l).member c)) (append_assoc a (one ∷ []) mid)
+          (kept_from cut_calm c i (NoLater (two.at + clocks (OfMember c))) (WaitsFrom (one.at + clocks (OfMember c))) (waits_kept (one.at + clocks (OfMember c)) (two.at + clocks (OfMember c)))
           (a ++ one ∷ []) mid (two ∷ b) cut_mid first_runs
-          (λ x j. let k = before_row ids rows group clocks pace start whole calm (a ++ one ∷ mid) b two cut_two x (behind a one mid x j) in omega (arith, k)))
+          (λ x j. let k = before_row cut_calm (a ++ one ∷ mid) b two cut_two x (behind a one mid x j) in omega (arith, k)))
         where
           behind : (a : List Timed) (one : Timed) (mid : List Timed) (x : Timed) → In x mid → In x (a ++ one ∷ mid)
           behind [] one mid x j = inr j

@@ -16,7 +16,7 @@ use Rattle.calm_leader.specs.CallsComeBack.{LeadsNotIfUp}
 use Rattle.calm_rounds.specs.Rounds.{AreInStep, NobodyLedIn, WhoIsFurthestWins}
 use Rattle.calm_rounds.specs.Running.{IsCalmOf, quiet_within}
 use Rattle.calm_rounds.specs.Sent.{HasCalled, WhoAsksStands, WhoHearsWasCalled, WhoWinsHasAsked}
-use Rattle.calm_rounds.proofs.StandingAnewRows.{among, at, at_more, before_row, recut, runs_at}
+use Rattle.calm_rounds.proofs.CalmFronts.{Calm, among, at, at_more, before_row, calm_of, recut, runs_at}
 use Rattle.calm_rounds.proofs.StandingAnewTwice.{twice}
 use Rattle.cluster_calm.specs.Calm.{AreCalm, Member as OfMember, Party, no_traffic}
 use Rattle.cluster_calm.specs.Comes.{Throughout}
@@ -41,14 +41,17 @@ module _ (ids : List ℕ) (rows : List Row) (group : List Party) (clocks : Party
   abbrev whole : List Timed
   whole = front ++ timed ∷ rest
 
+  abbrev cut_calm : Calm
+  cut_calm = calm_of ids rows group clocks pace start whole calm
+
   abbrev here : List Timed → Cluster
-  here = at ids rows group clocks pace start whole calm
+  here = at cut_calm
 
   abbrev then_w : Cluster
   then_w = after_row (here front) timed.row
 
   here_then : (a : List Timed) → here (front ++ timed ∷ a) ≡ after_rows then_w (rows_in a)
-  here_then a = at_more ids rows group clocks pace start whole calm front (timed ∷ a)
+  here_then a = at_more cut_calm front (timed ∷ a)
 
   cut_then : (a b : List Timed) → rest ≡ a ++ b → whole ≡ (front ++ timed ∷ a) ++ b
   cut_then a b e = ap (λ (l : List Timed). front ++ timed ∷ l) e ∙ sym (append_assoc front (timed ∷ a) b)
@@ -65,7 +68,7 @@ module _ (ids : List ℕ) (rows : List Row) (group : List Party) (clocks : Party
   module _ (asks_stands : WhoAsksStands ids rows) where
     silent : AsksNobodySince group c timed.at (4 * pace.delay) (world_of ids rows) front
     silent a d one m e since in_m asks =
-        let stood = asks_stands group clocks pace start c m a (d ++ timed ∷ rest) one (recut ids rows group clocks pace start whole calm (a ++ one ∷ (d ++ timed ∷ rest)) (cut_before a d one e))
+        let stood = asks_stands group clocks pace start c m a (d ++ timed ∷ rest) one (recut cut_calm (a ++ one ∷ (d ++ timed ∷ rest)) (cut_before a d one e))
         in_c in_m (omega (arith, late, since)) asks in
         let apart = twice ids rows group clocks pace start whole calm c stood.0 term a d rest one timed (cut_before a d one e) in_c stood.1 (s_at (a ++ one ∷ d) e) in
         let quick = calm.quick in
@@ -103,7 +106,7 @@ module _ (ids : List ℕ) (rows : List Row) (group : List Party) (clocks : Party
       stood_near : (m later : ℕ) (f g a d : List Timed) (one x : Timed) → In (OfMember m) group → m ≢ c → Stands m later (here f) one.row
           → rest ≡ a ++ x ∷ d → front ++ timed ∷ a ≡ f ++ one ∷ g → x.at ≤ one.at + 4 * pace.delay → x.at ≤ timed.at + 2 * pace.delay → ⊥
       stood_near m later f g a d one x i other again e split lately soon =
-          let before_x = before_row ids rows group clocks pace start whole calm (front ++ timed ∷ a) d x (cut_then a (x ∷ d) e) in
+          let before_x = before_row cut_calm (front ++ timed ∷ a) d x (cut_then a (x ∷ d) e) in
           let timed_first = before_x timed (among front a timed) in
           let one_first = before_x one (subst (λ (l : List Timed). In one l) (sym split) (among f g one)) in
           elim (part_of front (timed ∷ a) f g one split) [
@@ -126,15 +129,15 @@ module _ (ids : List ℕ) (rows : List Row) (group : List Party) (clocks : Party
       leads_more : (m : ℕ) → In (OfMember m) group → m ≢ c → (a b : List Timed) (one : Timed) → rest ≡ a ++ one ∷ b → one.at ≤ timed.at + 2 * pace.delay
           → (f g : List Timed) (x : Timed) → a ≡ f ++ x ∷ g → LeadsNotIfUp m (after_rows then_w (rows_in f)) → LeadsNotIfUp m (after_row (after_rows then_w (rows_in f)) x.row)
       leads_more m i other a b one e soon f g x same before t up leads =
-          let asked = wins group clocks pace start m (front ++ timed ∷ f) (g ++ one ∷ b) x t (recut ids rows group clocks pace start whole calm ((front ++ timed ∷ f) ++ x ∷ (g ++ one ∷ b)) cut)
+          let asked = wins group clocks pace start m (front ++ timed ∷ f) (g ++ one ∷ b) x t (recut cut_calm ((front ++ timed ∷ f) ++ x ∷ (g ++ one ∷ b)) cut)
           i (subst (LeadsNotIfUp m) (sym (here_then f)) before)
           (ap (λ (w : Cluster). ((after_row w x.row).member m).status) (here_then f) ∙ up) leads in
-          let timed_first = before_row ids rows group clocks pace start whole calm (front ++ timed ∷ f) (g ++ one ∷ b) x cut timed (among front f timed) in
+          let timed_first = before_row cut_calm (front ++ timed ∷ f) (g ++ one ∷ b) x cut timed (among front f timed) in
           let lately = asked.lately in
           let cut_asked : whole ≡ asked.front ++ asked.timed ∷ (asked.rest ++ x ∷ (g ++ one ∷ b)) = cut
           ∙ (ap (λ (l : List Timed). l ++ x ∷ (g ++ one ∷ b)) asked.split ∙ append_assoc asked.front (asked.timed ∷ asked.rest) (x ∷ (g ++ one ∷ b))) in
           let stood = asks_stands group clocks pace start m asked.m asked.front (asked.rest ++ x ∷ (g ++ one ∷ b)) asked.timed
-          (recut ids rows group clocks pace start whole calm (asked.front ++ asked.timed ∷ (asked.rest ++ x ∷ (g ++ one ∷ b))) cut_asked)
+          (recut cut_calm (asked.front ++ asked.timed ∷ (asked.rest ++ x ∷ (g ++ one ∷ b))) cut_asked)
           i asked.member (omega (arith, late, timed_first, lately)) asked.asks in
           stood_near m stood.0 asked.front asked.rest f (g ++ one ∷ b) asked.timed x i other stood.1 cut_rest asked.split lately (omega (arith, x_first, soon))
         where
@@ -145,7 +148,7 @@ module _ (ids : List ℕ) (rows : List Row) (group : List Party) (clocks : Party
           cut = cut_then f (x ∷ (g ++ one ∷ b)) cut_rest
 
           x_first : x.at ≤ one.at
-          x_first = before_row ids rows group clocks pace start whole calm (front ++ timed ∷ a) b one (cut_then a (one ∷ b) e) x
+          x_first = before_row cut_calm (front ++ timed ∷ a) b one (cut_then a (one ∷ b) e) x
               (behind_all front timed a (subst (λ (l : List Timed). In x l) (sym same) (among f g x)))
             where
               behind_all : (p : List Timed) (y : Timed) (q : List Timed) → In x q → In x (p ++ y ∷ q)
@@ -174,7 +177,7 @@ module _ (ids : List ℕ) (rows : List Row) (group : List Party) (clocks : Party
       -- who hears one is in the term, or in a higher one
       hearer_high : (t : AllocatorState) → ((here (front ++ timed ∷ a)).member m).status ≡ Up t → top ≤ t.raft_server.store.term
       hearer_high t up =
-          let first = runs_at ids rows group clocks pace start whole calm m i front (timed ∷ rest) refl in
+          let first = runs_at cut_calm m i front (timed ∷ rest) refl in
           let k = in_step.in_term m i first.server first.up.status in
           let l = rises m i front (timed ∷ a) (one ∷ d) (ap (λ (l : List Timed). front ++ timed ∷ l) e) first.server t first.up.status up in
           omega (arith, k, l)
@@ -191,7 +194,7 @@ module _ (ids : List ℕ) (rows : List Row) (group : List Party) (clocks : Party
       ]
         where
           who : (n : ℕ) × In (OfMember n) group × (n ≢ m) × HasCalled n m hears.request.term one.at (2 * pace.delay) (world_of ids rows) (front ++ timed ∷ a)
-          who = called group clocks pace start m (front ++ timed ∷ a) d one (recut ids rows group clocks pace start whole calm ((front ++ timed ∷ a) ++ one ∷ d) cut) i hears
+          who = called group clocks pace start m (front ++ timed ∷ a) d one (recut cut_calm ((front ++ timed ∷ a) ++ one ∷ d) cut) i hears
 
           by : HasCalled who.0 m hears.request.term one.at (2 * pace.delay) (world_of ids rows) (front ++ timed ∷ a)
           by = who.3
@@ -206,7 +209,7 @@ module _ (ids : List ℕ) (rows : List Row) (group : List Party) (clocks : Party
           early : (tail : List Timed) → front ≡ by.front ++ by.timed ∷ tail → ⊥
           early tail is = nobody_led (by.front ++ by.timed ∷ []) tail who.0 split who.1 (record {
             server = by.leads.server;
-            runs = ap (λ (w : Cluster). (w.member who.0).status) (at_more ids rows group clocks pace start whole calm by.front (by.timed ∷ [])) ∙ by.leads.runs;
+            runs = ap (λ (w : Cluster). (w.member who.0).status) (at_more cut_calm by.front (by.timed ∷ [])) ∙ by.leads.runs;
             leads = by.leads.leads;
             its_term = by.leads.its_term ∙ same;
           })
@@ -216,11 +219,11 @@ module _ (ids : List ℕ) (rows : List Row) (group : List Party) (clocks : Party
 
               same : hears.request.term ≡ top
               same =
-                  let first = runs_at ids rows group clocks pace start whole calm who.0 who.1 front (timed ∷ rest) refl in
+                  let first = runs_at cut_calm who.0 who.1 front (timed ∷ rest) refl in
                   let k = in_step.in_term who.0 who.1 first.server first.up.status in
                   let l = rises who.0 who.1 (by.front ++ by.timed ∷ []) tail (timed ∷ rest)
                   (ap (λ (l : List Timed). l ++ timed ∷ rest) split ∙ append_assoc (by.front ++ by.timed ∷ []) tail (timed ∷ rest)) by.leads.server first.server
-                  (ap (λ (w : Cluster). (w.member who.0).status) (at_more ids rows group clocks pace start whole calm by.front (by.timed ∷ [])) ∙ by.leads.runs)
+                  (ap (λ (w : Cluster). (w.member who.0).status) (at_more cut_calm by.front (by.timed ∷ [])) ∙ by.leads.runs)
                   (ap (λ (l : List Timed). ((here l).member who.0).status) (sym split) ∙ first.up.status) in
                   let its = by.leads.its_term in let h = high in omega (arith, k, l, its, h)
 
@@ -237,7 +240,7 @@ module _ (ids : List ℕ) (rows : List Row) (group : List Party) (clocks : Party
               (ap (λ (w : Cluster). (w.member who.0).status) (sym (here_then (tail ++ by.timed ∷ []))
               ∙ (ap here (ap (λ (x : Timed). front ++ x ∷ (tail ++ by.timed ∷ [])) at_first ∙ (sym (append_assoc front (y ∷ tail) (by.timed ∷ []))
               ∙ ap (λ (l : List Timed). l ++ by.timed ∷ []) (sym is)))
-              ∙ at_more ids rows group clocks pace start whole calm by.front (by.timed ∷ []))) ∙ by.leads.runs) by.leads.leads
+              ∙ at_more cut_calm by.front (by.timed ∷ []))) ∙ by.leads.runs) by.leads.leads
 
     unheard : AppendsUnheard group (timed.at + 4 * pace.delay) then_w rest
     unheard a d one m e soon none none_then i hears = unheard_at a d one m e none none_then i

@@ -3,3 +3,4 @@ pub mod Sent
 pub mod Rounds
 pub mod Calling
 pub mod Opened
+pub mod RoundsBelow

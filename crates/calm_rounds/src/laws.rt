@@ -4,6 +4,7 @@ ghost use Rattle.calm_rounds.specs.Calling.{CallsReturnInRounds, LeadersGoOnCall
 ghost use Rattle.calm_rounds.specs.Opened.{OpenedMembersGoOn};
 ghost use Rattle.calm_rounds.specs.Rounds.{LeadersBelowStepDown, LeadersCome, SomebodyStandsOrLeads};
 ghost use Rattle.calm_rounds.specs.Rounds.{WhoIsFurthestWins, WhoLeadsAtTheTop, WhoStandsAtTheTop, WhoWinsAtTheTop};
+ghost use Rattle.calm_rounds.specs.RoundsBelow.{RoundGrounds};
 ghost use Rattle.calm_rounds.specs.Sent.{AskersLearn, CallersLearn, NothingChangesInSilence, StandersAreHeard};
 ghost use Rattle.calm_rounds.specs.Sent.{StandersLearn, WhoAsksStands, WhoHearsWasCalled, WhoVotesWasAsked};
 ghost use Rattle.calm_rounds.specs.Sent.{WhoWinsHasAsked};
@@ -48,19 +49,7 @@ pub fn who_votes_was_asked()
     ensures { (ids : List ℕ) (rows : List Row) → AreMembers ids → DoNoHarm (cluster ids) rows →
         WhoVotesWasAsked ids rows }
 {
-    a_choice_fits();
-    delivers_what_comes_whole();
-    frames_carry_what_is_cut();
-    its_frames_are_anonymous();
-    lengths_of_cuttings();
-    rows_are_shown();
-    rows_grow_by_one();
-    steps_stay_in_range();
-    vote_requests_read_as_said();
-    what_a_row_delivers_is_one_transfer();
-    what_a_step_keeps();
-    what_is_said_of_a_step();
-    what_is_said_of_frames();
+    what_rounds_stand_on();
 }
 
 /// Who hears a leader in a calm was called: an append request that comes to a member of the group, and that it does
@@ -70,20 +59,7 @@ pub fn who_hears_was_called()
     ensures { (ids : List ℕ) (rows : List Row) → AreMembers ids → DoNoHarm (cluster ids) rows →
         WhoHearsWasCalled ids rows }
 {
-    a_choice_fits();
-    calls_ask_for_the_next_place();
-    calls_read_as_said();
-    delivers_what_comes_whole();
-    frames_carry_what_is_cut();
-    its_frames_are_anonymous();
-    lengths_of_cuttings();
-    rows_are_shown();
-    rows_grow_by_one();
-    steps_stay_in_range();
-    what_a_row_delivers_is_one_transfer();
-    what_a_step_keeps();
-    what_is_said_of_a_step();
-    what_is_said_of_frames();
+    what_rounds_stand_on();
 }
 
 /// Nothing changes in silence. Where no member of the group called another one, or asked it for its vote, for more than
@@ -95,18 +71,7 @@ pub fn nothing_changes_in_silence()
     ensures { (ids : List ℕ) (rows : List Row) → AreMembers ids → DoNoHarm (cluster ids) rows →
         NothingChangesInSilence ids rows }
 {
-    a_choice_fits();
-    delivers_what_comes_whole();
-    frames_carry_what_is_cut();
-    its_frames_are_anonymous();
-    lengths_of_cuttings();
-    rows_are_shown();
-    rows_grow_by_one();
-    steps_stay_in_range();
-    what_a_row_delivers_is_one_transfer();
-    what_a_step_keeps();
-    what_is_said_of_a_step();
-    what_is_said_of_frames();
+    what_rounds_stand_on();
 }
 
 /// Who leads at the top leads the group. In a calm, from any front on: where a member of the group leads in a term that
@@ -116,22 +81,7 @@ pub fn who_leads_at_the_top()
     ensures { (ids : List ℕ) (rows : List Row) → AreMembers ids → DoNoHarm (cluster ids) rows →
         WhoLeadsAtTheTop ids rows }
 {
-    a_choice_fits();
-    calls_are_heard();
-    calls_read_as_said();
-    followers_follow_on_in_calm();
-    law_every_run();
-    leaders_call_in_time();
-    no_election_comes_in_calm();
-    rows_are_shown();
-    rows_grow_by_one();
-    terms_do_not_fall();
-    terms_stay_in_calm();
-    waits_begin_then();
-    what_entries_stand_on();
-    what_is_said_of_a_step();
-    what_is_said_of_messages();
-    who_is_listed_stays();
+    what_rounds_stand_on();
 }
 
 /// Who wins at the top leads the group. In a calm in which a member stands for election in a term above all others, and
@@ -142,22 +92,7 @@ pub fn who_wins_at_the_top()
     ensures { (ids : List ℕ) (rows : List Row) → AreMembers ids → DoNoHarm (cluster ids) rows →
         WhoWinsAtTheTop ids rows }
 {
-    a_choice_fits();
-    calls_are_heard();
-    calls_read_as_said();
-    followers_follow_on_in_calm();
-    law_every_run();
-    leaders_call_in_time();
-    no_election_comes_in_calm();
-    rows_are_shown();
-    rows_grow_by_one();
-    terms_do_not_fall();
-    terms_stay_in_calm();
-    waits_begin_then();
-    what_entries_stand_on();
-    what_is_said_of_a_step();
-    what_is_said_of_messages();
-    who_is_listed_stays();
+    what_rounds_stand_on();
 }
 
 /// Who asks for a vote stands for election in the same row, in a calm of a group that has a quorum of the cluster's
@@ -168,25 +103,7 @@ pub fn who_asks_stands()
     ensures { (ids : List ℕ) (rows : List Row) → AreMembers ids → DoNoHarm (cluster ids) rows →
         WhoAsksStands ids rows }
 {
-    a_choice_fits();
-    candidates_stay();
-    followers_follow_on();
-    law_decisions();
-    law_members();
-    rows_are_shown();
-    rows_grow_by_one();
-    steps_are_in_time();
-    terms_do_not_fall();
-    terms_stay_in_calm();
-    vote_answers_read_as_said();
-    vote_requests_come_back();
-    votes_are_taken();
-    votes_stay_free();
-    waits_begin_then();
-    what_a_step_keeps();
-    who_asked_waits_on();
-    who_is_listed_stays();
-    who_stands_asks();
+    what_rounds_stand_on();
 }
 
 /// Who comes to lead has asked. A member of the group that comes to lead in a row of such a calm, at whatever moment of
@@ -197,36 +114,7 @@ pub fn who_wins_has_asked()
     ensures { (ids : List ℕ) (rows : List Row) → AreMembers ids → DoNoHarm (cluster ids) rows →
         WhoWinsHasAsked ids rows }
 {
-    a_choice_fits();
-    candidates_stay();
-    delivers_what_comes_whole();
-    followers_follow_on();
-    frames_carry_what_is_cut();
-    its_frames_are_anonymous();
-    law_decisions();
-    law_members();
-    lengths_of_cuttings();
-    members_of_a_step();
-    rows_are_shown();
-    rows_grow_by_one();
-    steps_are_in_time();
-    steps_stay_in_range();
-    terms_do_not_fall();
-    terms_stay_in_calm();
-    transfers_of_a_step_are_apart();
-    vote_answers_read_as_said();
-    vote_requests_read_as_said();
-    votes_are_answered();
-    votes_are_taken();
-    votes_stay_free();
-    waits_begin_then();
-    what_a_row_delivers_is_one_transfer();
-    what_a_step_keeps();
-    what_is_said_of_a_step();
-    what_is_said_of_frames();
-    who_asked_waits_on();
-    who_is_listed_stays();
-    who_stands_asks();
+    what_rounds_stand_on();
 }
 
 /// Who calls another one learns its term, in a calm of rows that do no harm, whatever roles and terms the members
@@ -238,53 +126,14 @@ pub fn who_wins_has_asked()
 pub fn callers_learn()
     ensures { (ids : List ℕ) (rows : List Row) → AreMembers ids → DoNoHarm (cluster ids) rows → CallersLearn ids rows }
 {
-    a_choice_fits();
-    answers_read_as_said();
-    calls_are_answered();
-    calls_ask_for_the_next_place();
-    calls_read_as_said();
-    delivers_what_comes_whole();
-    frames_carry_what_is_cut();
-    its_frames_are_anonymous();
-    lengths_of_cuttings();
-    members_of_a_step();
-    rows_are_shown();
-    rows_grow_by_one();
-    steps_stay_in_range();
-    terms_do_not_fall();
-    transfers_of_a_step_are_apart();
-    what_a_step_keeps();
-    what_is_said_of_a_step();
-    what_is_said_of_frames();
+    what_rounds_stand_on();
 }
 
 /// So does who asks another one for its vote, or it leads by four delays later.
 pub fn askers_learn()
     ensures { (ids : List ℕ) (rows : List Row) → AreMembers ids → DoNoHarm (cluster ids) rows → AskersLearn ids rows }
 {
-    a_choice_fits();
-    answers_read_as_said();
-    calls_are_answered();
-    calls_ask_for_the_next_place();
-    calls_read_as_said();
-    delivers_what_comes_whole();
-    frames_carry_what_is_cut();
-    its_frames_are_anonymous();
-    lengths_of_cuttings();
-    members_of_a_step();
-    rows_are_shown();
-    rows_grow_by_one();
-    steps_stay_in_range();
-    terms_do_not_fall();
-    transfers_of_a_step_are_apart();
-    vote_answers_read_as_said();
-    vote_requests_read_as_said();
-    votes_are_answered();
-    votes_are_taken();
-    what_a_step_keeps();
-    what_is_said_of_a_step();
-    what_is_said_of_frames();
-    who_stands_asks();
+    what_rounds_stand_on();
 }
 
 /// Who stands for election learns the term of each other one. Where a member of the group stands for election in such
@@ -294,31 +143,9 @@ pub fn askers_learn()
 pub fn standers_learn()
     ensures { (ids : List ℕ) (rows : List Row) → AreMembers ids → DoNoHarm (cluster ids) rows → StandersLearn ids rows }
 {
-    a_choice_fits();
-    answers_read_as_said();
     askers_learn();
     callers_learn();
-    calls_are_answered();
-    calls_ask_for_the_next_place();
-    calls_read_as_said();
-    delivers_what_comes_whole();
-    frames_carry_what_is_cut();
-    its_frames_are_anonymous();
-    lengths_of_cuttings();
-    members_of_a_step();
-    rows_are_shown();
-    rows_grow_by_one();
-    steps_stay_in_range();
-    terms_do_not_fall();
-    transfers_of_a_step_are_apart();
-    vote_answers_read_as_said();
-    vote_requests_read_as_said();
-    votes_are_answered();
-    votes_are_taken();
-    what_a_step_keeps();
-    what_is_said_of_a_step();
-    what_is_said_of_frames();
-    who_stands_asks();
+    what_rounds_stand_on();
 }
 
 /// Who stands for election is heard, in a calm in which members go on from whatever roles, terms and logs: each member
@@ -338,7 +165,7 @@ pub fn who_is_furthest_wins()
     ensures { (ids : List ℕ) (rows : List Row) → AreMembers ids → DoNoHarm (cluster ids) rows →
         WhoIsFurthestWins ids rows }
 {
-    terms_do_not_fall();
+    what_rounds_stand_on();
     who_asks_stands();
     who_hears_was_called();
     who_stands_alone_wins();
@@ -353,15 +180,8 @@ pub fn leaders_below_step_down()
     ensures { (ids : List ℕ) (rows : List Row) → AreMembers ids → DoNoHarm (cluster ids) rows →
         LeadersBelowStepDown ids rows }
 {
-    a_choice_fits();
     callers_learn();
-    leaders_call_in_time();
-    members_of_a_step();
-    rows_are_shown();
-    rows_grow_by_one();
-    steps_stay_in_range();
-    what_is_said_of_a_step();
-    who_is_listed_stays();
+    what_rounds_stand_on();
 }
 
 /// Somebody stands for election in such a calm, or somebody leads. From `quiet_within` behind its beginning on: a
@@ -372,18 +192,11 @@ pub fn somebody_stands_or_leads()
     ensures { (ids : List ℕ) (rows : List Row) → AreMembers ids → DoNoHarm (cluster ids) rows →
         SomebodyStandsOrLeads ids rows }
 {
-    a_choice_fits();
-    calls_ask_for_the_next_place();
     leaders_below_step_down();
-    members_of_a_step();
     nothing_changes_in_silence();
-    rows_are_shown();
-    rows_grow_by_one();
-    steps_stay_in_range();
-    what_is_said_of_a_step();
+    what_rounds_stand_on();
     who_asks_stands();
     who_leads_at_the_top();
-    who_waits_stands();
     who_wins_has_asked();
 }
 
@@ -395,26 +208,11 @@ pub fn who_stands_at_the_top()
     ensures { (ids : List ℕ) (rows : List Row) → AreMembers ids → DoNoHarm (cluster ids) rows →
         WhoStandsAtTheTop ids rows }
 {
-    a_choice_fits();
-    followers_follow_on();
-    law_decisions();
-    members_of_a_step();
-    rows_are_shown();
-    rows_grow_by_one();
-    steps_stay_in_range();
-    terms_do_not_fall();
-    terms_stay_in_calm();
-    vote_requests_come_back();
-    votes_stay_free();
-    waits_begin_then();
-    waits_have_reasons();
+    what_rounds_stand_on();
     who_asks_stands();
     who_hears_was_called();
     who_is_furthest_wins();
-    who_is_listed_stays();
-    who_stands_asks();
     who_votes_was_asked();
-    who_waits_stands();
     who_wins_at_the_top();
     who_wins_has_asked();
 }
@@ -427,28 +225,13 @@ pub fn leaders_come()
     ensures { (ids : List ℕ) (rows : List Row) → AreMembers ids → DoNoHarm (cluster ids) rows →
         LeadersCome ids rows }
 {
-    a_choice_fits();
-    followers_follow_on();
-    law_decisions();
-    members_of_a_step();
-    rows_are_shown();
-    rows_grow_by_one();
     somebody_stands_or_leads();
     standers_learn();
-    steps_stay_in_range();
-    terms_do_not_fall();
-    terms_stay_in_calm();
-    vote_requests_come_back();
-    votes_stay_free();
-    waits_begin_then();
-    waits_have_reasons();
+    what_rounds_stand_on();
     who_asks_stands();
     who_hears_was_called();
     who_is_furthest_wins();
-    who_is_listed_stays();
-    who_stands_asks();
     who_votes_was_asked();
-    who_waits_stands();
     who_wins_at_the_top();
     who_wins_has_asked();
 }
@@ -462,27 +245,7 @@ pub fn leaders_go_on_calling()
     ensures { (ids : List ℕ) (rows : List Row) → AreMembers ids → DoNoHarm (cluster ids) rows →
         LeadersGoOnCalling ids rows }
 {
-    a_choice_fits();
-    answers_are_taken();
-    answers_read_as_said();
-    calls_are_answered();
-    calls_ask_for_the_next_place();
-    calls_read_as_said();
-    delivers_what_comes_whole();
-    frames_carry_what_is_cut();
-    its_frames_are_anonymous();
-    leaders_call_in_time();
-    lengths_of_cuttings();
-    members_of_a_step();
-    rows_are_shown();
-    rows_grow_by_one();
-    steps_stay_in_range();
-    terms_do_not_fall();
-    transfers_of_a_step_are_apart();
-    what_a_step_keeps();
-    what_entries_stand_on();
-    what_is_said_of_a_step();
-    what_is_said_of_frames();
+    what_rounds_stand_on();
 }
 
 /// Calls return. In such a calm, from any front on from which a member of the group leads on in one term and the others
@@ -493,26 +256,7 @@ pub fn calls_return_in_rounds()
     ensures { (ids : List ℕ) (rows : List Row) → AreMembers ids → DoNoHarm (cluster ids) rows →
         CallsReturnInRounds ids rows }
 {
-    a_choice_fits();
-    answers_are_taken();
-    answers_read_as_said();
-    calls_are_answered();
-    calls_ask_for_the_next_place();
-    calls_read_as_said();
-    delivers_what_comes_whole();
-    frames_carry_what_is_cut();
-    its_frames_are_anonymous();
-    lengths_of_cuttings();
-    members_of_a_step();
-    rows_are_shown();
-    rows_grow_by_one();
-    steps_stay_in_range();
-    terms_do_not_fall();
-    transfers_of_a_step_are_apart();
-    what_a_step_keeps();
-    what_entries_stand_on();
-    what_is_said_of_a_step();
-    what_is_said_of_frames();
+    what_rounds_stand_on();
 }
 
 /// Members that have just been opened go on calmly, as each law of this crate asks for it. In a calm in which they were
@@ -526,4 +270,56 @@ pub fn opened_members_go_on_calmly()
 {
     law_members();
     members_of_a_step();
+}
+
+/// What the laws of rounds stand on: what the crates below say of steps, frames and rows that do no harm, of the Raft
+/// model, of what leaders call, and of who stands for election.
+pub fn what_rounds_stand_on()
+    ensures { RoundGrounds }
+{
+    a_choice_fits();
+    answers_are_taken();
+    answers_read_as_said();
+    calls_are_answered();
+    calls_are_heard();
+    calls_ask_for_the_next_place();
+    calls_read_as_said();
+    candidates_stay();
+    delivers_what_comes_whole();
+    followers_follow_on();
+    followers_follow_on_in_calm();
+    frames_carry_what_is_cut();
+    its_frames_are_anonymous();
+    law_decisions();
+    law_every_run();
+    law_members();
+    leaders_call_in_time();
+    lengths_of_cuttings();
+    members_of_a_step();
+    no_election_comes_in_calm();
+    rows_are_shown();
+    rows_grow_by_one();
+    steps_are_in_time();
+    steps_stay_in_range();
+    terms_do_not_fall();
+    terms_stay_in_calm();
+    transfers_of_a_step_are_apart();
+    vote_answers_read_as_said();
+    vote_requests_come_back();
+    vote_requests_read_as_said();
+    votes_are_answered();
+    votes_are_taken();
+    votes_stay_free();
+    waits_begin_then();
+    waits_have_reasons();
+    what_a_row_delivers_is_one_transfer();
+    what_a_step_keeps();
+    what_entries_stand_on();
+    what_is_said_of_a_step();
+    what_is_said_of_frames();
+    what_is_said_of_messages();
+    who_asked_waits_on();
+    who_is_listed_stays();
+    who_stands_asks();
+    who_waits_stands();
 }

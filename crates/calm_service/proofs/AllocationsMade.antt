@@ -1,15 +1,14 @@
 -- Each Allocation that a member has made by some rows has 6, 12 or 16 bytes of a unique ID.
-use Rattle.std.proofs.Common.{◌≡◌, ℕ, ◌+◌, Bool, true, List, [], ◌∷◌, ◌++◌, refl, sym, ◌∙◌, ap, subst, inl, inr, length, Some}
+use Rattle.std.proofs.Common.{◌≡◌, ℕ, ◌+◌, true, List, [], ◌∷◌, ◌++◌, refl, sym, ◌∙◌, ap, subst, inl, inr, length, Some}
 use Rattle.std.proofs.lemmas.List.{append-nil, append_assoc}
 use Rattle.alloc_exchange.specs.Exchange.{IsEndOfStage}
 use Rattle.can_frame.specs.declared.entry.Entry.{Entry}
 use Rattle.can_frame.specs.declared.step.What.TheVariants.{Alloc}
 use Rattle.dsdl_codec.specs.declared.allocation.Allocation.{Allocation}
-use Rattle.dsdl_codec.specs.Allocation.{IsAllocation, allocation_bytes, allocation_of}
+use Rattle.dsdl_codec.specs.Allocation.{allocation_of}
 use Rattle.dsdl_codec.specs.Entry.{IsEntry}
 use Rattle.raft_log.specs.KeyDisk.{are_put}
 use Rattle.raft_model.specs.Lists.{In, at_here}
-use Rattle.raft_model.specs.Runs as raft
 use Rattle.raft_model.specs.Server.{RaftServer}
 use Rattle.replay_text.specs.declared.row.Row.{Row}
 use Rattle.replay_text.specs.declared.row.Row.TheVariants.{AEnd, AOpen, ARx, ASend, ATick, Crash, Ext, Fault, Open, Rx, Send, Tick}
@@ -18,19 +17,20 @@ use Rattle.alloc_spec.specs.Step.{Event, step}
 use Rattle.alloc_spec.specs.StepState.{StepState}
 use Rattle.alloc_spec.specs.Transfers.{SentTransfer}
 use Rattle.alloc_spec_laws.proofs.Choices.{either}
-use Rattle.cluster_agreement.specs.Continues.{Continues}
-use Rattle.cluster_agreement.specs.Shows.{ShowsMember, ShowsUp}
 use Rattle.cluster_agreement.proofs.Concatenations.{first_harmless, row_harmless}
 use Rattle.cluster_agreement.proofs.MadeTransfers.{made_when}
 use Rattle.cluster_agreement.proofs.OneRow.{is_received}
 use Rattle.cluster_agreement.proofs.OneRowMore.{grown, made_more}
 use Rattle.cluster_agreement.proofs.RowsWithoutEvents.{is_one, past_first}
 use Rattle.calm_service.proofs.AllocationsSized.{step_sized}
-use Rattle.cluster_spec.specs.Cluster.{Cluster, after_row, after_rows, cluster, receipt_of, tick_of, world_of}
+use Rattle.calm_service.specs.ServiceBelow.{ServiceGrounds}
+use Rattle.calm_service.proofs.ServiceGrounds.{of_run, shown}
+use Rattle.calm_service.proofs.SettlesRows.{its_server}
+use Rattle.cluster_spec.specs.Cluster.{AreMembers, Cluster, after_row, cluster, receipt_of, tick_of, world_of}
 use Rattle.cluster_spec.specs.Lawful.{DoNoHarm, DoesNoHarm, no_node, not_running}
 use Rattle.cluster_spec.specs.Members.{Member, MemberStatus, member_after_step, puts_of}
 use Rattle.cluster_spec.specs.Members.MemberStatus.{Down, Failed, Up}
-use Rattle.cluster_spec.specs.Refinement.{events, transfers_of_offers, transfers_of_row, transfers_of_rows, transfers_of_step}
+use Rattle.cluster_spec.specs.Refinement.{transfers_of_offers, transfers_of_row, transfers_of_rows, transfers_of_step}
 
 -- each Allocation among these has so many bytes
 abbrev pub AllMadeSized : List SentTransfer → Type 0
@@ -47,7 +47,7 @@ ticks_in : (w : Cluster) (n ms word : ℕ) → DoesNoHarm w (Tick n ms word) →
 ticks_in w n ms word (inl e) = is_one w n (past_first (no_node w n) (not_running w n) e).0
 ticks_in w n ms word (inr (stale, void)) = absurd (cc (void))
 
-module _ (read : (value : Allocation) → IsAllocation value → allocation_of (allocation_bytes value) ≡ Some value) where
+module _ (below : ServiceGrounds) where
   -- ---- one row
 
   module _ (w : Cluster) (row : Row) (harmless : DoesNoHarm w row) (made : List SentTransfer) (sized : AllMadeSized made)
@@ -72,7 +72,7 @@ module _ (read : (value : Allocation) → IsAllocation value → allocation_of (
               → AllMadeSized (transfers_of_offers (w.rows + 1) n (step t (w.rows + 1) event).step_state.offers made)
           put put_all x message i what says = elim (made_when (w.rows + 1) n (step t (w.rows + 1) event).step_state.offers made x i) [
             | inl old ↦ sized x message old what says
-            | inr new ↦ step_sized read (w.rows + 1) t (before n listed t e) event (behind n listed (step t (w.rows + 1) event).step_state.allocator (status_then put_all))
+            | inr new ↦ step_sized below.read (w.rows + 1) t (before n listed t e) event (behind n listed (step t (w.rows + 1) event).step_state.allocator (status_then put_all))
                 new.offer new.offered (ap (λ (y : SentTransfer). y.offer.what) (sym new.is) ∙ what) message
                 (ap (λ (y : SentTransfer). allocation_of y.offer.payload) (sym new.is) ∙ says)
           ]
@@ -101,18 +101,12 @@ module _ (read : (value : Allocation) → IsAllocation value → allocation_of (
 
   -- ---- all rows
 
-  module _ (ids : List ℕ) (same_ids : (w : Cluster) (rows : List Row) → (after_rows w rows).ids ≡ w.ids)
-      (shown : (rows : List Row) → DoNoHarm (cluster ids) rows → (choice : ℕ → Bool)
-      × Continues choice (transfers_of_rows (cluster ids) rows []) (world_of ids rows) (raft.initial_world ids) (events choice (cluster ids) rows)) where
+  module _ (ids : List ℕ) (members : AreMembers ids) where
     -- the entries of a member's log
     fits_at : (rows : List Row) → DoNoHarm (cluster ids) rows → (n : ℕ) → In n (world_of ids rows).ids → (t : AllocatorState) → ((world_of ids rows).member n).status ≡ Up t → LogFits t
     fits_at rows harmless n listed t e entry i =
-        let is = (shown rows harmless).1 in
-        let up : ShowsUp (transfers_of_rows (cluster ids) rows []) (world_of ids rows).ids (world_of ids rows).frames
-        (raft.run (raft.initial_world ids) (events (shown rows harmless).0 (cluster ids) rows)) n t ((world_of ids rows).member n).disk
-        = subst (λ (status : MemberStatus). ShowsMember (shown rows harmless).0 (transfers_of_rows (cluster ids) rows []) (world_of ids rows).ids (world_of ids rows).frames
-        (raft.run (raft.initial_world ids) (events (shown rows harmless).0 (cluster ids) rows)) n status ((world_of ids rows).member n).disk) e (is.shows.lives n listed) in
-        ((is.writable.stores n).entries entry (subst (λ (s : RaftServer). In entry s.store.log) (sym up.runs.raft_server) i)).fits
+        let up = its_server (world_of ids rows) (of_run below ids members rows harmless) n t listed e in
+        (((shown below ids members rows harmless).writable.stores n).entries entry (subst (λ (s : RaftServer). In entry s.store.log) (sym up.runs.raft_server) i)).fits
 
     sized_on : (rest earlier : List Row) → DoNoHarm (cluster ids) (earlier ++ rest) → AllMadeSized (transfers_of_rows (cluster ids) earlier [])
         → AllMadeSized (transfers_of_rows (cluster ids) (earlier ++ rest) [])
@@ -126,7 +120,7 @@ module _ (read : (value : Allocation) → IsAllocation value → allocation_of (
         = one_more (world_of ids earlier) row (row_harmless (cluster ids) earlier rest row harmless) (transfers_of_rows (cluster ids) earlier []) sized
         (fits_at earlier (first_harmless (cluster ids) earlier (row ∷ rest) harmless))
         (λ n i t e. fits_at (earlier ++ row ∷ []) first n
-        (subst (λ (l : List ℕ). In n l) (same_ids (cluster ids) earlier ∙ sym (same_ids (cluster ids) (earlier ++ row ∷ []))) i) t
+        (subst (λ (l : List ℕ). In n l) (below.same (cluster ids) earlier ∙ sym (below.same (cluster ids) (earlier ++ row ∷ []))) i) t
         (ap (λ (v : Cluster). (v.member n).status) (grown (cluster ids) earlier row) ∙ e)) in
         subst (λ (l : List Row). AllMadeSized (transfers_of_rows (cluster ids) l [])) cut
         (sized_on rest (earlier ++ row ∷ []) all (subst AllMadeSized (sym (made_more (cluster ids) earlier row [])) one))

@@ -8,14 +8,14 @@ use Rattle.can_frame.specs.declared.entry.Entry.{Entry}
 use Rattle.can_frame.specs.declared.identifier.Kind.{Kind}
 use Rattle.can_frame.specs.declared.identifier.Kind.TheVariants.{Anonymous, Message as Broadcast, Request as RequestKind, Response}
 use Rattle.can_frame.specs.declared.step.What.{What}
-use Rattle.can_frame.specs.declared.step.What.TheVariants.{Alloc, App, AppQ, Info, Vote, VoteQ}
+use Rattle.can_frame.specs.declared.step.What.TheVariants.{Alloc, App, AppQ, Info, Vote, VoteQ, Disc}
 use Rattle.can_frame.specs.Log.{blank}
 use Rattle.dsdl_codec.specs.declared.allocation.Allocation.{Allocation}
 use Rattle.dsdl_codec.specs.Allocation.{allocation_of}
 use Rattle.dsdl_codec.specs.AppendAnswer.{append_answer_bytes, append_answer_of}
 use Rattle.dsdl_codec.specs.AppendRequest.{append_request_of}
 use Rattle.dsdl_codec.specs.Discovery.{discovery_of}
-use Rattle.dsdl_codec.specs.NodeInfo.{node_info_of}
+use Rattle.dsdl_codec.specs.NodeInfo.{node_info_of, node_info_bytes}
 use Rattle.dsdl_codec.specs.NodeStatus.{node_status_of}
 use Rattle.dsdl_codec.specs.VoteAnswer.{vote_answer_bytes, vote_answer_of}
 use Rattle.dsdl_codec.specs.VoteRequest.{vote_request_of}
@@ -23,7 +23,7 @@ use Rattle.id_selector.specs.Choice.{chosen}
 use Rattle.node_discovery.specs.Watch.{some_unknown}
 use Rattle.raft_core.specs.Calls.{owed}
 use Rattle.raft_core.specs.Handled as handled
-use Rattle.raft_core.specs.Times.{given_at, is_awaited}
+use Rattle.raft_core.specs.Times.{given_at, is_awaited, HandedIn}
 use Rattle.raft_model.specs.Lists.{In}
 use Rattle.raft_model.specs.Messages.{Message, Request}
 use Rattle.raft_model.specs.Messages.Message.{Answers, Requests}
@@ -40,10 +40,10 @@ use Rattle.alloc_spec.specs.Delivered.{StepResult, asks_info, by_kind, delivery_
 use Rattle.alloc_spec.specs.Delivered as delivered
 use Rattle.alloc_spec.specs.Ending.{append_call_bytes, call_phase, calls_all, calls_owed, calls_peer, has_to_tell, tell_phase, tells_next, vote_call_bytes}
 use Rattle.alloc_spec.specs.Exchange.{allocation_payload, answers_or_records, answers_request, gives_entry, gives_pair, hears_allocation, hears_whole, may_follow, records, records_at, with_request}
-use Rattle.alloc_spec.specs.Services.{answers_append, answers_append_request, answers_call, answers_vote, answers_vote_request, append_answered, ends_append_call, ends_vote_call, hears_info, is_listed, takes_append_answer, takes_append_request, takes_vote_answer, takes_vote_request, vote_answered}
+use Rattle.alloc_spec.specs.Services.{answers_append, answers_append_request, answers_call, answers_vote, answers_vote_request, append_answered, ends_append_call, ends_vote_call, hears_info, is_listed, takes_append_answer, takes_append_request, takes_vote_answer, takes_vote_request, vote_answered, info_of}
 use Rattle.alloc_spec.specs.Step.{Event, begin_phase, step, with_answer, with_sessions}
 use Rattle.alloc_spec.specs.Step.Event.{Rx, Tick}
-use Rattle.alloc_spec.specs.StepState.{StepState, with_moves, with_response, with_transfer}
+use Rattle.alloc_spec.specs.StepState.{StepState, with_moves, with_response, with_transfer, with_response_to}
 use Rattle.alloc_spec.specs.Tick.{clock_phase}
 use Rattle.alloc_spec.specs.Transfers.{Offer, has_room}
 use Rattle.alloc_spec_laws.specs.Phases.{when_committed, when_seen}
@@ -51,6 +51,8 @@ use Rattle.alloc_spec_laws.proofs.Choices.{either}
 use Rattle.alloc_spec_laws.proofs.TickOffers.{Upto, ticks_offer}
 use Rattle.alloc_spec_laws.proofs.DistinctTransfers.{rank, sent}
 use Rattle.cluster_agreement.proofs.Lists.{in_append}
+use Rattle.dsdl_codec.specs.declared.discovery.Discovery.{Discovery}
+use Rattle.dsdl_codec.specs.declared.node_info.NodeInfo.{NodeInfo}
 
 -- ---- the calls at its end are no Allocations
 
@@ -91,6 +93,97 @@ end_from t number event none =
     subst (λ (g : StepState). From (when_seen t number event).offers (call_phase number g)) (sym told)
     (calls_from number (when_seen t number event).offers (drop 1 (members_of (when_committed t number event).allocator)) (when_committed t number event) (λ x i e. i))
 
+-- ---- what is delivered
+
+-- moves, responses and what is heard of a node keep it
+pub record IsAnswered (number : ℕ) (Keeps : StepState → Type 0) : Type 0 where
+  pub moves : (given : HandedIn) (moves : List Move) (g : StepState) → Keeps g → Keeps (with_moves number given moves g)
+  pub responds : (what : What) (d : Delivery) (payload : List ℕ) (says : Option Message) (g : StepState) → what ≢ Disc → what ≢ Alloc → Keeps g
+      → Keeps (with_response_to number what d payload says g)
+  pub infos : (d : Delivery) (info : NodeInfo) (g : StepState) → Keeps g → Keeps (hears_info d info g)
+
+-- so does a delivery, where the hearing of what is broadcast, and of a request of a device, keeps it
+module _ (number : ℕ) (Keeps : StepState → Type 0) (k : IsAnswered number Keeps) (d : Delivery)
+    (status_ : d.ident.kind ≡ Broadcast → (g : StepState) → Keeps g → Keeps (hears_status d g))
+    (discovery_ : d.ident.kind ≡ Broadcast → nat_eq d.ident.number 341 ≡ false → (message : Discovery) → discovery_of d.payload ≡ Some message → (g : StepState)
+    → Keeps g → Keeps (hears_discovery d message g))
+    (g : StepState) (h : Keeps g)
+    (request_ : d.ident.kind ≡ Anonymous → (message : Allocation) → allocation_of d.payload ≡ Some message → Keeps (hears_allocation number message g)) where
+  abbrev KeepsResult : StepResult → Type 0
+  KeepsResult r = Keeps r.step_state
+
+  read : {A : Type 0} (does : A → StepState → StepState) (value : Option A) → ((v : A) → value ≡ Some v → Keeps (does v g)) → KeepsResult (reads does value g)
+  read does None f = h
+  read does (Some v) f = f v refl
+
+  asking : (bytes : List ℕ) → KeepsResult (asks_info number d bytes g)
+  asking [] = k.responds Info d (node_info_bytes (info_of g.allocator)) None g (λ e. cc (e)) (λ e. cc (e)) h
+  asking (byte ∷ bytes) = h
+
+  call_answered : (move : Request → Move) (call : Option Request) → Keeps (answers_call number move call g)
+  call_answered move None = h
+  call_answered move (Some asked) = k.moves (given_at g.allocator.now)
+      (handled.with_blank (members_of g.allocator) g.allocator.me number g.allocator.times g.allocator.raft_server (move asked ∷ [])) g h
+
+  message_comes : d.ident.kind ≡ Broadcast → KeepsResult (delivered.message d g)
+  message_comes kind = either KeepsResult (nat_eq d.ident.number 341) (reads (λ status. hears_status d) (node_status_of d.payload) g)
+      (reads (hears_discovery d) (discovery_of d.payload) g)
+      (λ e. read (λ status. hears_status d) (node_status_of d.payload) (λ status f. status_ kind g h))
+      (λ e. read (hears_discovery d) (discovery_of d.payload) (λ message f. discovery_ kind e message f g h))
+
+  vote_comes : (asked : Request) → Keeps (answers_vote number d asked g)
+  vote_comes asked =
+      let store = with_term g.allocator.raft_server.store asked.term in
+      let granted : Bool = grants store asked in
+      k.responds Vote d (vote_answer_bytes (record { term = store.term; granted = granted }) 0)
+      (Some (Answers (answer_to g.allocator.me number store asked granted)))
+      (with_moves number (given_at g.allocator.now) (TakeVoteRequest asked granted ∷ []) g) (λ f. cc (f)) (λ f. cc (f))
+      (k.moves (given_at g.allocator.now) (TakeVoteRequest asked granted ∷ []) g h)
+
+  append_comes : (asked : Request) → Keeps (answers_append number d asked g)
+  append_comes asked =
+      let store = with_term g.allocator.raft_server.store asked.term in
+      let verdict : Verdict = verdict_on g.allocator.raft_server asked in
+      k.responds App d (append_answer_bytes (record { term = store.term; success = is_accepted verdict }) 0)
+      (Some (Answers (answer_to g.allocator.me number store asked (is_accepted verdict))))
+      (with_moves number (given_at g.allocator.now) (TakeAppendRequest asked verdict ∷ []) g) (λ f. cc (f)) (λ f. cc (f))
+      (k.moves (given_at g.allocator.now) (TakeAppendRequest asked verdict ∷ []) g h)
+
+  request_comes : KeepsResult (request number d g)
+  request_comes = either KeepsResult (nat_eq d.ident.number 1) (asks_info number d d.payload g) _ (λ e. asking d.payload)
+      (λ e. either KeepsResult (nat_eq d.ident.number 30) (reads (takes_append_request number d) (append_request_of d.payload) g)
+      (reads (takes_vote_request number d) (vote_request_of d.payload) g)
+      (λ e. read (takes_append_request number d) (append_request_of d.payload) (λ asked f.
+      either Keeps (is_listed d g.allocator) (answers_append_request number d asked g) g
+      (λ e. append_comes (handled.append_request_of asked d.mark.step d.ident.source g.allocator.me)) (λ e. h)))
+      (λ e. read (takes_vote_request number d) (vote_request_of d.payload) (λ asked f.
+      either Keeps (is_listed d g.allocator) (answers_vote_request number d asked g) g
+      (λ e. vote_comes (handled.vote_request_of asked d.mark.step d.ident.source g.allocator.me)) (λ e. h))))
+
+  response_comes : KeepsResult (response number d g)
+  response_comes = either KeepsResult (nat_eq d.ident.number 1) (reads (hears_info d) (node_info_of d.payload) g) _
+      (λ e. read (hears_info d) (node_info_of d.payload) (λ info f. k.infos d info g h))
+      (λ e. either KeepsResult (nat_eq d.ident.number 30) (reads (takes_append_answer number d) (append_answer_of d.payload) g)
+      (reads (takes_vote_answer number d) (vote_answer_of d.payload) g)
+      (λ e. read (takes_append_answer number d) (append_answer_of d.payload) (λ says f.
+      either Keeps (is_listed d g.allocator) (ends_append_call number d says g) g
+      (λ e. either Keeps (is_awaited g.allocator.raft_server g.allocator.times d.ident.source true d.id) _ g
+      (λ e. call_answered (append_answered d says) (g.allocator.raft_server.memory.pending d.ident.source)) (λ e. h)) (λ e. h)))
+      (λ e. read (takes_vote_answer number d) (vote_answer_of d.payload) (λ says f.
+      either Keeps (is_listed d g.allocator) (ends_vote_call number d says g) g
+      (λ e. either Keeps (is_awaited g.allocator.raft_server g.allocator.times d.ident.source false d.id) _ g
+      (λ e. call_answered (vote_answered d says) (g.allocator.raft_server.memory.pending d.ident.source)) (λ e. h)) (λ e. h))))
+
+  kind_comes : (kind : Kind) → d.ident.kind ≡ kind → KeepsResult (by_kind number d kind g)
+  kind_comes Anonymous e = read (hears_allocation number) (allocation_of d.payload) (request_ e)
+  kind_comes Broadcast e = message_comes e
+  kind_comes RequestKind e = request_comes
+  kind_comes Response e = response_comes
+
+  pub delivery_passes : KeepsResult (delivery_phase number d g)
+  unfolding delivery_phase
+  delivery_passes = kind_comes d.ident.kind refl
+
 -- ---- an event that is no request offers none
 
 -- no Allocation is offered
@@ -107,79 +200,12 @@ responding number to id re what payload says g other h x i e = elim (in_append x
   | inr new ↦ elim new [ inl same ↦ absurd (other (sym (ap (λ (o : Offer). o.what) same) ∙ e)) | inr none ↦ absurd none ]
 ]
 
-read : {A : Type 0} (does : A → StepState → StepState) (value : Option A) (g : StepState) → Free g → ((v : A) → Free (does v g)) → FreeResult (reads does value g)
-read does None g h f = h
-read does (Some v) g h f = f v
-
-module _ (number : ℕ) (d : Delivery) (g : StepState) (h : Free g) where
-  asking : (bytes : List ℕ) → FreeResult (asks_info number d bytes g)
-  asking [] = responding number d.ident.source d.id d.mark.step Info _ None g (λ e. cc (e)) h
-  asking (byte ∷ bytes) = h
-
-  call_answered : (move : Request → Move) (call : Option Request) → Free (answers_call number move call g)
-  call_answered move None = h
-  call_answered move (Some asked) = h
-
-  message_comes : FreeResult (delivered.message d g)
-  message_comes = either FreeResult (nat_eq d.ident.number 341) (reads (λ status. hears_status d) (node_status_of d.payload) g)
-      (reads (hears_discovery d) (discovery_of d.payload) g)
-      (λ e. read (λ status. hears_status d) (node_status_of d.payload) g h (λ status. h))
-      (λ e. read (hears_discovery d) (discovery_of d.payload) g h (λ message. h))
-
-  vote_comes : (asked : Request) → Free (answers_vote number d asked g)
-  vote_comes asked =
-      let store = with_term g.allocator.raft_server.store asked.term in
-      let granted : Bool = grants store asked in
-      responding number d.ident.source d.id d.mark.step Vote (vote_answer_bytes (record { term = store.term; granted = granted }) 0)
-      (Some (Answers (answer_to g.allocator.me number store asked granted)))
-      (with_moves number (given_at g.allocator.now) (TakeVoteRequest asked granted ∷ []) g) (λ f. cc (f)) h
-
-  append_comes : (asked : Request) → Free (answers_append number d asked g)
-  append_comes asked =
-      let store = with_term g.allocator.raft_server.store asked.term in
-      let verdict : Verdict = verdict_on g.allocator.raft_server asked in
-      responding number d.ident.source d.id d.mark.step App (append_answer_bytes (record { term = store.term; success = is_accepted verdict }) 0)
-      (Some (Answers (answer_to g.allocator.me number store asked (is_accepted verdict))))
-      (with_moves number (given_at g.allocator.now) (TakeAppendRequest asked verdict ∷ []) g) (λ f. cc (f)) h
-
-  request_comes : FreeResult (request number d g)
-  request_comes = either FreeResult (nat_eq d.ident.number 1) (asks_info number d d.payload g) _ (λ e. asking d.payload)
-      (λ e. either FreeResult (nat_eq d.ident.number 30) (reads (takes_append_request number d) (append_request_of d.payload) g)
-      (reads (takes_vote_request number d) (vote_request_of d.payload) g)
-      (λ e. read (takes_append_request number d) (append_request_of d.payload) g h (λ asked.
-      either Free (is_listed d g.allocator) (answers_append_request number d asked g) g
-      (λ e. append_comes (handled.append_request_of asked d.mark.step d.ident.source g.allocator.me)) (λ e. h)))
-      (λ e. read (takes_vote_request number d) (vote_request_of d.payload) g h (λ asked.
-      either Free (is_listed d g.allocator) (answers_vote_request number d asked g) g
-      (λ e. vote_comes (handled.vote_request_of asked d.mark.step d.ident.source g.allocator.me)) (λ e. h))))
-
-  response_comes : FreeResult (response number d g)
-  response_comes = either FreeResult (nat_eq d.ident.number 1) (reads (hears_info d) (node_info_of d.payload) g) _
-      (λ e. read (hears_info d) (node_info_of d.payload) g h (λ info. h))
-      (λ e. either FreeResult (nat_eq d.ident.number 30) (reads (takes_append_answer number d) (append_answer_of d.payload) g)
-      (reads (takes_vote_answer number d) (vote_answer_of d.payload) g)
-      (λ e. read (takes_append_answer number d) (append_answer_of d.payload) g h (λ says.
-      either Free (is_listed d g.allocator) (ends_append_call number d says g) g
-      (λ e. either Free (is_awaited g.allocator.raft_server g.allocator.times d.ident.source true d.id) _ g
-      (λ e. call_answered (append_answered d says) (g.allocator.raft_server.memory.pending d.ident.source)) (λ e. h)) (λ e. h)))
-      (λ e. read (takes_vote_answer number d) (vote_answer_of d.payload) g h (λ says.
-      either Free (is_listed d g.allocator) (ends_vote_call number d says g) g
-      (λ e. either Free (is_awaited g.allocator.raft_server g.allocator.times d.ident.source false d.id) _ g
-      (λ e. call_answered (vote_answered d says) (g.allocator.raft_server.memory.pending d.ident.source)) (λ e. h)) (λ e. h))))
-
-  none_asked : (o : Option Allocation) → ((message : Allocation) → o ≡ Some message → ⊥) → FreeResult (reads (hears_allocation number) o g)
-  none_asked None none = h
-  none_asked (Some message) none = absurd (none message refl)
-
-  kind_comes : (kind : Kind) → (kind ≡ Anonymous → (message : Allocation) → allocation_of d.payload ≡ Some message → ⊥) → FreeResult (by_kind number d kind g)
-  kind_comes Anonymous none = none_asked (allocation_of d.payload) (none refl)
-  kind_comes Broadcast none = message_comes
-  kind_comes RequestKind none = request_comes
-  kind_comes Response none = response_comes
-
-  delivery_comes : (d.ident.kind ≡ Anonymous → (message : Allocation) → allocation_of d.payload ≡ Some message → ⊥) → FreeResult (delivery_phase number d g)
-  unfolding delivery_phase
-  delivery_comes none = kind_comes d.ident.kind none
+free : (number : ℕ) → IsAnswered number Free
+free number = record {
+  moves = λ given moves g h. h;
+  responds = λ what d payload says g other more h. responding number d.ident.source d.id d.mark.step what payload says g more h;
+  infos = λ d info g h. h;
+}
 
 -- what comes to a server
 abbrev pub comes_to : AllocatorState → Arrival → Answer
@@ -199,7 +225,8 @@ module _ (t : AllocatorState) (number : ℕ) where
 
   answered_free : (arrival : Arrival) (a : Answer) → ((d : Delivery) (message : Allocation) → a ≡ Gives d → d.ident.kind ≡ Anonymous → allocation_of d.payload ≡ Some message → ⊥)
       → FreeResult (with_answer number a (with_sessions arrival (begin_phase number arrival.moment t)))
-  answered_free arrival (Gives d) none = delivery_comes number d (with_sessions arrival (begin_phase number arrival.moment t)) (λ x i. absurd i) (λ kind message says. none d message refl kind says)
+  answered_free arrival (Gives d) none = delivery_passes number Free (free number) d (λ kind g h. h) (λ kind other message says g h. h)
+      (with_sessions arrival (begin_phase number arrival.moment t)) (λ x i. absurd i) (λ kind message says. absurd (none d message refl kind says))
   answered_free arrival Continues none = λ x i. absurd i
   answered_free arrival (Drops why) none = λ x i. absurd i
 

@@ -1,11 +1,10 @@
 -- A frame comes to the leader from a device that asks already: it is no request, or is ignored, or answered, or the log grows.
-use Rattle.std.proofs.Common.{◌≡◌, ◌⊎◌, ℕ, suc, ◌+◌, ◌*◌, ◌≤◌, true, false, List, [], ◌∷◌, ◌++◌, length, max, refl, sym, ◌∙◌, ap, subst, arith, inl, inr, Some}
+use Rattle.std.proofs.Common.{◌≡◌, ◌⊎◌, ℕ, suc, ◌+◌, ◌*◌, ◌≤◌, true, false, List, [], ◌∷◌, ◌++◌, length, max, refl, sym, ◌∙◌, ap, subst, arith, inl, inr}
 use Rattle.alloc_exchange.specs.declared.heard.Heard.TheVariants.{FollowUp as Follows}
 use Rattle.alloc_exchange.specs.Exchange.{Accepted, after, answer, last_moment}
 use Rattle.can_frame.specs.declared.step.What.TheVariants.{Alloc}
 use Rattle.can_frame.specs.Cutting.{frame_count}
 use Rattle.dsdl_codec.specs.declared.allocation.Allocation.{Allocation}
-use Rattle.dsdl_codec.specs.Allocation.{IsAllocation, allocation_bytes, allocation_of}
 use Rattle.raft_model.specs.Lists.{In}
 use Rattle.replay_text.specs.declared.row.Row.{Row}
 use Rattle.replay_text.specs.declared.row.Row.TheVariants.{Rx}
@@ -20,7 +19,7 @@ use Rattle.alloc_spec.specs.Step.Event.{Rx as Receives}
 use Rattle.alloc_spec.specs.Transfers.{Offer, has_room}
 use Rattle.alloc_spec_laws.proofs.Choices.{and_right}
 use Rattle.cluster_progress.specs.Requests.{IsRequest}
-use Rattle.cluster_progress.specs.Serving.{GivesFollowUps, IsReady, allocation_from}
+use Rattle.cluster_progress.specs.Serving.{IsReady, allocation_from}
 use Rattle.cluster_recovery.proofs.CalmGiving.{few_frames}
 use Rattle.cluster_calm.specs.Calm.{Device as OfDevice, IsCalmRow, IsInTime, Member as OfMember, Traffic, traffic_after}
 use Rattle.cluster_calm.specs.Comes.{sent_by}
@@ -28,7 +27,6 @@ use Rattle.calm_service.specs.Settled.{IsAsked, IsSettled}
 use Rattle.calm_service.proofs.AskingExchange.{IsIgnored, IsTaken, becomes, ignored_free, rank, rank_left}
 use Rattle.calm_service.proofs.AskingRoad.{AreFew, Road, road_asked}
 use Rattle.calm_service.proofs.AskingTimes.{IsFresh, stale, times_dropped, times_heard}
-use Rattle.cluster_calm.proofs.DevicesHeard.{RequestsAreDelivered}
 use Rattle.calm_service.proofs.DialogAlone.{none as has_none_to_tell}
 use Rattle.calm_service.proofs.DialogAsked.{FramesFly}
 use Rattle.calm_service.proofs.DialogFrames.{HasSource, is_asked}
@@ -42,11 +40,11 @@ use Rattle.cluster_calm.proofs.Pair.{made_none, made_of, out_ones, same_server}
 use Rattle.cluster_calm.proofs.Pending.{Coming, Made}
 use Rattle.cluster_calm.proofs.Ways.{flying_late}
 use Rattle.cluster_agreement.proofs.Lists.{in_back, in_front}
+use Rattle.calm_service.proofs.ServiceGrounds.{calm_laws}
 use Rattle.cluster_spec.specs.Cluster.{Cluster, after_row, arrival_at, frame_at, receipt_of}
 use Rattle.calm_service.proofs.AskingGoes.{GoesOn, IsGoingOn, empty_by, goes_with, stays}
 
-module _ (g : Talk) (from : ℕ) (delivered : RequestsAreDelivered) (follow : GivesFollowUps)
-    (read : (value : Allocation) → IsAllocation value → allocation_of (allocation_bytes value) ≡ Some value)
+module _ (g : Talk) (from : ℕ)
     (traffic : Traffic) (w : Cluster) (l : IsGoingOn g from traffic w) (at_ : ℕ) (in_time : IsInTime g.group g.clocks g.pace traffic w at_) where
   abbrev Goal : Row → Type 0
   Goal row = GoesOn g from traffic w (record { at = at_; row = row })
@@ -105,7 +103,7 @@ module _ (g : Talk) (from : ℕ) (delivered : RequestsAreDelivered) (follow : Gi
 
       request : IsRequest (arrival_at (frame_at w.frames k) ms) message
       request =
-          let r = is_request g.laws.frame g.n t.sessions (arrival_at (frame_at w.frames k) now) asked_.request gives asked_.anonymous message asked_.says in record {
+          let r = is_request (calm_laws g.below).frame g.n t.sessions (arrival_at (frame_at w.frames k) now) asked_.request gives asked_.anonymous message asked_.says in record {
             ident = r.ident;
             read = r.read;
             kind = r.kind;
@@ -167,7 +165,7 @@ module _ (g : Talk) (from : ℕ) (delivered : RequestsAreDelivered) (follow : Gi
             free = subst (λ (s : AllocatorState). (o : Offer) → In o (server.step s (w.rows + 1) (receipt_of w k ms)).step_state.offers → o.what ≡ Alloc → ⊥) same_s
                 (ignored_free t (w.rows + 1) (arrival_at (frame_at w.frames k) ms) asked_.request message
                 ((λ i. received (setting_for (its_me i)) t.sessions (arrival_at (frame_at w.frames k) (max t.now ms))) ∙ gives) asked_.anonymous asked_.says ready
-                (has_none_to_tell g.judged g.n g.log w t (record { status = l.road.settled.settled.runs; quiet = record { faults = l.road.settled.settled.faults; calls = l.road.settled.settled.disk } })
+                (has_none_to_tell g.below.judged g.n g.log w t (record { status = l.road.settled.settled.runs; quiet = record { faults = l.road.settled.settled.faults; calls = l.road.settled.settled.disk } })
                 its_me (traffic.at + ahead g) l.road.settled.settled (Rx g.n k ms) (at_ + ahead g) settled.settled (receipt_of w k ms) refl)
                 why (ap (λ (a : List Accepted). answer a message now true) l.road.settled.requests ∙ is))
 
@@ -198,7 +196,7 @@ module _ (g : Talk) (from : ℕ) (delivered : RequestsAreDelivered) (follow : Gi
                 }) refl refl),
                 last_then,
                 record { node = 0; first_part = false; uid = record { items = f.0 } },
-                read (record { node = 0; first_part = false; uid = record { items = f.0 } }) (record { node = omega arith; uid = f.2 }),
+                g.below.read (record { node = 0; first_part = false; uid = record { items = f.0 } }) (record { node = omega arith; uid = f.2 }),
               ))
               | inr none ↦ by_fresh r.2 (inr none)
             ])
@@ -209,7 +207,7 @@ module _ (g : Talk) (from : ℕ) (delivered : RequestsAreDelivered) (follow : Gi
                 let place : has_room t.queue (allocation_payload 0 bytes) ≡ true = le_is (length t.queue + frame_count (suc (length bytes))) 32
                 (let f : frame_count (suc (length bytes)) ≤ 3 = few_frames (suc (length bytes)) (omega (arith, few)) in
                 let r = known.room t l.road.settled.settled.runs in omega (arith, f, r)) in
-                let f = follow t (w.rows + 1) (arrival_at (frame_at w.frames k) ms) message bytes ready request
+                let f = g.below.follow t (w.rows + 1) (arrival_at (frame_at w.frames k) ms) message bytes ready request
                 (ap (λ (a : List Accepted). answer a message now true) l.road.settled.requests ∙ says) place in
                 subst (λ (o : List Offer). In (allocation_from t 0 bytes) o) (sym f.offered.is) (inl refl)
 
@@ -244,7 +242,7 @@ module _ (g : Talk) (from : ℕ) (delivered : RequestsAreDelivered) (follow : Gi
             (times_dropped g from l.accepted l.xs l.cs l.queue l.request l.follow_up traffic.at ticked waits l.times at_ in_time.moments c others is_first) refl refl (λ x d. cc (d.comes))
       ]
       | inr other ↦ asks_it other.0
-          (is_asked delivered g.n w k ms other.0 t l.road.settled.settled.runs
+          (is_asked g.below.delivered g.n w k ms other.0 t l.road.settled.settled.runs
           (subst (λ (f : Queued). IsRequest (arrival_at f (max t.now ms)) other.0) (sym same) (request_at c.frame other.0 (max t.now ms) other.2)))
           (inr other.1)
     ]

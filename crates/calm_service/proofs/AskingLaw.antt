@@ -1,23 +1,14 @@
 -- A device that asks already is heard out, from the middle of a calm on.
-use Rattle.std.proofs.Common.{◌≡◌, ◌≢◌, ◌⊎◌, ℕ, ◌+◌, ◌*◌, ◌<◌, ◌≤◌, Bool, List, [], ◌∷◌, ◌++◌, append_assoc, refl, sym, ◌∙◌, ap, subst, arith, inl, inr, None, Some}
+use Rattle.std.proofs.Common.{◌≡◌, ◌≢◌, ◌⊎◌, ℕ, ◌+◌, ◌*◌, ◌<◌, ◌≤◌, List, [], ◌∷◌, ◌++◌, append_assoc, refl, sym, ◌∙◌, ap, subst, arith, inl, inr, None, Some}
 use Rattle.alloc_exchange.specs.Exchange.{Accepted}
 use Rattle.can_frame.specs.declared.entry.Entry.{Entry}
 use Rattle.can_frame.specs.declared.step.What.TheVariants.{Alloc}
-use Rattle.dsdl_codec.specs.declared.allocation.Allocation.{Allocation}
-use Rattle.dsdl_codec.specs.Allocation.{IsAllocation, allocation_bytes, allocation_of}
 use Rattle.raft_model.specs.Lists.{In}
-use Rattle.raft_model.specs.Runs as raft
 use Rattle.replay_text.specs.declared.row.Row.{Row}
 use Rattle.transfer_rx.specs.Keys.{key_of}
 use Rattle.transfer_tx.specs.Queue.{Queued}
 use Rattle.allocatee.specs.Allocatee.{Device}
-use Rattle.alloc_spec.specs.AllocatorState.{AllocatorState}
-use Rattle.alloc_spec.specs.Step.{Event, step}
-use Rattle.alloc_spec.specs.Transfers.{SentTransfer, id_of, ident_of}
-use Rattle.alloc_spec_laws.specs.Apart.{AreAllApart}
-use Rattle.cluster_agreement.specs.Shows.{Shows}
-use Rattle.cluster_progress.specs.Devices.{RequestsAreRequests}
-use Rattle.cluster_progress.specs.Serving.{GivesFollowUps}
+use Rattle.alloc_spec.specs.Transfers.{id_of, ident_of}
 use Rattle.cluster_recovery.specs.Calm.{HasSettled, Pace, Timed, end_of, rows_in}
 use Rattle.cluster_calm.specs.Calm.{AreCalm, AreRunning, Device as OfDevice, Member as OfMember, Party, Traffic, no_traffic, traffic_after}
 use Rattle.cluster_calm.specs.Comes.{Throughout}
@@ -28,36 +19,31 @@ use Rattle.calm_service.specs.Dialog.{HasNothingToSay, HasRoomToTell, HaveRoom, 
 use Rattle.calm_service.specs.Settled.{EachRowLeavesItSettled, IsCalmUnder, IsSettled, StaysSettled}
 use Rattle.calm_leader.specs.LeadsOn.{FollowsWithin}
 use Rattle.calm_leader.proofs.Stretches.{end_both, throughout_rest, world_both}
-use Rattle.calm_service.proofs.AllocationsTold.{VerdictsAre}
 use Rattle.calm_service.proofs.AskingBefore.{IsMeanwhile, flying_as, meanwhile}
 use Rattle.calm_service.proofs.AskingDevice.{AreWound, as_device, wound_rows, wound_there}
 use Rattle.calm_service.proofs.AskingExchange.{rank}
 use Rattle.calm_service.proofs.AskingGoes.{IsGoingOn, goes_end}
 use Rattle.calm_service.proofs.AskingRows.{each_row}
 use Rattle.calm_service.proofs.AskingTimes.{until_least}
-use Rattle.cluster_calm.proofs.Counting.{HasPlaces}
-use Rattle.cluster_calm.proofs.DevicesHear.{SessionLaws}
-use Rattle.cluster_calm.proofs.DevicesHeard.{RequestsAreDelivered}
 use Rattle.cluster_calm.proofs.DevicesSteps.{small_rows, small_there}
 use Rattle.calm_service.proofs.Dialog.{AllKnown, all_known, heard_by}
 use Rattle.calm_service.proofs.DialogFrames.{HasSource, IsBearable}
 use Rattle.calm_service.proofs.DialogOthers.{IsSilent, is_silent}
 use Rattle.calm_service.proofs.DialogPhases.{ahead, its_clock}
 use Rattle.calm_service.proofs.DialogScene.{Talk}
-use Rattle.cluster_calm.proofs.Group.{CalmLaws}
 use Rattle.cluster_calm.proofs.Pair.{Only}
-use Rattle.cluster_calm.proofs.Start.{places_in, server_is, well_in}
 use Rattle.cluster_calm.proofs.Ways.{Waiting}
-use Rattle.cluster_spec.specs.Cluster.{Cluster, after_row, after_rows, cluster, world_of}
-use Rattle.cluster_spec.specs.Members.MemberStatus.{Up}
+use Rattle.calm_service.specs.ServiceBelow.{ServiceGrounds}
+use Rattle.calm_service.proofs.ServiceGrounds.{calm_laws, is_server, well}
+use Rattle.cluster_spec.specs.Cluster.{AreMembers, Cluster, after_row, after_rows, cluster, world_of}
+use Rattle.cluster_spec.specs.Lawful.{DoNoHarm}
 
 -- ---- until it is heard out
 
-module _ (g : Talk) (requests : RequestsAreRequests) (delivered : RequestsAreDelivered) (follow : GivesFollowUps)
-    (read : (value : Allocation) → IsAllocation value → allocation_of (allocation_bytes value) ≡ Some value) where
+module _ (g : Talk) where
   -- what is known of the rows does not depend on the moment from which a dialog is timed
-  known_from : (start : ℕ) (rows : List Timed) (moment : ℕ) (w : Cluster) → AllKnown g requests delivered follow read moment w rows
-      → AllKnown (record g { start = start }) requests delivered follow read moment w rows
+  known_from : (start : ℕ) (rows : List Timed) (moment : ℕ) (w : Cluster) → AllKnown g moment w rows
+      → AllKnown (record g { start = start }) moment w rows
   known_from start [] moment w known = tt
   known_from start (timed ∷ rest) moment w known = (
     record { leaves = known.0.leaves; memory = known.0.memory; room = known.0.room; others = known.0.others },
@@ -106,11 +92,11 @@ module _ (g : Talk) (requests : RequestsAreRequests) (delivered : RequestsAreDel
   }))
 
   pub heard_again : (from : ℕ) (rows : List Timed) (traffic : Traffic) (w : Cluster) → IsGoingOn g from traffic w → AreCalm g.group g.clocks g.pace traffic w rows
-      → AllKnown g requests delivered follow read traffic.at w rows → SendsShortAllocations g.n w rows → traffic.at ≤ Last from → Last from < end_of traffic.at rows
+      → AllKnown g traffic.at w rows → SendsShortAllocations g.n w rows → traffic.at ≤ Last from → Last from < end_of traffic.at rows
       → Outcome (Last from) traffic.at w rows
   heard_again from [] traffic w goes calm known short now long = absurd (omega (arith, now, long))
   heard_again from (timed ∷ rest) traffic w goes calm known short now long =
-      elim (each_row g from requests delivered follow read traffic w goes timed.at calm.0 timed.row calm.1 known.0 short.0) [
+      elim (each_row g from traffic w goes timed.at calm.0 timed.row calm.1 known.0 short.0) [
         | inl on ↦ behind (Last from) traffic.at w timed rest
             (heard_again from rest (traffic_after traffic w timed) (after_row w timed.row) on calm.2 known.1 short.1 by long)
         | inr y ↦ elim y [
@@ -138,7 +124,7 @@ module _ (g : Talk) (requests : RequestsAreRequests) (delivered : RequestsAreDel
               recorded = grows.4;
             }))
             | inr anew ↦ behind (Last from) traffic.at w timed rest (inl (anew_heard anew.0 anew.1
-                (heard_by (record g { start = anew.0 }) requests delivered follow read rest (traffic_after traffic w timed) (after_row w timed.row) anew.3 calm.2
+                (heard_by (record g { start = anew.0 }) rest (traffic_after traffic w timed) (after_row w timed.row) anew.3 calm.2
                 (known_from anew.0 rest timed.at (after_row w timed.row) known.1) (let s = anew.2 in omega (arith, s)) (let s = anew.1 in omega (arith, s, long)))))
           ]
         ]
@@ -214,30 +200,27 @@ module _ (g : Talk) (traffic : Traffic) (w : Cluster) (m : IsMeanwhile g traffic
 
   -- another member is silent
   pub silent_there : (p : ℕ) (i : In (OfMember p) g.group) → HasNothingToSay p (traffic.at + g.clocks (OfMember p)) w
-      → IsSilent g.laws g.group g.clocks g.pace p (g.nodes p i) (traffic.at + g.clocks (OfMember p)) w
+      → IsSilent (calm_laws g.below) g.group g.clocks g.pace p (g.nodes p i) (traffic.at + g.clocks (OfMember p)) w
   silent_there p i h = let its = m.well.members p i in
-      is_silent g.laws g.group g.clocks g.pace p (g.nodes p i) (traffic.at + g.clocks (OfMember p)) w its.server its.up its.its h
+      is_silent (calm_laws g.below) g.group g.clocks g.pace p (g.nodes p i) (traffic.at + g.clocks (OfMember p)) w its.server its.up its.its h
 
 -- ---- when the calm begins
 
-module _ (ids : List ℕ) (choice : ℕ → Bool) (made : List SentTransfer) (w : Cluster) (run : raft.World) (shows : Shows choice made w run) (same : w.ids ≡ ids)
-    (places : (p : ℕ) (t : AllocatorState) → (w.member p).status ≡ Up t → HasPlaces t.ids) (g : Talk) (start : ℕ) (listed : (p : ℕ) → In (OfMember p) g.group → In p ids)
-    (running : AreRunning g.group w) (ready : AreReadyToTell g.n g.a w) (begins : g.base ≡ ready.device.asking.moment)
-    (may : AllocationMayBegin g.n ready.device (id_of ready.sender.ids Alloc 0)) (asks : IsAsking g.group g.a g.uid g.preferred (start + its_clock g) w) where
-  there : (p : ℕ) → In (OfMember p) g.group → In p w.ids
-  there p i = subst (λ (l : List ℕ). In p l) (sym same) (listed p i)
-
-  pub at_first : IsMeanwhile g (no_traffic start) w
+module _ (below : ServiceGrounds) (ids : List ℕ) (members : AreMembers ids) (list : List Row) (harmless : DoNoHarm (cluster ids) list) (g : Talk) (start : ℕ)
+    (listed : (p : ℕ) → In (OfMember p) g.group → In p ids) (running : AreRunning g.group (world_of ids list)) (ready : AreReadyToTell g.n g.a (world_of ids list))
+    (begins : g.base ≡ ready.device.asking.moment) (may : AllocationMayBegin g.n ready.device (id_of ready.sender.ids Alloc 0))
+    (asks : IsAsking g.group g.a g.uid g.preferred (start + its_clock g) (world_of ids list)) where
+  pub at_first : IsMeanwhile g (no_traffic start) (world_of ids list)
   at_first =
       let of_n = running g.n g.in_n in record {
-        well = well_in ids choice made w run shows places g.group there running;
+        well = well below ids members list harmless g.group listed running;
         xs = [];
         front = [];
         expected = Only (id_of ready.sender.ids Alloc 0);
         pair = record {
           sender = ready.sender;
           sender_up = record { status = ready.sends; quiet = record { faults = of_n.faults; calls = of_n.disk } };
-          sender_is = server_is ids choice made w run shows places g.n ready.sender (there g.n g.in_n) ready.sends;
+          sender_is = is_server below ids members list harmless g.n ready.sender (listed g.n g.in_n) ready.sends;
           sessions = ready.device.sessions;
           now = ready.device.asking.moment;
           hears = record { device = ready.device; there = ready.there; has = refl; reads = refl };
@@ -269,12 +252,8 @@ module _ (ids : List ℕ) (choice : ℕ → Bool) (made : List SentTransfer) (w 
 
 -- ---- the law
 
-module _ (laws : CalmLaws) (judged : VerdictsAre) (session_laws : SessionLaws)
-    (apart : (t : AllocatorState) (number : ℕ) (event : Event) → AreAllApart (step t number event).step_state.offers)
-    (requests : RequestsAreRequests) (delivered : RequestsAreDelivered) (follow : GivesFollowUps)
-    (read : (value : Allocation) → IsAllocation value → allocation_of (allocation_bytes value) ≡ Some value)
-    (ids : List ℕ) (list : List Row) (nodes : (p : ℕ) → In p ids → (1 ≤ p) × (p ≤ 125)) (choice : ℕ → Bool) (made : List SentTransfer) (run : raft.World)
-    (shows : Shows choice made (world_of ids list) run) (same : (world_of ids list).ids ≡ ids) (leaves : EachRowLeavesItSettled ids list) where
+module _ (below : ServiceGrounds) (ids : List ℕ) (members : AreMembers ids) (list : List Row) (harmless : DoNoHarm (cluster ids) list)
+    (leaves : EachRowLeavesItSettled ids list) where
   module _ (group : List Party) (clocks : Party → ℕ) (pace : Pace) (start n a term : ℕ) (uid : List ℕ) (preferred : ℕ) (log : List Entry) (first early later : List Timed)
       (under : IsCalmUnder ids list group clocks pace start n term first (early ++ later))
       (asks : IsAsking group a uid preferred (start + clocks (OfDevice a)) (world_of ids list)) (ready : AreReadyToTell n a (world_of ids list))
@@ -295,14 +274,11 @@ module _ (laws : CalmLaws) (judged : VerdictsAre) (session_laws : SessionLaws)
 
     abbrev g : Talk
     g = record {
-      laws = laws;
-      judged = judged;
-      session_laws = session_laws;
-      apart = apart;
+      below = below;
       group = group;
       clocks = clocks;
       pace = pace;
-      nodes = λ p i. nodes p (under.listed p i);
+      nodes = λ p i. members.nodes p (under.listed p i);
       n = n;
       in_n = under.member;
       a = a;
@@ -324,7 +300,7 @@ module _ (laws : CalmLaws) (judged : VerdictsAre) (session_laws : SessionLaws)
 
     at_led : There led (early ++ later) (end_of start first)
     at_led = meanwhile g first (early ++ later) (no_traffic start) w
-        (at_first ids choice made w run shows same (places_in ids list) g start under.listed under.running ready refl may asks) under.calm undisturbed.memory short
+        (at_first below ids members list harmless g start under.listed under.running ready refl may asks) under.calm undisturbed.memory short
 
     at_there : There then_w later moment
     at_there =
@@ -345,7 +321,7 @@ module _ (laws : CalmLaws) (judged : VerdictsAre) (session_laws : SessionLaws)
       goes : IsGoingOn g at_there.0.at at_there.0 then_w
       goes = goes_on_from g at_there.0 then_w at_there.2 settled_there wound small (no_id at_there.2.device at_there.2.there)
 
-      silent : (m : ℕ) (i : In (OfMember m) group) → m ≢ n → IsSilent laws group clocks pace m (g.nodes m i) (at_there.0.at + clocks (OfMember m)) then_w
+      silent : (m : ℕ) (i : In (OfMember m) group) → m ≢ n → IsSilent (calm_laws below) group clocks pace m (g.nodes m i) (at_there.0.at + clocks (OfMember m)) then_w
       silent m i differ = silent_there g at_there.0 then_w at_there.2 settled_there wound small (no_id at_there.2.device at_there.2.there) m i
           (subst (λ (k : ℕ). HasNothingToSay m (k + clocks (OfMember m)) then_w) (sym at_there.1) (others m i differ))
 
@@ -366,15 +342,15 @@ module _ (laws : CalmLaws) (judged : VerdictsAre) (session_laws : SessionLaws)
           (subst (λ (v : Cluster). IsSettled n log accepted (end_of (end_of start first) (early ++ front) + clocks (OfMember n)) v) (sym (world_both led early front))
           (subst (λ (k : ℕ). IsSettled n log accepted (k + clocks (OfMember n)) (after_rows then_w (rows_in front))) (sym ends) its)))
 
-      known : AllKnown g requests delivered follow read at_there.0.at then_w later
-      known = all_known g requests delivered follow read term later at_there.0 then_w at_there.2.well at_there.3 silent follows at_there.4
+      known : AllKnown g at_there.0.at then_w later
+      known = all_known g term later at_there.0 then_w at_there.2.well at_there.3 silent follows at_there.4
           (throughout_rest (HasRoomToTell n) early later led (throughout_rest (HasRoomToTell n) first (early ++ later) w undisturbed.room)) leaves_it
 
       abbrev Heard : ℕ → Type 0
-      Heard k = Outcome g requests delivered follow read (k + time_to_be_heard_again pace) k then_w later
+      Heard k = Outcome g (k + time_to_be_heard_again pace) k then_w later
 
       heard : moment + time_to_be_heard_again pace < end_of moment later → Heard moment
-      heard long = subst Heard at_there.1 (heard_again g requests delivered follow read at_there.0.at later at_there.0 then_w goes at_there.3 known at_there.5 (omega arith)
+      heard long = subst Heard at_there.1 (heard_again g at_there.0.at later at_there.0 then_w goes at_there.3 known at_there.5 (omega arith)
           (subst (λ (k : ℕ). k + time_to_be_heard_again pace < end_of k later) (sym at_there.1) long))
 
   pub asking_heard : AskingDevicesAreHeardOut ids list

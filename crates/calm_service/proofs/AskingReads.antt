@@ -12,7 +12,7 @@ use Rattle.allocatee.specs.Asking.{due as is_due, has_passed, request_wait, time
 use Rattle.allocatee.specs.declared.timer.FollowUp.{FollowUp}
 use Rattle.allocatee.specs.declared.timer.Timer.{Timer}
 use Rattle.alloc_spec_laws.proofs.Choices.{lt_tells}
-use Rattle.cluster_progress.specs.Devices.{RequestsAreRequests, comes_at}
+use Rattle.cluster_progress.specs.Devices.{comes_at}
 use Rattle.cluster_progress.specs.Requests.{IsRequest}
 use Rattle.cluster_recovery.specs.Calm.{waits_after}
 use Rattle.cluster_recovery.proofs.CalmDevice.{asked, asks_first, device_as, request_frames, six_at_most}
@@ -31,7 +31,7 @@ use Rattle.cluster_calm.proofs.Ways.{flying_late}
 use Rattle.cluster_spec.specs.Cluster.{Cluster, after_row}
 use Rattle.calm_service.proofs.AskingGoes.{GoesOn, IsGoingOn, empty_by, goes_with, last_request, older, queue_is, short_period}
 
-module _ (g : Talk) (from : ℕ) (requests : RequestsAreRequests)
+module _ (g : Talk) (from : ℕ)
     (traffic : Traffic) (w : Cluster) (l : IsGoingOn g from traffic w) (at_ : ℕ) (in_time : IsInTime g.group g.clocks g.pace traffic w at_) where
   abbrev Goal : Row → Type 0
   Goal row = GoesOn g from traffic w (record { at = at_; row = row })
@@ -93,7 +93,7 @@ module _ (g : Talk) (from : ℕ) (requests : RequestsAreRequests)
     made : (first : Bool) (part : List ℕ) → (frame : Queued) × (request_frames g.uid g.preferred (w.rows + 1) word l.asker.id first (take 6 part) ≡ frame ∷ [])
         × (first ≡ false → IsNoFirst frame)
     made first part =
-        let m = requests word l.asker.id (w.rows + 1) 0 (asked g.uid g.preferred first (take 6 part)) l.asker.small g.few (six_at_most g.uid g.preferred part) in
+        let m = g.below.requests word l.asker.id (w.rows + 1) 0 (asked g.uid g.preferred first (take 6 part)) l.asker.small g.few (six_at_most g.uid g.preferred part) in
         (m.0, m.1, λ none. (asked g.uid g.preferred first (take 6 part), none, m.2))
 
     -- a follow-up is due
@@ -181,7 +181,7 @@ module _ (g : Talk) (from : ℕ) (requests : RequestsAreRequests)
 
       frame_then : (frame : Queued) × (request_frames g.uid g.preferred (w.rows + 1) word l.asker.id true (take 6 g.uid) ≡ frame ∷ [])
           × IsRequest (comes_at frame 0) (asked g.uid g.preferred true (take 6 g.uid))
-      frame_then = requests word l.asker.id (w.rows + 1) 0 (asked g.uid g.preferred true (take 6 g.uid)) l.asker.small g.few (six_at_most g.uid g.preferred g.uid)
+      frame_then = g.below.requests word l.asker.id (w.rows + 1) 0 (asked g.uid g.preferred true (take 6 g.uid)) l.asker.small g.few (six_at_most g.uid g.preferred g.uid)
 
       anew_there : (after_row w (ATick g.a (at_ + its_clock g) word)).allocatee g.a
           ≡ Some (device_as g.uid g.preferred (frame_then.0 ∷ []) ((l.asker.id + 1) % 32) (at_ + its_clock g) (timer_from (at_ + its_clock g) (request_wait word)) None l.asker.sessions)

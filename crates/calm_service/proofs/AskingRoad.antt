@@ -31,6 +31,7 @@ use Rattle.cluster_calm.proofs.Pair.{AreShort, Expected, Next, made_none, made_o
 use Rattle.cluster_calm.proofs.Pending.{Coming, Made}
 use Rattle.cluster_calm.proofs.Ways.{Flying}
 use Rattle.calm_service.proofs.DialogScene.{Begins, Known, PairOf, Scene, Talk, brought_bears, fly_on, in_two, next_to, none_ends, one_comes, yes_number}
+use Rattle.calm_service.proofs.ServiceGrounds.{calm_laws, session_laws}
 use Rattle.cluster_spec.specs.Cluster.{Cluster, after_row, arrival_at, frame_at, step_of}
 
 -- three frames have 19 bytes of a payload at most
@@ -72,9 +73,9 @@ module _ (g : Talk) where
   -- no Allocation that is under way was made more than two delays ago
   pub road_late : (accepted : List Accepted) (xs : List Made) (cs ss : List Coming) (traffic : Traffic) (w : Cluster) → (s : Road accepted xs cs ss traffic w) → (at_ : ℕ)
       → IsInTime g.group g.clocks g.pace traffic w at_ → (x : Made) → In x xs → at_ ≤ x.at + 2 * g.pace.delay
-  road_late accepted xs cs ss traffic w s at_ in_time = not_late g.laws g.group g.clocks g.pace g.nodes g.n g.in_n (OfDevice g.a) g.in_a refl device_receiver Alloc 0 g.base (in_two g)
-      refl refl (inr refl) refl (device_wants g.laws.frame g.n (g.nodes g.n g.in_n)) (Begins g) (IsCounter Alloc 0) (λ t expected mode. mode)
-      (IsListening g.a) (DeliversTo g.a) (DeviceHasMemory g.a) (device_hears g.session_laws g.group g.clocks g.pace g.n g.a) traffic w xs s.front s.expected s.pair at_ in_time
+  road_late accepted xs cs ss traffic w s at_ in_time = not_late (calm_laws g.below) g.group g.clocks g.pace g.nodes g.n g.in_n (OfDevice g.a) g.in_a refl device_receiver Alloc 0 g.base (in_two g)
+      refl refl (inr refl) refl (device_wants (calm_laws g.below).frame g.n (g.nodes g.n g.in_n)) (Begins g) (IsCounter Alloc 0) (λ t expected mode. mode)
+      (IsListening g.a) (DeliversTo g.a) (DeviceHasMemory g.a) (device_hears (session_laws g.below) g.group g.clocks g.pace g.n g.a) traffic w xs s.front s.expected s.pair at_ in_time
 
   -- ---- the Allocations of the leader, in any row
 
@@ -82,9 +83,9 @@ module _ (g : Talk) where
       (at_ : ℕ) (row : Row) (in_time : IsInTime g.group g.clocks g.pace traffic w at_) (calm : IsCalmRow g.group g.clocks g.pace traffic w at_ row)
       (memory : DeviceHasMemory g.a w) (short : AreFew g.n w row) where
     abbrev pub NextPair : Type 0
-    NextPair = Next g.laws g.group g.clocks g.pace g.nodes g.n g.in_n (OfDevice g.a) g.in_a refl device_receiver Alloc 0 g.base (in_two g) refl refl (inr refl) refl
-        (device_wants g.laws.frame g.n (g.nodes g.n g.in_n)) (Begins g) (IsCounter Alloc 0) (λ t expected mode. mode)
-        (IsListening g.a) (DeliversTo g.a) (DeviceHasMemory g.a) (device_hears g.session_laws g.group g.clocks g.pace g.n g.a)
+    NextPair = Next (calm_laws g.below) g.group g.clocks g.pace g.nodes g.n g.in_n (OfDevice g.a) g.in_a refl device_receiver Alloc 0 g.base (in_two g) refl refl (inr refl) refl
+        (device_wants (calm_laws g.below).frame g.n (g.nodes g.n g.in_n)) (Begins g) (IsCounter Alloc 0) (λ t expected mode. mode)
+        (IsListening g.a) (DeliversTo g.a) (DeviceHasMemory g.a) (device_hears (session_laws g.below) g.group g.clocks g.pace g.n g.a)
         traffic w xs front expected pair at_ in_time row (λ e. ⊤)
 
     sends_it : (event : Event) → step_of w row ≡ Some (g.n, event) → (o : Offer) → In o (ones Alloc 0 (step pair.sender (w.rows + 1) event).step_state.offers)
@@ -106,9 +107,9 @@ module _ (g : Talk) where
     few event is_step o i = let s = sends_it event is_step o i in three_frames (length o.payload) (short o s.0 s.1)
 
     pub next_pair : NextPair
-    next_pair = next_row g.laws g.group g.clocks g.pace g.nodes g.n g.in_n (OfDevice g.a) g.in_a refl device_receiver Alloc 0 g.base (in_two g) refl refl (inr refl) refl
-        (device_wants g.laws.frame g.n (g.nodes g.n g.in_n)) (Begins g) (IsCounter Alloc 0) (λ t expected mode. mode)
-        (IsListening g.a) (DeliversTo g.a) (DeviceHasMemory g.a) (device_hears g.session_laws g.group g.clocks g.pace g.n g.a)
+    next_pair = next_row (calm_laws g.below) g.group g.clocks g.pace g.nodes g.n g.in_n (OfDevice g.a) g.in_a refl device_receiver Alloc 0 g.base (in_two g) refl refl (inr refl) refl
+        (device_wants (calm_laws g.below).frame g.n (g.nodes g.n g.in_n)) (Begins g) (IsCounter Alloc 0) (λ t expected mode. mode)
+        (IsListening g.a) (DeliversTo g.a) (DeviceHasMemory g.a) (device_hears (session_laws g.below) g.group g.clocks g.pace g.n g.a)
         traffic w xs front expected pair at_ in_time memory well (λ e. ⊤) row calm
         (λ event is_step bus.
         let f = counter_follows (Begins g) g.n Alloc 0 refl (w.rows + 1) expected pair.sender pair.sender_is pair.mode event in
@@ -127,7 +128,7 @@ module _ (g : Talk) where
     then_w = after_row w row
 
     well_then : AreWell g.group then_w
-    well_then = well_after g.laws g.group g.nodes w s.well g.clocks g.pace traffic at_ row calm
+    well_then = well_after (calm_laws g.below) g.group g.nodes w s.well g.clocks g.pace traffic at_ row calm
 
     -- ---- what comes to the device
 
@@ -188,7 +189,7 @@ module _ (g : Talk) where
           by (o ∷ l) e =
               let i : In o (ones Alloc 0 (step s.pair.sender (w.rows + 1) event).step_state.offers) = subst (λ (k : List Offer). In o k) (sym e) (inl refl) in
               let r = out_ones (is_one Alloc 0) (step s.pair.sender (w.rows + 1) event).step_state.offers o i in
-              absurd (none_sent g.judged g.n g.log w s.pair.sender s.pair.sender_up s.pair.sender_is.me (traffic.at + g.clocks (OfMember g.n)) s.settled.settled row
+              absurd (none_sent g.below.judged g.n g.log w s.pair.sender s.pair.sender_up s.pair.sender_is.me (traffic.at + g.clocks (OfMember g.n)) s.settled.settled row
               (at_ + g.clocks (OfMember g.n)) settled_then.settled event is_step not_asked o r.0 (is_to_true Alloc 0 o (and_right o.fitted (is_to Alloc 0 o) r.1)).0)
 
       at_end : (l : List Made) → l ++ [] ≡ l

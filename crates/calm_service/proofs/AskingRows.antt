@@ -2,7 +2,7 @@
 use Rattle.std.proofs.Common.{◌≡◌, ◌≢◌, ℕ, ◌+◌, ◌≤◌, List, [], ◌∷◌, ◌++◌, refl, sym, ◌∙◌, ap, subst, arith, inl, inr, Option, None, Some}
 use Rattle.std.specs.Prelude.{is_some}
 use Rattle.dsdl_codec.specs.declared.allocation.Allocation.{Allocation}
-use Rattle.dsdl_codec.specs.Allocation.{IsAllocation, allocation_bytes, allocation_of}
+use Rattle.dsdl_codec.specs.Allocation.{allocation_of}
 use Rattle.raft_model.specs.Lists.{In}
 use Rattle.replay_text.specs.declared.row.Row.{Row}
 use Rattle.replay_text.specs.declared.row.Row.TheVariants.{AEnd, AOpen, ARx, ASend, ATick, Crash, Ext, Fault, Open, Rx, Send, Tick}
@@ -13,8 +13,6 @@ use Rattle.allocatee.specs.Accepted.{setting}
 use Rattle.allocatee.specs.Allocatee.{Device, after_receiver_answer, step}
 use Rattle.allocatee.specs.Allocatee as device
 use Rattle.allocatee.specs.Asking.{Asking, request_wait, timer_from}
-use Rattle.cluster_progress.specs.Devices.{RequestsAreRequests}
-use Rattle.cluster_progress.specs.Serving.{GivesFollowUps}
 use Rattle.cluster_recovery.specs.Calm.{next_on_bus}
 use Rattle.cluster_recovery.proofs.Asking.{its_own}
 use Rattle.cluster_recovery.proofs.CalmDevice.{asking_as, device_as, receives as hears_frame}
@@ -26,7 +24,6 @@ use Rattle.calm_service.proofs.AskingDevice as own
 use Rattle.calm_service.proofs.AskingExchange.{rank}
 use Rattle.calm_service.proofs.AskingRoad.{AreFew, Road, road_late, road_on}
 use Rattle.calm_service.proofs.AskingTimes.{IsFresh, times_gone, times_sent, times_taken, until, until_least}
-use Rattle.cluster_calm.proofs.DevicesHeard.{RequestsAreDelivered}
 use Rattle.calm_service.proofs.DialogAsked.{FramesFly, frames_on}
 use Rattle.calm_service.proofs.DialogFrames.{HasSource, IsBearable}
 use Rattle.calm_service.proofs.DialogPhases.{its_clock}
@@ -40,8 +37,7 @@ use Rattle.calm_service.proofs.AskingGoes.{GoesOn, IsGoingOn, goes_with, last_re
 use Rattle.calm_service.proofs.AskingHeard.{comes_it}
 use Rattle.calm_service.proofs.AskingReads.{reads_it}
 
-module _ (g : Talk) (from : ℕ) (requests : RequestsAreRequests) (delivered : RequestsAreDelivered) (follow : GivesFollowUps)
-    (read : (value : Allocation) → IsAllocation value → allocation_of (allocation_bytes value) ≡ Some value)
+module _ (g : Talk) (from : ℕ)
     (traffic : Traffic) (w : Cluster) (l : IsGoingOn g from traffic w) (at_ : ℕ) (in_time : IsInTime g.group g.clocks g.pace traffic w at_) where
   abbrev Goal : Row → Type 0
   Goal row = GoesOn g from traffic w (record { at = at_; row = row })
@@ -177,7 +173,7 @@ module _ (g : Talk) (from : ℕ) (requests : RequestsAreRequests) (delivered : R
   Each row = Calm row → KnownOf row → AreFew g.n w row → Goal row
 
   a_tick : (ms word : ℕ) → ms ≡ at_ + its_clock g → Each (ATick g.a ms word)
-  a_tick ms word e = subst (λ (m : ℕ). Each (ATick g.a m word)) (sym e) (reads_it g from requests traffic w l at_ in_time word)
+  a_tick ms word e = subst (λ (m : ℕ). Each (ATick g.a m word)) (sym e) (reads_it g from traffic w l at_ in_time word)
 
   a_frame : (k ms word : ℕ) → ms ≡ at_ + its_clock g → Each (ARx g.a k ms word)
   a_frame k ms word e = subst (λ (m : ℕ). Each (ARx g.a k m word)) (sym e) (frame_comes k word)
@@ -190,7 +186,7 @@ module _ (g : Talk) (from : ℕ) (requests : RequestsAreRequests) (delivered : R
   each_row (Rx p k ms) calm known short = elim (frames_on g l.cs traffic w l.road.well l.road.requests at_ (Rx p k ms) calm (λ e. cc (e))) [
     | inl out ↦ stays g from traffic w l at_ in_time (Rx p k ms) calm known short out.0 l.cs out.1 (times_same g from traffic w l at_ in_time) refl refl (λ x is. cc (is.comes))
     | inr is ↦ subst (λ (row : Row). FramesFly g l.cs traffic w l.road.well l.road.requests at_ row is.4 → Each row) (sym is.2)
-        (λ fly calm_ known_ short_. comes_it g from delivered follow read traffic w l at_ in_time is.0 is.1 calm_ known_ short_ is.3 is.4 is.5 is.6 fly) is.7 calm known short
+        (λ fly calm_ known_ short_. comes_it g from traffic w l at_ in_time is.0 is.1 calm_ known_ short_ is.3 is.4 is.5 is.6 fly) is.7 calm known short
   ]
   each_row (Send p) calm known short = elim (frames_on g l.cs traffic w l.road.well l.road.requests at_ (Send p) calm (λ e. cc (e))) [
     | inl out ↦ stays g from traffic w l at_ in_time (Send p) calm known short out.0 l.cs out.1 (times_same g from traffic w l at_ in_time) refl refl (λ x is. cc (is.comes))

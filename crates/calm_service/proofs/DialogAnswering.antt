@@ -5,7 +5,7 @@ use Rattle.alloc_exchange.specs.declared.heard.Heard.TheVariants.{FollowUp as Fo
 use Rattle.alloc_exchange.specs.Exchange.{Accepted, after, answer}
 use Rattle.can_frame.specs.Kinds.{is_anonymous}
 use Rattle.dsdl_codec.specs.declared.allocation.Allocation.{Allocation}
-use Rattle.dsdl_codec.specs.Allocation.{IsAllocation, allocation_bytes, allocation_of}
+use Rattle.dsdl_codec.specs.Allocation.{allocation_of}
 use Rattle.replay_text.specs.declared.row.Row.{Row}
 use Rattle.replay_text.specs.declared.row.Row.TheVariants.{ARx, ATick, Rx}
 use Rattle.transfer_rx.specs.Reassembly.{Answer, Arrival, Gives, answer as received, next as next_sessions}
@@ -19,13 +19,11 @@ use Rattle.allocatee.specs.declared.timer.Timer.{Timer}
 use Rattle.alloc_spec.specs.AllocatorState.{AllocatorState}
 use Rattle.alloc_spec.specs.Transfers.{kind_of}
 use Rattle.cluster_progress.specs.Requests.{IsRequest}
-use Rattle.cluster_progress.specs.Serving.{GivesFollowUps}
 use Rattle.cluster_recovery.proofs.CalmDevice.{asking_as, device_as, follows_up, receives as hears}
 use Rattle.cluster_recovery.proofs.CalmStages.{Right, device_steps, has_not_passed, known_of, request_of, right_within}
 use Rattle.cluster_calm.specs.Calm.{Device as OfDevice, IsInTime, Member as OfMember, Traffic, reads}
 use Rattle.cluster_calm.specs.Comes as transfer
 use Rattle.cluster_calm.specs.Devices.{DeliversTo}
-use Rattle.cluster_calm.proofs.DevicesHeard.{RequestsAreDelivered}
 use Rattle.calm_service.proofs.DialogAsked.{RequestsFly, answered, answers_it, its_asked}
 use Rattle.calm_service.proofs.DialogFrames.{HasSource}
 use Rattle.calm_service.proofs.DialogPhases.{IsAnswering, IsDue, IsOnBus, Next, Quiet, ahead, its_clock, last, latest, on_way, request_at, within}
@@ -38,7 +36,7 @@ use Rattle.cluster_spec.specs.Cluster.{Cluster, arrival_at, frame_at}
 module _ (g : Talk) where
   -- ---- its request is on the bus
 
-  module _ (delivered : RequestsAreDelivered) (follow : GivesFollowUps) (j : ℕ) (two : j ≤ 2) (traffic : Traffic) (w : Cluster) (p : IsOnBus g j traffic w) (at_ : ℕ)
+  module _ (j : ℕ) (two : j ≤ 2) (traffic : Traffic) (w : Cluster) (p : IsOnBus g j traffic w) (at_ : ℕ)
       (in_time : IsInTime g.group g.clocks g.pace traffic w at_) where
     abbrev cs : List Coming
     cs = on_way g p.due p.frame ∷ []
@@ -115,7 +113,7 @@ module _ (g : Talk) where
         p.scene.settled.settled,
         record {
           message = request_of g.uid g.whole g.preferred j;
-          asked = its_asked g delivered follow p.accepted cs traffic w p.scene at_ k ms in_time calm known (request_of g.uid g.whole g.preferred j) request;
+          asked = its_asked g p.accepted cs traffic w p.scene at_ k ms in_time calm known (request_of g.uid g.whole g.preferred j) request;
           clock = calm.1;
           request = request ms;
           whole = (λ i. answer (p.scene.settled.requests i) (request_of g.uid g.whole g.preferred (e i)) (moment_is i) true) ∙ right (at_ + ahead g) low high;
@@ -140,8 +138,8 @@ module _ (g : Talk) where
               one,
               record {
                 accepted = after p.accepted message (max p.scene.settled.settled.server.now ms) true;
-                x = answered g delivered follow p.accepted cs traffic w p.scene at_ k ms in_time calm known message request 0 bytes;
-                scene = answers_it g delivered follow p.accepted cs traffic w p.scene at_ k ms in_time calm known message request bytes few says [] fly;
+                x = answered g p.accepted cs traffic w p.scene at_ k ms in_time calm known message request 0 bytes;
+                scene = answers_it g p.accepted cs traffic w p.scene at_ k ms in_time calm known message request bytes few says [] fly;
                 request = p.request;
                 asker = asker_with g [] p.request None traffic w p.asker at_ in_time (Rx g.n k ms) [] p.request None p.asker.id p.asker.moment
                     p.asker.sessions p.asker.there p.asker.small (read_on g [] p.request None traffic w p.asker at_ in_time);
@@ -184,7 +182,7 @@ module _ (g : Talk) where
 
   -- ---- the answer is under way
 
-  module _ (read : (value : Allocation) → IsAllocation value → allocation_of (allocation_bytes value) ≡ Some value) (i : ℕ) (one : i ≤ 1) (traffic : Traffic) (w : Cluster)
+  module _ (i : ℕ) (one : i ≤ 1) (traffic : Traffic) (w : Cluster)
       (p : IsAnswering g i traffic w) (at_ : ℕ) (in_time : IsInTime g.group g.clocks g.pace traffic w at_) where
     abbrev xs : List Made
     xs = p.x ∷ []
@@ -274,7 +272,7 @@ module _ (g : Talk) where
           ap (λ (x : Answer). after_receiver_answer word x (asking_as g.uid g.preferred [] p.asker.id ms p.request None)) gives_it
           ∙ ((λ l. after_reading word (is_anonymous (kind_of (p.what l))) (allocation_of (p.payload l)) (asking_as g.uid g.preferred [] p.asker.id ms p.request None))
           ∙ ap (λ (o : Option Allocation). after_reading word false o (asking_as g.uid g.preferred [] p.asker.id ms p.request None))
-          (read (record { node = 0; first_part = false; uid = record { items = take (known_of i) g.uid } }) (record { node = omega arith; uid = short })))
+          (g.below.read (record { node = 0; first_part = false; uid = record { items = take (known_of i) g.uid } }) (record { node = omega arith; uid = short })))
 
       -- the device waits to follow up
       follows : 1 ≤ known_of i → known_of i < length g.uid

@@ -21,20 +21,20 @@ use Rattle.alloc_spec.specs.Transfers.{Offer, has_room}
 use Rattle.alloc_spec_laws.proofs.Choices.{and_left, and_right}
 use Rattle.alloc_spec_laws.specs.Apart.{AreAllApart}
 use Rattle.cluster_progress.specs.Requests.{IsRequest}
-use Rattle.cluster_progress.specs.Serving.{FollowsUp, GivesFollowUps, IsFirst, IsReady, allocation_from}
+use Rattle.cluster_progress.specs.Serving.{FollowsUp, IsFirst, IsReady, allocation_from}
 use Rattle.cluster_recovery.proofs.CalmGiving.{few_frames}
 use Rattle.cluster_calm.specs.Calm.{IsCalmRow, IsInTime, Member as OfMember, Traffic, receives, traffic_after}
 use Rattle.cluster_calm.specs.Comes.{sent_by}
 use Rattle.calm_service.proofs.DialogAlone.{sends_one as one_sent}
 use Rattle.calm_service.specs.Settled.{IsAsked, IsNotAsked, IsSettled}
 use Rattle.cluster_calm.proofs.Counting.{is_one, is_to, is_to_true, ones}
-use Rattle.cluster_calm.proofs.DevicesHeard.{RequestsAreDelivered}
 use Rattle.calm_service.proofs.DialogFrames.{HasSource, has_source, is_asked, not_asked}
 use Rattle.calm_service.proofs.DialogScene.{FlyOn, Known, PairOf, Scene, SceneThen, Talk, bears_then, brought, fly_on, is_sent, next_pair, offered, one_comes, well_then}
 use Rattle.cluster_calm.proofs.Group.{AreWell, sent_own}
 use Rattle.cluster_calm.proofs.Pair.{in_ones, is_one_of, made_of, made_one, out_ones, same_event, same_server}
 use Rattle.cluster_calm.proofs.Pending.{Coming, Made}
 use Rattle.cluster_calm.proofs.Ways.{Flying}
+use Rattle.calm_service.proofs.ServiceGrounds.{calm_laws}
 use Rattle.cluster_spec.specs.Cluster.{Cluster, after_row, arrival_at, frame_at, receipt_of, step_of}
 
 -- ---- the only Allocation of a step
@@ -95,14 +95,14 @@ module _ (g : Talk) where
     frames_on (Rx p k ms) calm other = elim (eqb_tells p g.n) [
       | inl z ↦ subst (λ (q : ℕ). IsCalmRow g.group g.clocks g.pace traffic w at_ (Rx q k ms) → (receives (Rx q k ms) (OfMember g.n) ≡ true) → Out (Rx q k ms)) (sym z.1)
           (λ calm_ is. elim (one_comes g.group g.clocks g.pace (OfMember g.n) HasSource cs traffic w at_ flying (Rx g.n k ms) is refl k calm_.2) [
-            | inl source ↦ inl (not_asked g.laws.frame g.n w k ms source.0, source.1)
+            | inl source ↦ inl (not_asked (calm_laws g.below).frame g.n w k ms source.0, source.1)
             | inr own ↦ inr (k, ms, refl, own.0, own.1, own.2, own.3, own.4)
           ]) calm z.0
       | inr z ↦ inl (λ message is. z.1 (cc (is.comes.comes)), flies (Rx p k ms) calm z.0 (λ f e. absurd (cc (e))))
     ]
     frames_on (Send p) calm other = inl (
       λ message is. cc (is.comes.comes),
-      flies (Send p) calm refl (λ f e. has_source g.laws.frame p f (g.nodes p calm.0) (sent_own g.laws p (w.member p) f (well.members p calm.0) e)),
+      flies (Send p) calm refl (λ f e. has_source (calm_laws g.below).frame p f (g.nodes p calm.0) (sent_own (calm_laws g.below) p (w.member p) f (well.members p calm.0) e)),
     )
     frames_on (ATick b ms word) calm other = inl (λ message is. cc (is.comes.comes), flies (ATick b ms word) calm refl (λ f e. absurd (cc (e))))
     frames_on (ARx b k ms word) calm other = inl (λ message is. cc (is.comes.comes), flies (ARx b k ms word) calm refl (λ f e. absurd (cc (e))))
@@ -124,7 +124,7 @@ module _ (g : Talk) where
 
   -- ---- a request comes
 
-  module _ (delivered : RequestsAreDelivered) (follow : GivesFollowUps) (accepted : List Accepted) (cs : List Coming) (traffic : Traffic) (w : Cluster)
+  module _ (accepted : List Accepted) (cs : List Coming) (traffic : Traffic) (w : Cluster)
       (s : Scene g accepted [] cs traffic w) (at_ k ms : ℕ) (in_time : IsInTime g.group g.clocks g.pace traffic w at_)
       (calm : IsCalmRow g.group g.clocks g.pace traffic w at_ (Rx g.n k ms)) (known : Known g traffic.at w (record { at = at_; row = Rx g.n k ms }))
       (message : Allocation) (request : (moment : ℕ) → IsRequest (arrival_at (frame_at w.frames k) moment) message) where
@@ -134,7 +134,7 @@ module _ (g : Talk) where
 
     -- the request comes to it
     abbrev pub its_asked : IsAsked g.n message w (Rx g.n k ms)
-    its_asked = is_asked delivered g.n w k ms message t s.settled.settled.runs (request (max t.now ms))
+    its_asked = is_asked g.below.delivered g.n w k ms message t s.settled.settled.runs (request (max t.now ms))
 
     -- an Allocation with this node ID and these bytes
     abbrev pub answered : (node : ℕ) → List ℕ → Made
@@ -159,14 +159,14 @@ module _ (g : Talk) where
 
       offered_is : offered g accepted [] cs traffic w s at_ (Rx g.n k ms) in_time calm known (receipt_of w k ms) ≡ allocation_from t node bytes ∷ []
       offered_is = only_one (step s.pair.sender (w.rows + 1) (receipt_of w k ms)).step_state.offers (allocation_from t node bytes)
-          (g.apart s.pair.sender (w.rows + 1) (receipt_of w k ms))
+          (g.below.apart s.pair.sender (w.rows + 1) (receipt_of w k ms))
           (subst (λ (u : AllocatorState). In (allocation_from t node bytes) (step u (w.rows + 1) (receipt_of w k ms)).step_state.offers) (sym same)
           (subst (λ (l : List Offer). In (allocation_from t node bytes) l) (sym first.is) (inl refl)))
           (is_one_of Alloc 0 (allocation_from t node bytes) refl refl refl)
           (λ x y i j.
           let of_x = is_sent g accepted [] cs traffic w s at_ (Rx g.n k ms) in_time calm known (receipt_of w k ms) refl x i in
           let of_y = is_sent g accepted [] cs traffic w s at_ (Rx g.n k ms) in_time calm known (receipt_of w k ms) refl y j in
-          one_sent g.judged g.n g.log w s.pair.sender s.pair.sender_up s.pair.sender_is.me (traffic.at + g.clocks (OfMember g.n)) s.settled.settled (Rx g.n k ms)
+          one_sent g.below.judged g.n g.log w s.pair.sender s.pair.sender_up s.pair.sender_is.me (traffic.at + g.clocks (OfMember g.n)) s.settled.settled (Rx g.n k ms)
           (at_ + g.clocks (OfMember g.n)) settled_then.settled (receipt_of w k ms) refl (arrival_at (frame_at w.frames k) ms) refl its_asked.request message
           ((λ l. received (setting_for (s.pair.sender_is.me l)) (same l).sessions (arrival_at (frame_at w.frames k) (max (same l).now ms))) ∙ its_asked.comes.gives)
           its_asked.anonymous its_asked.says x y (out_ones (is_one Alloc 0) (step s.pair.sender (w.rows + 1) (receipt_of w k ms)).step_state.offers x i).0
@@ -206,7 +206,7 @@ module _ (g : Talk) where
       says_it = ap (λ (l : List Accepted). answer l message (max t.now ms) true) s.settled.requests ∙ says
 
       follows : FollowsUp t (arrival_at (frame_at w.frames k) ms) message bytes (step t (w.rows + 1) (receipt_of w k ms))
-      follows = follow t (w.rows + 1) (arrival_at (frame_at w.frames k) ms) message bytes is_ready (request ms) says_it (has_place 0 bytes few)
+      follows = g.below.follow t (w.rows + 1) (arrival_at (frame_at w.frames k) ms) message bytes is_ready (request ms) says_it (has_place 0 bytes few)
 
       settled_then : IsSettled g.n g.log (after accepted message (max t.now ms) true) (at_ + g.clocks (OfMember g.n)) (after_row w (Rx g.n k ms))
       settled_then = elim ((known.leaves accepted s.settled).asked message its_asked) [

@@ -1,9 +1,7 @@
 -- A device whose unique ID the leader's log has holds its node ID in time.
-use Rattle.std.proofs.Common.{◌≡◌, ℕ, ◌+◌, ◌*◌, ◌<◌, ◌≤◌, Bool, List, [], ◌∷◌, refl, sym, ◌∙◌, ap, subst, arith, inl, inr, Some}
+use Rattle.std.proofs.Common.{ℕ, ◌+◌, ◌*◌, ◌<◌, ◌≤◌, Bool, List, [], ◌∷◌, refl, sym, ◌∙◌, ap, subst, arith, inl, inr}
 use Rattle.can_frame.specs.declared.entry.Entry.{Entry}
 use Rattle.can_frame.specs.Log.{IsInjective}
-use Rattle.dsdl_codec.specs.declared.allocation.Allocation.{Allocation}
-use Rattle.dsdl_codec.specs.Allocation.{IsAllocation, allocation_bytes, allocation_of}
 use Rattle.raft_model.specs.Invariants.{Invariants}
 use Rattle.raft_model.specs.Lists.{In}
 use Rattle.raft_model.specs.Runs as raft
@@ -11,12 +9,9 @@ use Rattle.raft_model.specs.Server.{RaftServer}
 use Rattle.replay_text.specs.declared.row.Row.{Row}
 use Rattle.alloc_spec.specs.Transfers.{SentTransfer}
 use Rattle.cluster_agreement.specs.Shows.{Shows, ShowsMember, ShowsUp}
-use Rattle.cluster_progress.specs.Devices.{RequestsAreRequests}
-use Rattle.cluster_progress.specs.Serving.{GivesFollowUps}
 use Rattle.cluster_recovery.specs.Calm.{HasSettled, Timed, end_of}
 use Rattle.cluster_calm.specs.Calm.{AreCalm, IsCalmRow, IsInTime, Member as OfMember, Traffic, traffic_after}
 use Rattle.calm_service.specs.Dialog.{HoldsBy}
-use Rattle.cluster_calm.proofs.DevicesHeard.{RequestsAreDelivered}
 use Rattle.calm_service.proofs.Dialog.{AllKnown, goes_on}
 use Rattle.calm_service.proofs.DialogFrames.{HasSource}
 use Rattle.calm_service.proofs.DialogPhases.{FromBus, Phase, ahead, last}
@@ -34,8 +29,7 @@ its_log_is_injective choice made w run shows invariants n listed log now h =
     = subst (λ (status : MemberStatus). ShowsMember choice made w.ids w.frames run n status (w.member n).disk) h.runs (shows.lives n listed) in
     subst IsInjective (ap (λ (x : RaftServer). x.store.log) is.runs.raft_server ∙ h.log_is) (invariants.stores n).injective
 
-module _ (g : Talk) (requests : RequestsAreRequests) (delivered : RequestsAreDelivered) (follow : GivesFollowUps)
-    (read : (value : Allocation) → IsAllocation value → allocation_of (allocation_bytes value) ≡ Some value) (node : ℕ) (stand : Stands g.log g.uid node) where
+module _ (g : Talk) (node : ℕ) (stand : Stands g.log g.uid node) where
   abbrev Last : ℕ
   Last = g.start + (1800 + 3 * g.pace.period + 10 * g.pace.delay + 2 * g.pace.delay)
 
@@ -59,21 +53,21 @@ module _ (g : Talk) (requests : RequestsAreRequests) (delivered : RequestsAreDel
       subst (λ (row : Row). IsCalmRow g.group g.clocks g.pace traffic w timed.at row → Known g traffic.at w (record { at = timed.at; row = row })
       → Flying HasSource g.pace.delay (after_row w row).frames ((traffic_after traffic w (record { at = timed.at; row = row })).to (OfMember g.n)) []
       → IsTelling g node stand (traffic_after traffic w (record { at = timed.at; row = row })) (after_row w row)) (sym is)
-      (λ calm_ known_ fly_. tells_it g node stand delivered follow traffic w p timed.at in_time by k ms calm_ known_ same fly_) calm known fly
+      (λ calm_ known_ fly_. tells_it g node stand traffic w p timed.at in_time by k ms calm_ known_ same fly_) calm known fly
 
   -- the answer is under way
   telling_by : (rows : List Timed) (traffic : Traffic) (w : Cluster) → IsTelling g node stand traffic w → AreCalm g.group g.clocks g.pace traffic w rows
-      → AllKnown g requests delivered follow read traffic.at w rows → traffic.at ≤ Last → Last < end_of traffic.at rows → HeldBy traffic.at w rows
+      → AllKnown g traffic.at w rows → traffic.at ≤ Last → Last < end_of traffic.at rows → HeldBy traffic.at w rows
   telling_by [] traffic w is calm known now long = absurd (omega (arith, now, long))
-  telling_by (timed ∷ rest) traffic w is calm known now long = elim (telling_goes_on g node stand read traffic w is timed.at calm.0 timed.row calm.1 known.0) [
+  telling_by (timed ∷ rest) traffic w is calm known now long = elim (telling_goes_on g node stand traffic w is timed.at calm.0 timed.row calm.1 known.0) [
     | inl then_is ↦ behind traffic.at w timed rest
         (telling_by rest (traffic_after traffic w timed) (after_row w timed.row) then_is calm.2 known.1
-        (let e = tell_end g node stand read traffic w is timed.at calm.0 in omega (arith, e)) long)
+        (let e = tell_end g node stand traffic w is timed.at calm.0 in omega (arith, e)) long)
     | inr told ↦ record {
       front = timed ∷ [];
       rest = rest;
       split = refl;
-      soon = let e = tell_end g node stand read traffic w is timed.at calm.0 in omega (arith, e);
+      soon = let e = tell_end g node stand traffic w is timed.at calm.0 in omega (arith, e);
       holds = told.0;
       settled = told.1;
     }
@@ -81,10 +75,10 @@ module _ (g : Talk) (requests : RequestsAreRequests) (delivered : RequestsAreDel
 
   -- from the first phase on
   pub held_by : (rows : List Timed) (traffic : Traffic) (w : Cluster) → Phase g traffic w → AreCalm g.group g.clocks g.pace traffic w rows
-      → AllKnown g requests delivered follow read traffic.at w rows → traffic.at ≤ Last → Last < end_of traffic.at rows → HeldBy traffic.at w rows
+      → AllKnown g traffic.at w rows → traffic.at ≤ Last → Last < end_of traffic.at rows → HeldBy traffic.at w rows
   held_by [] traffic w phase calm known now long = absurd (omega (arith, now, long))
   held_by (timed ∷ rest) traffic w phase calm known now long =
-      let r = goes_on g requests delivered follow read traffic w timed phase calm.0 calm.1 known.0 in
+      let r = goes_on g traffic w timed phase calm.0 calm.1 known.0 in
       elim r.1 [
         | inl then_phase ↦ behind traffic.at w timed rest
             (held_by rest (traffic_after traffic w timed) (after_row w timed.row) then_phase calm.2 known.1 (let b = r.0 in omega (arith, b)) long)

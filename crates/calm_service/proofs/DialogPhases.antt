@@ -15,7 +15,7 @@ use Rattle.allocatee.specs.declared.timer.FollowUp.{FollowUp}
 use Rattle.allocatee.specs.declared.timer.Timer.{Timer}
 use Rattle.alloc_spec.specs.Exchange.{allocation_payload}
 use Rattle.alloc_spec_laws.proofs.Choices.{lt_tells}
-use Rattle.cluster_progress.specs.Devices.{RequestsAreRequests, comes_at}
+use Rattle.cluster_progress.specs.Devices.{comes_at}
 use Rattle.cluster_progress.specs.Requests.{IsRequest}
 use Rattle.cluster_recovery.specs.Calm.{HasSettled, Timed, next_on_bus, queue_at, waits_after}
 use Rattle.cluster_recovery.proofs.Asking.{its_own}
@@ -166,7 +166,7 @@ module _ (g : Talk) where
 
   -- ---- the device waits
 
-  module _ (requests : RequestsAreRequests) (j : ℕ) (two : j ≤ 2) (traffic : Traffic) (w : Cluster) (p : IsWaiting j traffic w) (at_ : ℕ)
+  module _ (j : ℕ) (two : j ≤ 2) (traffic : Traffic) (w : Cluster) (p : IsWaiting j traffic w) (at_ : ℕ)
       (in_time : IsInTime g.group g.clocks g.pace traffic w at_) where
     abbrev WaitGoal : Row → Type 0
     WaitGoal row = Next traffic w (record { at = at_; row = row })
@@ -225,7 +225,7 @@ module _ (g : Talk) where
         ≡ Some (device_as g.uid g.preferred (request_frames g.uid g.preferred (w.rows + 1) word p.asker.id first (take 6 part)) ((p.asker.id + 1) % 32) ms request None p.asker.sessions)
         → WaitGoal (ATick g.a ms word)
     then_asks ms word calm known scene now_is request first part passed quiet same there =
-        let made = requests word p.asker.id (w.rows + 1) 0 (asked g.uid g.preferred first (take 6 part)) p.asker.small g.few (six_at_most g.uid g.preferred part) in
+        let made = g.below.requests word p.asker.id (w.rows + 1) 0 (asked g.uid g.preferred first (take 6 part)) p.asker.small g.few (six_at_most g.uid g.preferred part) in
         inl (
           j,
           two,

@@ -13,31 +13,30 @@ use Rattle.transfer_rx.specs.Reassembly.{Answer, Continues, Delivery, Drops, Giv
 use Rattle.transfer_rx.specs.Sessions.{Session}
 use Rattle.transfer_tx.specs.Queue.{Queued}
 use Rattle.allocatee.specs.Accepted.{setting}
-use Rattle.alloc_spec.specs.AllocatorState.{AllocatorState}
 use Rattle.alloc_spec.specs.Step.{Event, step}
 use Rattle.alloc_spec.specs.Transfers.{Offer, ident_of}
 use Rattle.alloc_spec_laws.proofs.Choices.{and_left, and_right, tell}
-use Rattle.alloc_spec_laws.specs.Apart.{AreAllApart}
 use Rattle.cluster_recovery.specs.Calm.{IsNext, OnItsWay, Pace, Timed, next_on_bus}
 use Rattle.cluster_recovery.proofs.Receiving.{GivesNone}
 use Rattle.cluster_calm.specs.Calm.{Device as OfDevice, IsCalmRow, IsInTime, Member as OfMember, Party, Traffic, is_sending, receives, sends, traffic_after}
 use Rattle.cluster_calm.specs.Comes.{Sends, sent_by}
 use Rattle.cluster_calm.specs.Devices.{DeliversTo, DeviceHasMemory}
 use Rattle.calm_service.specs.Dialog.{HasRoomToTell}
-use Rattle.calm_service.proofs.AllocationsTold.{VerdictsAre}
 use Rattle.calm_service.proofs.DialogAlone.{sends_none as none_sent}
 use Rattle.calm_service.specs.Settled.{IsNotAsked, IsSettled, StaysSettled}
 use Rattle.cluster_calm.proofs.Counting.{is_one, is_to, is_to_true, ones}
-use Rattle.cluster_calm.proofs.DevicesHear.{IsListening, SessionLaws, device_hears, device_receiver}
+use Rattle.cluster_calm.proofs.DevicesHear.{IsListening, device_hears, device_receiver}
 use Rattle.cluster_calm.proofs.DevicesTold.{device_wants}
 use Rattle.calm_service.proofs.DialogFrames.{HasSource, IsBearable, drops_it, gives_none_yet, is_bearable}
 use Rattle.cluster_calm.proofs.Unfinished.{not_last}
 use Rattle.cluster_calm.proofs.Follows.{IsCounter, counter_follows}
 use Rattle.cluster_calm.proofs.Frames.{read}
-use Rattle.cluster_calm.proofs.Group.{AreWell, CalmLaws, sent_own, well_after}
+use Rattle.cluster_calm.proofs.Group.{AreWell, sent_own, well_after}
 use Rattle.cluster_calm.proofs.Pair.{AreNews, AreShort, Expected, IsNotLast, Next, Pair, made_none, made_of, next_row, not_late, out_ones, same_stepper}
 use Rattle.cluster_calm.proofs.Pending.{Coming, Made}
 use Rattle.cluster_calm.proofs.Ways.{Flying, flying_more, flying_other}
+use Rattle.calm_service.specs.ServiceBelow.{ServiceGrounds}
+use Rattle.calm_service.proofs.ServiceGrounds.{calm_laws, session_laws}
 use Rattle.cluster_spec.specs.Allocatees.{next_from}
 use Rattle.cluster_spec.specs.Cluster.{Cluster, after_row, arrival_at, frame_at, in_list, step_of}
 use Rattle.cluster_spec.specs.Members.{next_frame}
@@ -139,10 +138,7 @@ module _ (group : List Party) (clocks : Party → ℕ) (pace : Pace) (party : Pa
 -- ---- who talks
 
 pub record Talk : Type 0 where
-  pub laws : CalmLaws
-  pub judged : VerdictsAre
-  pub session_laws : SessionLaws
-  pub apart : (t : AllocatorState) (number : ℕ) (event : Event) → AreAllApart (step t number event).step_state.offers
+  pub below : ServiceGrounds
   pub group : List Party
   pub clocks : Party → ℕ
   pub pace : Pace
@@ -175,9 +171,9 @@ module _ (g : Talk) where
 
   -- these Allocations of the leader are under way to the device
   abbrev pub PairOf : Traffic → Cluster → List Made → List Coming → Expected → Type 0
-  PairOf = Pair g.laws g.group g.clocks g.pace g.nodes g.n g.in_n (OfDevice g.a) g.in_a refl device_receiver Alloc 0 g.base in_two refl refl (inr refl) refl
-      (device_wants g.laws.frame g.n (g.nodes g.n g.in_n)) Begins (IsCounter Alloc 0) (λ t expected mode. mode)
-      (IsListening g.a) (DeliversTo g.a) (DeviceHasMemory g.a) (device_hears g.session_laws g.group g.clocks g.pace g.n g.a)
+  PairOf = Pair (calm_laws g.below) g.group g.clocks g.pace g.nodes g.n g.in_n (OfDevice g.a) g.in_a refl device_receiver Alloc 0 g.base in_two refl refl (inr refl) refl
+      (device_wants (calm_laws g.below).frame g.n (g.nodes g.n g.in_n)) Begins (IsCounter Alloc 0) (λ t expected mode. mode)
+      (IsListening g.a) (DeliversTo g.a) (DeviceHasMemory g.a) (device_hears (session_laws g.below) g.group g.clocks g.pace g.n g.a)
 
   -- The leader has settled, and accepted these requests; these Allocations are under way, and these requests on their way.
   pub record Scene (accepted : List Accepted) (xs : List Made) (cs : List Coming) (traffic : Traffic) (w : Cluster) : Type 0 where
@@ -192,9 +188,9 @@ module _ (g : Talk) where
   -- no Allocation that is under way was made more than two delays ago
   pub scene_late : (accepted : List Accepted) (xs : List Made) (cs : List Coming) (traffic : Traffic) (w : Cluster) → (s : Scene accepted xs cs traffic w) → (at_ : ℕ)
       → IsInTime g.group g.clocks g.pace traffic w at_ → (x : Made) → In x xs → at_ ≤ x.at + 2 * g.pace.delay
-  scene_late accepted xs cs traffic w s at_ in_time = not_late g.laws g.group g.clocks g.pace g.nodes g.n g.in_n (OfDevice g.a) g.in_a refl device_receiver Alloc 0 g.base in_two
-      refl refl (inr refl) refl (device_wants g.laws.frame g.n (g.nodes g.n g.in_n)) Begins (IsCounter Alloc 0) (λ t expected mode. mode)
-      (IsListening g.a) (DeliversTo g.a) (DeviceHasMemory g.a) (device_hears g.session_laws g.group g.clocks g.pace g.n g.a) traffic w xs s.front s.expected s.pair at_ in_time
+  scene_late accepted xs cs traffic w s at_ in_time = not_late (calm_laws g.below) g.group g.clocks g.pace g.nodes g.n g.in_n (OfDevice g.a) g.in_a refl device_receiver Alloc 0 g.base in_two
+      refl refl (inr refl) refl (device_wants (calm_laws g.below).frame g.n (g.nodes g.n g.in_n)) Begins (IsCounter Alloc 0) (λ t expected mode. mode)
+      (IsListening g.a) (DeliversTo g.a) (DeviceHasMemory g.a) (device_hears (session_laws g.below) g.group g.clocks g.pace g.n g.a) traffic w xs s.front s.expected s.pair at_ in_time
 
   -- what is known of a row
   pub record Known (moment : ℕ) (w : Cluster) (timed : Timed) : Type 0 where
@@ -216,7 +212,7 @@ module _ (g : Talk) where
     -- a frame that goes to the bus
     pub brought_bears : (r : Row) → IsCalmRow g.group g.clocks g.pace traffic w at_ r → BringsNone g.n w r → (f : Queued) → brought w r ≡ Some f
         → sends r (OfDevice g.a) ≡ false → IsBearable g.n f
-    brought_bears (Send p) c none f e other = is_bearable g.laws.frame g.n p f (g.nodes p c.0) (sent_own g.laws p (w.member p) f (well.members p c.0) e)
+    brought_bears (Send p) c none f e other = is_bearable (calm_laws g.below).frame g.n p f (g.nodes p c.0) (sent_own (calm_laws g.below) p (w.member p) f (well.members p c.0) e)
         (λ differ. none differ f e)
     brought_bears (ASend b) c none f e other = absurd (cc (other, yes_number b g.a (g.alone b c.0)))
     brought_bears (Tick p ms word) c none f e other = absurd (cc (e))
@@ -254,18 +250,18 @@ module _ (g : Talk) where
     gives_none_by Continues f = tt
     gives_none_by (Drops why) f = tt
 
-    pub none_ends : IsNotLast g.laws g.group g.clocks g.pace g.nodes g.n g.in_n (OfDevice g.a) g.in_a refl device_receiver Alloc 0 g.base in_two refl refl (inr refl) refl
-        (device_wants g.laws.frame g.n (g.nodes g.n g.in_n)) Begins (IsCounter Alloc 0) (λ t expected mode. mode)
-        (IsListening g.a) (DeliversTo g.a) (DeviceHasMemory g.a) (device_hears g.session_laws g.group g.clocks g.pace g.n g.a)
+    pub none_ends : IsNotLast (calm_laws g.below) g.group g.clocks g.pace g.nodes g.n g.in_n (OfDevice g.a) g.in_a refl device_receiver Alloc 0 g.base in_two refl refl (inr refl) refl
+        (device_wants (calm_laws g.below).frame g.n (g.nodes g.n g.in_n)) Begins (IsCounter Alloc 0) (λ t expected mode. mode)
+        (IsListening g.a) (DeliversTo g.a) (DeviceHasMemory g.a) (device_hears (session_laws g.below) g.group g.clocks g.pace g.n g.a)
         traffic w xs front expected pair at_ in_time row (λ e. ⊤) → (k : ℕ) → IsNext k (traffic.to (OfDevice g.a)) → receives row (OfDevice g.a) ≡ true
         → IsBearable g.n (frame_at w.frames k) → (sessions : List Session) (moment : ℕ) → GivesNone (answer setting sessions (arrival_at (frame_at w.frames k) moment))
     none_ends frames k next is_to bears sessions moment = elim (eqb_tells (frame_at w.frames k).id number) [
       | inl own ↦ gives_none_by (answer setting sessions (arrival_at (frame_at w.frames k) moment))
-          (gives_none_yet g.laws.frame g.n (g.nodes g.n g.in_n) (frame_at w.frames k) sessions moment own.1
+          (gives_none_yet (calm_laws g.below).frame g.n (g.nodes g.n g.in_n) (frame_at w.frames k) sessions moment own.1
           (elim (frames k next is_to) [
             | inl other ↦ absurd (other.0 own.1)
             | inr x ↦ ap (λ (f : Queued). (read f).tail.end) x.6
-                ∙ not_last g.laws.cutting x.0 (pair.ones_are x.0 (subst (λ (l : List Made). In x.0 l) (sym x.5) (inl refl))).id x.2 x.4 x.3 x.8 x.7
+                ∙ not_last (calm_laws g.below).cutting x.0 (pair.ones_are x.0 (subst (λ (l : List Made). In x.0 l) (sym x.5) (inl refl))).id x.2 x.4 x.3 x.8 x.7
           ]))
       | inr other ↦ subst GivesNone (sym (drops_it g.n (frame_at w.frames k) sessions moment bears other.1)) tt
     ]
@@ -280,7 +276,7 @@ module _ (g : Talk) where
     then_w = after_row w row
 
     pub well_then : AreWell g.group then_w
-    well_then = well_after g.laws g.group g.nodes w s.well g.clocks g.pace traffic at_ row calm
+    well_then = well_after (calm_laws g.below) g.group g.nodes w s.well g.clocks g.pace traffic at_ row calm
 
     -- what comes to the device is bearable
     abbrev BearsThen : Type 0
@@ -305,9 +301,9 @@ module _ (g : Talk) where
     Rest e = ⊤
 
     abbrev NextOf : Type 0
-    NextOf = Next g.laws g.group g.clocks g.pace g.nodes g.n g.in_n (OfDevice g.a) g.in_a refl device_receiver Alloc 0 g.base in_two refl refl (inr refl) refl
-        (device_wants g.laws.frame g.n (g.nodes g.n g.in_n)) Begins (IsCounter Alloc 0) (λ t expected mode. mode)
-        (IsListening g.a) (DeliversTo g.a) (DeviceHasMemory g.a) (device_hears g.session_laws g.group g.clocks g.pace g.n g.a)
+    NextOf = Next (calm_laws g.below) g.group g.clocks g.pace g.nodes g.n g.in_n (OfDevice g.a) g.in_a refl device_receiver Alloc 0 g.base in_two refl refl (inr refl) refl
+        (device_wants (calm_laws g.below).frame g.n (g.nodes g.n g.in_n)) Begins (IsCounter Alloc 0) (λ t expected mode. mode)
+        (IsListening g.a) (DeliversTo g.a) (DeviceHasMemory g.a) (device_hears (session_laws g.below) g.group g.clocks g.pace g.n g.a)
         traffic w xs s.front s.expected s.pair at_ in_time row Rest
 
     abbrev pub offered : Event → List Offer
@@ -329,9 +325,9 @@ module _ (g : Talk) where
         )
 
     pub next_pair : ((event : Event) → step_of w row ≡ Some (g.n, event) → AreShort 19 (offered event)) → NextOf
-    next_pair short = next_row g.laws g.group g.clocks g.pace g.nodes g.n g.in_n (OfDevice g.a) g.in_a refl device_receiver Alloc 0 g.base in_two refl refl (inr refl) refl
-        (device_wants g.laws.frame g.n (g.nodes g.n g.in_n)) Begins (IsCounter Alloc 0) (λ t expected mode. mode)
-        (IsListening g.a) (DeliversTo g.a) (DeviceHasMemory g.a) (device_hears g.session_laws g.group g.clocks g.pace g.n g.a)
+    next_pair short = next_row (calm_laws g.below) g.group g.clocks g.pace g.nodes g.n g.in_n (OfDevice g.a) g.in_a refl device_receiver Alloc 0 g.base in_two refl refl (inr refl) refl
+        (device_wants (calm_laws g.below).frame g.n (g.nodes g.n g.in_n)) Begins (IsCounter Alloc 0) (λ t expected mode. mode)
+        (IsListening g.a) (DeliversTo g.a) (DeviceHasMemory g.a) (device_hears (session_laws g.below) g.group g.clocks g.pace g.n g.a)
         traffic w xs s.front s.expected s.pair at_ in_time known.memory s.well Rest row calm
         (λ event is_step bus.
         let f = counter_follows Begins g.n Alloc 0 refl (w.rows + 1) s.expected s.pair.sender s.pair.sender_is s.pair.mode event in
@@ -359,7 +355,7 @@ module _ (g : Talk) where
           by [] e = e
           by (o ∷ l) e =
               let r = is_sent event is_step o (subst (λ (k : List Offer). In o k) (sym e) (inl refl)) in
-              absurd (none_sent g.judged g.n g.log w s.pair.sender s.pair.sender_up s.pair.sender_is.me (traffic.at + g.clocks (OfMember g.n)) s.settled.settled row
+              absurd (none_sent g.below.judged g.n g.log w s.pair.sender s.pair.sender_up s.pair.sender_is.me (traffic.at + g.clocks (OfMember g.n)) s.settled.settled row
               (at_ + g.clocks (OfMember g.n)) settled_then.settled event is_step not_asked o (out_ones (is_one Alloc 0) (step s.pair.sender (w.rows + 1) event).step_state.offers o
               (subst (λ (k : List Offer). In o k) (sym e) (inl refl))).0 r.1)
 
@@ -389,9 +385,9 @@ module _ (g : Talk) where
           at_end [] = refl
           at_end (x ∷ l) = ap (λ (k : List Made). x ∷ k) (at_end l)
 
-          none_more : (more : List Made) → AreNews g.laws g.group g.clocks g.pace g.nodes g.n g.in_n (OfDevice g.a) g.in_a refl device_receiver Alloc 0 g.base in_two refl refl (inr refl) refl
-              (device_wants g.laws.frame g.n (g.nodes g.n g.in_n)) Begins (IsCounter Alloc 0) (λ t expected mode. mode)
-              (IsListening g.a) (DeliversTo g.a) (DeviceHasMemory g.a) (device_hears g.session_laws g.group g.clocks g.pace g.n g.a)
+          none_more : (more : List Made) → AreNews (calm_laws g.below) g.group g.clocks g.pace g.nodes g.n g.in_n (OfDevice g.a) g.in_a refl device_receiver Alloc 0 g.base in_two refl refl (inr refl) refl
+              (device_wants (calm_laws g.below).frame g.n (g.nodes g.n g.in_n)) Begins (IsCounter Alloc 0) (λ t expected mode. mode)
+              (IsListening g.a) (DeliversTo g.a) (DeviceHasMemory g.a) (device_hears (session_laws g.below) g.group g.clocks g.pace g.n g.a)
               traffic w xs s.front s.expected s.pair at_ in_time row Rest more → more ≡ []
           none_more more news = by (step_of w row) refl
             where
@@ -404,9 +400,9 @@ module _ (g : Talk) where
                 | inr other ↦ news.1 (λ its is_step. other.1 (same_stepper p g.n event its (sym e ∙ is_step)))
               ]
 
-          nothing : IsNotLast g.laws g.group g.clocks g.pace g.nodes g.n g.in_n (OfDevice g.a) g.in_a refl device_receiver Alloc 0 g.base in_two refl refl (inr refl) refl
-              (device_wants g.laws.frame g.n (g.nodes g.n g.in_n)) Begins (IsCounter Alloc 0) (λ t expected mode. mode)
-              (IsListening g.a) (DeliversTo g.a) (DeviceHasMemory g.a) (device_hears g.session_laws g.group g.clocks g.pace g.n g.a)
+          nothing : IsNotLast (calm_laws g.below) g.group g.clocks g.pace g.nodes g.n g.in_n (OfDevice g.a) g.in_a refl device_receiver Alloc 0 g.base in_two refl refl (inr refl) refl
+              (device_wants (calm_laws g.below).frame g.n (g.nodes g.n g.in_n)) Begins (IsCounter Alloc 0) (λ t expected mode. mode)
+              (IsListening g.a) (DeliversTo g.a) (DeviceHasMemory g.a) (device_hears (session_laws g.below) g.group g.clocks g.pace g.n g.a)
               traffic w xs s.front s.expected s.pair at_ in_time row Rest → NothingGiven
           nothing frames k ms word is sessions moment = none_ends traffic w xs s.front s.expected s.pair at_ in_time row frames k next is_to (bears_comes is_to k next same_frames).0 sessions moment
             where

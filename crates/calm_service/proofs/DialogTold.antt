@@ -9,7 +9,7 @@ use Rattle.can_frame.specs.Kinds.{is_anonymous}
 use Rattle.can_frame.specs.Log.{HasPair, IsInjective, blank}
 use Rattle.can_frame.specs.Zeros.{zeros}
 use Rattle.dsdl_codec.specs.declared.allocation.Allocation.{Allocation}
-use Rattle.dsdl_codec.specs.Allocation.{IsAllocation, allocation_bytes, allocation_of}
+use Rattle.dsdl_codec.specs.Allocation.{allocation_of}
 use Rattle.replay_text.specs.declared.row.Row.{Row}
 use Rattle.replay_text.specs.declared.row.Row.TheVariants.{ARx, ATick, Rx}
 use Rattle.transfer_rx.specs.Reassembly.{Answer, Gives, answer as received, next as next_sessions}
@@ -26,7 +26,7 @@ use Rattle.alloc_spec.specs.Step as server
 use Rattle.alloc_spec.specs.Transfers.{kind_of}
 use Rattle.cluster_agreement.specs.Allocatees.{Holds}
 use Rattle.cluster_progress.specs.Requests.{IsRequest}
-use Rattle.cluster_progress.specs.Serving.{GivesFollowUps, IsFirst, allocation_from}
+use Rattle.cluster_progress.specs.Serving.{IsFirst, allocation_from}
 use Rattle.cluster_recovery.specs.Calm.{HasSettled}
 use Rattle.cluster_recovery.proofs.CalmDevice.{asking_as, device_as, gets, receives as hears, same_uid}
 use Rattle.cluster_recovery.proofs.CalmStages.{device_steps, has_not_passed, request_of}
@@ -35,7 +35,6 @@ use Rattle.cluster_calm.specs.Calm.{IsCalmRow, IsInTime, Member as OfMember, Tra
 use Rattle.cluster_calm.specs.Comes as transfer
 use Rattle.cluster_calm.specs.Devices.{DeliversTo}
 use Rattle.calm_service.specs.Settled.{IsSettled}
-use Rattle.cluster_calm.proofs.DevicesHeard.{RequestsAreDelivered}
 use Rattle.calm_service.proofs.DialogAgain.{again_first}
 use Rattle.calm_service.proofs.DialogAsked.{answered, goes_out, has_place, is_ready, its_asked}
 use Rattle.calm_service.proofs.DialogFrames.{HasSource}
@@ -96,7 +95,7 @@ module _ (g : Talk) (node : ℕ) (stand : Stands g.log g.uid node) where
 
   -- ---- the whole unique ID comes to the leader
 
-  module _ (delivered : RequestsAreDelivered) (follow : GivesFollowUps) (traffic : Traffic) (w : Cluster) (p : IsOnBus g zero traffic w) (at_ : ℕ)
+  module _ (traffic : Traffic) (w : Cluster) (p : IsOnBus g zero traffic w) (at_ : ℕ)
       (in_time : IsInTime g.group g.clocks g.pace traffic w at_) (by : at_ ≤ last g) (k ms : ℕ) (calm : IsCalmRow g.group g.clocks g.pace traffic w at_ (Rx g.n k ms))
       (known : Known g traffic.at w (record { at = at_; row = Rx g.n k ms })) (same : frame_at w.frames k ≡ p.frame)
       (fly : Flying HasSource g.pace.delay (after_row w (Rx g.n k ms)).frames ((traffic_after traffic w (record { at = at_; row = Rx g.n k ms })).to (OfMember g.n)) []) where
@@ -128,16 +127,16 @@ module _ (g : Talk) (node : ℕ) (stand : Stands g.log g.uid node) where
 
     first : IsFirst (allocation_from leader node g.uid) (server.step leader (w.rows + 1) (receipt_of w k ms)).step_state.offers
     first = again_first leader (w.rows + 1) (arrival_at (frame_at w.frames k) ms) message g.uid g.preferred node stand.place
-        (is_ready g delivered follow p.accepted (on_way g p.due p.frame ∷ []) traffic w p.scene at_ k ms in_time calm known message request) (request ms) whole stand.device
+        (is_ready g p.accepted (on_way g p.due p.frame ∷ []) traffic w p.scene at_ k ms in_time calm known message request) (request ms) whole stand.device
         (ap (λ (l : List Entry). recorded_at l g.uid) log_is ∙ stand.first)
         (subst (λ (l : List Entry). stand.place < length l) (sym log_is) stand.inside)
         (ap (λ (l : List Entry). (slice_index_or l stand.place (blank 0)).uid) log_is ∙ stand.its_uid)
         (ap (λ (l : List Entry). (slice_index_or l stand.place (blank 0)).node) log_is ∙ stand.its_node)
-        (has_place g delivered follow p.accepted (on_way g p.due p.frame ∷ []) traffic w p.scene at_ k ms in_time calm known message request node g.uid sixteen)
+        (has_place g p.accepted (on_way g p.due p.frame ∷ []) traffic w p.scene at_ k ms in_time calm known message request node g.uid sixteen)
 
     settled_then : IsSettled g.n g.log (after p.accepted message (max leader.now ms) true) (at_ + g.clocks (OfMember g.n)) (after_row w (Rx g.n k ms))
     settled_then = elim ((known.leaves p.accepted p.scene.settled).asked message
-        (its_asked g delivered follow p.accepted (on_way g p.due p.frame ∷ []) traffic w p.scene at_ k ms in_time calm known message request)) [
+        (its_asked g p.accepted (on_way g p.due p.frame ∷ []) traffic w p.scene at_ k ms in_time calm known message request)) [
           | inl grown ↦
               let same_uid_ : grown.uid ≡ g.uid = cc (sym grown.whole ∙ whole) in
               absurd (cc (sym grown.may.new ∙ (ap (λ (u : List ℕ). recorded_at leader.raft_server.store.log u) same_uid_
@@ -149,8 +148,8 @@ module _ (g : Talk) (node : ℕ) (stand : Stands g.log g.uid node) where
     pub tells_it : IsTelling (traffic_after traffic w (record { at = at_; row = Rx g.n k ms })) (after_row w (Rx g.n k ms))
     tells_it = record {
       accepted = after p.accepted message (max leader.now ms) true;
-      x = answered g delivered follow p.accepted (on_way g p.due p.frame ∷ []) traffic w p.scene at_ k ms in_time calm known message request node g.uid;
-      scene = goes_out g delivered follow p.accepted (on_way g p.due p.frame ∷ []) traffic w p.scene at_ k ms in_time calm known message request node g.uid sixteen first
+      x = answered g p.accepted (on_way g p.due p.frame ∷ []) traffic w p.scene at_ k ms in_time calm known message request node g.uid;
+      scene = goes_out g p.accepted (on_way g p.due p.frame ∷ []) traffic w p.scene at_ k ms in_time calm known message request node g.uid sixteen first
           (after p.accepted message (max leader.now ms) true) settled_then [] fly;
       request = p.request;
       asker = asker_with g [] p.request None traffic w p.asker at_ in_time (Rx g.n k ms) [] p.request None p.asker.id p.asker.moment
@@ -164,7 +163,7 @@ module _ (g : Talk) (node : ℕ) (stand : Stands g.log g.uid node) where
 
   -- ---- the answer comes to the device
 
-  module _ (read : (value : Allocation) → IsAllocation value → allocation_of (allocation_bytes value) ≡ Some value) (traffic : Traffic) (w : Cluster)
+  module _ (traffic : Traffic) (w : Cluster)
       (p : IsTelling traffic w) (at_ : ℕ) (in_time : IsInTime g.group g.clocks g.pace traffic w at_) where
     abbrev xs : List Made
     xs = p.x ∷ []
@@ -226,7 +225,7 @@ module _ (g : Talk) (node : ℕ) (stand : Stands g.log g.uid node) where
           ap (λ (x : Answer). after_receiver_answer word x (asking_as g.uid g.preferred [] p.asker.id ms p.request None)) gives_it
           ∙ ((λ l. after_reading word (is_anonymous (kind_of (p.what l))) (allocation_of (p.payload l)) (asking_as g.uid g.preferred [] p.asker.id ms p.request None))
           ∙ ap (λ (o : Option Allocation). after_reading word false o (asking_as g.uid g.preferred [] p.asker.id ms p.request None))
-          (read (record { node = node; first_part = false; uid = record { items = g.uid } }) (record { node = omega (arith, stand.most); uid = short })))
+          (g.below.read (record { node = node; first_part = false; uid = record { items = g.uid } }) (record { node = omega (arith, stand.most); uid = short })))
 
       abbrev asking_then : Asking
       asking_then = after_allocation word false (record { node = node; first_part = false; uid = record { items = g.uid } })

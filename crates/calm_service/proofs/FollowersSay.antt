@@ -1,7 +1,7 @@
 -- A follower that accepted no request lately offers no Allocation in a step; and where no request comes, a step leaves
 -- what was accepted.
-use Rattle.std.proofs.Common.{◌≡◌, ◌≢◌, ◌⊎◌, ℕ, Bool, true, false, List, [], ◌∷◌, length, max, refl, sym, ◌∙◌, ap, subst, arith, inl, inr, Option, None, Some}
-use Rattle.std.specs.Prelude.{⊤, ◌-◌, not, nat_eq, nat_le}
+use Rattle.std.proofs.Common.{◌≡◌, ◌≢◌, ◌⊎◌, ℕ, Bool, true, false, List, [], length, max, refl, sym, ◌∙◌, ap, subst, arith, inl, inr, Option, None, Some}
+use Rattle.std.specs.Prelude.{⊤, not}
 use Rattle.alloc_exchange.specs.declared.heard.Heard.{Heard}
 use Rattle.alloc_exchange.specs.declared.heard.Heard.TheVariants.{Denied, FollowUp, Ignored, Whole}
 use Rattle.alloc_exchange.specs.declared.stage.Stage.{Stage}
@@ -10,52 +10,34 @@ use Rattle.alloc_exchange.specs.Exchange.{Accepted, answer, answer_to, bytes_bef
 use Rattle.can_frame.specs.declared.identifier.Kind.{Kind}
 use Rattle.can_frame.specs.declared.identifier.Kind.TheVariants.{Anonymous, Message as Broadcast, Request as RequestKind, Response}
 use Rattle.can_frame.specs.declared.step.What.TheVariants.{Alloc}
-use Rattle.can_frame.specs.Timing.{status_interval}
 use Rattle.cluster_discovery.specs.Members.{is_due}
 use Rattle.dsdl_codec.specs.declared.allocation.Allocation.{Allocation}
 use Rattle.dsdl_codec.specs.Allocation.{allocation_of}
-use Rattle.dsdl_codec.specs.AppendAnswer.{append_answer_of}
-use Rattle.dsdl_codec.specs.AppendRequest.{append_request_of}
-use Rattle.dsdl_codec.specs.Discovery.{discovery_of}
-use Rattle.dsdl_codec.specs.NodeInfo.{node_info_of}
-use Rattle.dsdl_codec.specs.NodeStatus.{node_status_of}
-use Rattle.dsdl_codec.specs.VoteAnswer.{vote_answer_of}
-use Rattle.dsdl_codec.specs.VoteRequest.{vote_request_of}
-use Rattle.node_discovery.specs.Watch.{next_query}
-use Rattle.raft_core.specs.Times.{is_awaited}
 use Rattle.raft_model.specs.Lists.{In}
-use Rattle.raft_model.specs.Messages.{Request}
-use Rattle.raft_model.specs.Moves.{Move}
-use Rattle.raft_model.specs.Moves.Elections.{is_leader}
 use Rattle.raft_model.specs.Server.Role.{Follower}
 use Rattle.raft_model.specs.Server.{Role}
 use Rattle.transfer_rx.specs.Reassembly.{Answer, Arrival, Continues, Delivery, Drops, Gives}
-use Rattle.alloc_spec.specs.AllocatorState.{AllocatorState, known, may_propose, start_of}
-use Rattle.alloc_spec.specs.Delivered.{StepResult, asks_info, by_kind, delivery_phase, hears_discovery, hears_status, reads, request, response as takes_response}
-use Rattle.alloc_spec.specs.Delivered as delivered
+use Rattle.alloc_spec.specs.AllocatorState.{AllocatorState, start_of}
 use Rattle.alloc_spec.specs.Ending.{has_to_tell}
-use Rattle.alloc_spec.specs.Exchange.{answers_request, hears_allocation, may_follow, with_request}
-use Rattle.alloc_spec.specs.Services.{answers_append_request, answers_call, answers_vote_request, append_answered, ends_append_call, ends_vote_call, hears_info, is_listed, takes_append_answer, takes_append_request, takes_vote_answer, takes_vote_request, vote_answered}
-use Rattle.alloc_spec.specs.Step.{Event, begin_phase, moment_of, step, with_answer, with_sessions}
+use Rattle.alloc_spec.specs.Exchange.{answers_request, may_follow, with_request}
+use Rattle.alloc_spec.specs.Step.{Event, begin_phase, moment_of, step, with_sessions}
 use Rattle.alloc_spec.specs.Step.Event.{Rx, Tick}
 use Rattle.alloc_spec.specs.StepState.{StepState}
-use Rattle.alloc_spec.specs.Tick.{asks, candidate, clock_phase, discovery_phase, election_phase, new_uid, record_phase, records_as, records_node, status_phase, tells_members, tells_status}
-use Rattle.alloc_spec.specs.Transfers.{Offer, has_room}
+use Rattle.alloc_spec.specs.Tick.{tells_members}
+use Rattle.alloc_spec.specs.Transfers.{Offer}
 use Rattle.alloc_spec_laws.specs.Phases.{when_committed, when_seen, when_told}
 use Rattle.alloc_spec_laws.proofs.Choices.{either, eq_true}
 use Rattle.cluster_progress.proofs.Begins.{IsAsBefore}
 use Rattle.cluster_progress.proofs.Ends.{IsKept, call_phase_keeps, rest_keeps, tell_keeps}
 use Rattle.cluster_progress.proofs.FollowUps.{begun}
 use Rattle.calm_service.proofs.AllocationsOffered.{IsUnasked, comes_to, end_from, seen_free, seen_is}
+use Rattle.calm_service.proofs.TidySteps.{IsPassed, step_passes}
 
 -- ---- what a step accepted where no request comes
 
 module _ (number : ℕ) (accepted : List Accepted) where
   abbrev Keeps : StepState → Type 0
   Keeps g = g.allocator.accepted ≡ accepted
-
-  abbrev KeepsResult : StepResult → Type 0
-  KeepsResult r = Keeps r.step_state
 
   kept : IsKept number Keeps
   kept = record {
@@ -70,100 +52,25 @@ module _ (number : ℕ) (accepted : List Accepted) where
   unfolding step
   ends_kept t event h = rest_keeps number Keeps kept (when_seen t number event) h
 
-  recorded : (node : Option ℕ) (g : StepState) → Keeps g → Keeps (records_node number node g)
-  recorded None g h = h
-  recorded (Some node) g h = by (new_uid g.allocator node)
-    where
-      by : (uid : Option (List ℕ)) → Keeps (records_as number node uid g)
-      by None = h
-      by (Some uid) = h
+  passed : IsPassed number Keeps
+  passed = record {
+    discovers = λ g h. either Keeps (is_due (start_of g.allocator) g.allocator.heard g.allocator.now) (tells_members number g) g (λ e. h) (λ e. h);
+    moves = λ given moves g h. h;
+    sends = λ what to payload says g other h. h;
+    responds = λ what d payload says g other h. h;
+    states = λ g h. h;
+    queries = λ node id g h. h;
+    sessions = λ sessions g h. h;
+    infos = λ d info g h. h;
+  }
 
-  asked_node : (node : Option ℕ) (g : StepState) → Keeps g → Keeps (asks number node g)
-  asked_node None g h = h
-  asked_node (Some node) g h = either Keeps (has_room g.allocator.queue []) _ _ (λ e. h) (λ e. h)
-
-  ticks_kept : (word : ℕ) (g : StepState) → Keeps g → Keeps (clock_phase number word g)
-  ticks_kept word g h =
-      let told : StepState = discovery_phase number g in
-      let stated : StepState = status_phase number told in
-      let elected : StepState = election_phase number word stated in
-      let recorded_ : StepState = record_phase number elected in
-      let a : Keeps told = either Keeps (is_due (start_of g.allocator) g.allocator.heard g.allocator.now) (tells_members number g) g (λ e. h) (λ e. h) in
-      let b : Keeps stated = either Keeps (nat_le status_interval (told.allocator.now - told.allocator.status_at)) (tells_status number told) told (λ e. a) (λ e. a) in
-      let c : Keeps recorded_ = either Keeps (may_propose elected.allocator) (records_node number (candidate elected.allocator) elected) elected
-      (λ e. recorded (candidate elected.allocator) elected b) (λ e. b) in
-      either Keeps (is_leader recorded_.allocator.raft_server.memory.role) (asks number (next_query recorded_.allocator.watch (known recorded_.allocator) recorded_.allocator.now) recorded_)
-      recorded_ (λ e. asked_node (next_query recorded_.allocator.watch (known recorded_.allocator) recorded_.allocator.now) recorded_ c) (λ e. c)
-
-  module _ (d : Delivery) (g : StepState) (h : Keeps g) where
-    read : {A : Type 0} (does : A → StepState → StepState) (value : Option A) → ((v : A) → Keeps (does v g)) → KeepsResult (reads does value g)
-    read does None f = h
-    read does (Some v) f = f v
-
-    asking : (bytes : List ℕ) → KeepsResult (asks_info number d bytes g)
-    asking [] = h
-    asking (byte ∷ bytes) = h
-
-    call_answered : (move : Request → Move) (call : Option Request) → Keeps (answers_call number move call g)
-    call_answered move None = h
-    call_answered move (Some asked) = h
-
-    message_comes : KeepsResult (delivered.message d g)
-    message_comes = either KeepsResult (nat_eq d.ident.number 341) (reads (λ status. hears_status d) (node_status_of d.payload) g)
-        (reads (hears_discovery d) (discovery_of d.payload) g)
-        (λ e. read (λ status. hears_status d) (node_status_of d.payload) (λ status. h))
-        (λ e. read (hears_discovery d) (discovery_of d.payload) (λ message. h))
-
-    request_comes : KeepsResult (request number d g)
-    request_comes = either KeepsResult (nat_eq d.ident.number 1) (asks_info number d d.payload g) _ (λ e. asking d.payload)
-        (λ e. either KeepsResult (nat_eq d.ident.number 30) (reads (takes_append_request number d) (append_request_of d.payload) g)
-        (reads (takes_vote_request number d) (vote_request_of d.payload) g)
-        (λ e. read (takes_append_request number d) (append_request_of d.payload) (λ asked.
-        either Keeps (is_listed d g.allocator) (answers_append_request number d asked g) g (λ e. h) (λ e. h)))
-        (λ e. read (takes_vote_request number d) (vote_request_of d.payload) (λ asked.
-        either Keeps (is_listed d g.allocator) (answers_vote_request number d asked g) g (λ e. h) (λ e. h))))
-
-    response_comes : KeepsResult (takes_response number d g)
-    response_comes = either KeepsResult (nat_eq d.ident.number 1) (reads (hears_info d) (node_info_of d.payload) g) _
-        (λ e. read (hears_info d) (node_info_of d.payload) (λ info. h))
-        (λ e. either KeepsResult (nat_eq d.ident.number 30) (reads (takes_append_answer number d) (append_answer_of d.payload) g)
-        (reads (takes_vote_answer number d) (vote_answer_of d.payload) g)
-        (λ e. read (takes_append_answer number d) (append_answer_of d.payload) (λ says.
-        either Keeps (is_listed d g.allocator) (ends_append_call number d says g) g
-        (λ e. either Keeps (is_awaited g.allocator.raft_server g.allocator.times d.ident.source true d.id) _ g
-        (λ e. call_answered (append_answered d says) (g.allocator.raft_server.memory.pending d.ident.source)) (λ e. h)) (λ e. h)))
-        (λ e. read (takes_vote_answer number d) (vote_answer_of d.payload) (λ says.
-        either Keeps (is_listed d g.allocator) (ends_vote_call number d says g) g
-        (λ e. either Keeps (is_awaited g.allocator.raft_server g.allocator.times d.ident.source false d.id) _ g
-        (λ e. call_answered (vote_answered d says) (g.allocator.raft_server.memory.pending d.ident.source)) (λ e. h)) (λ e. h))))
-
-    none_asked : (o : Option Allocation) → ((message : Allocation) → o ≡ Some message → ⊥) → KeepsResult (reads (hears_allocation number) o g)
-    none_asked None none = h
-    none_asked (Some message) none = absurd (none message refl)
-
-    kind_comes : (kind : Kind) → (kind ≡ Anonymous → (message : Allocation) → allocation_of d.payload ≡ Some message → ⊥) → KeepsResult (by_kind number d kind g)
-    kind_comes Anonymous none = none_asked (allocation_of d.payload) (none refl)
-    kind_comes Broadcast none = message_comes
-    kind_comes RequestKind none = request_comes
-    kind_comes Response none = response_comes
-
-    delivery_comes : (d.ident.kind ≡ Anonymous → (message : Allocation) → allocation_of d.payload ≡ Some message → ⊥) → KeepsResult (delivery_phase number d g)
-    unfolding delivery_phase
-    delivery_comes none = kind_comes d.ident.kind none
-
-module _ (t : AllocatorState) (number : ℕ) where
-  answered_kept : (arrival : Arrival) (a : Answer) → ((d : Delivery) (message : Allocation) → a ≡ Gives d → d.ident.kind ≡ Anonymous → allocation_of d.payload ≡ Some message → ⊥)
-      → (with_answer number a (with_sessions arrival (begin_phase number arrival.moment t))).step_state.allocator.accepted ≡ t.accepted
-  answered_kept arrival (Gives d) none = delivery_comes number t.accepted d (with_sessions arrival (begin_phase number arrival.moment t)) refl (λ kind message says. none d message refl kind says)
-  answered_kept arrival Continues none = refl
-  answered_kept arrival (Drops why) none = refl
-
-  seen_kept : (event : Event) → IsUnasked t event → (when_seen t number event).allocator.accepted ≡ t.accepted
-  seen_kept (Tick now word) none = ticks_kept number t.accepted word (begin_phase number now t) refl
-  seen_kept (Rx arrival) none = answered_kept arrival (comes_to t arrival) (λ d message gives kind says. none arrival refl d message gives kind says)
-
-  pub unasked_kept : (event : Event) → IsUnasked t event → (step t number event).step_state.allocator.accepted ≡ t.accepted
-  unasked_kept event none = ends_kept number t.accepted t event (seen_kept event none)
+pub unasked_kept : (t : AllocatorState) (number : ℕ) (event : Event) → IsUnasked t event → (step t number event).step_state.allocator.accepted ≡ t.accepted
+unasked_kept t number event none = step_passes number (Keeps number t.accepted) (passed number t.accepted) t event
+    (λ arrival is d gives. record {
+      request = λ kind message says g h. absurd (none arrival is d message gives kind says);
+      status = λ kind g h. h;
+      discovery = λ kind other message says g h. h;
+    }) refl
 
 -- ---- who does not lead has nothing to tell
 

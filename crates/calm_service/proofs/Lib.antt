@@ -1,3 +1,4 @@
+pub mod ServiceGrounds
 pub mod SettledRaft
 pub mod SettledSteps
 pub mod SettledFrames
@@ -97,3 +98,5 @@ pub mod RequestsCalm
 pub mod RequestsHeard
 pub mod SilentRows
 pub mod SilentLaw
+pub mod ServiceFronts
+pub mod DialogGrounds

@@ -8,41 +8,32 @@ use Rattle.raft_model.specs.Lists.{In}
 use Rattle.replay_text.specs.declared.row.Row.{Row}
 use Rattle.alloc_spec.specs.AllocatorState.{AllocatorState}
 use Rattle.alloc_spec.specs.Exchange.{may_follow}
-use Rattle.cluster_agreement.specs.LawsBelow.{CodecLaws}
 use Rattle.cluster_recovery.specs.Calm.{Pace, Timed, end_of, rows_in}
-use Rattle.cluster_calm.specs.Calm.{AreRunning, Member as OfMember, Party}
-use Rattle.cluster_calm.specs.Calls.{ListsStay}
+use Rattle.cluster_calm.specs.Calm.{Member as OfMember, Party}
 use Rattle.cluster_calm.specs.Comes.{Throughout}
 use Rattle.calm_leader.specs.LeadsOn.{IsLed}
 use Rattle.calm_service.specs.Recorded.{EachRowKeepsTheLog, Grows, IsUncommitted, KeepsLog, LeadsWith, LogStaysUnasked, LogStaysUncommitted}
 use Rattle.calm_service.specs.Settled.{IsAsked, MissesNobody, NobodyAsks, NobodyIsMissed}
-use Rattle.cluster_calm.proofs.Group.{AreWell, CalmLaws}
-use Rattle.calm_leader.proofs.LeadsOn.{DeliversOne}
 use Rattle.cluster_calm.proofs.Pair.{same_server}
 use Rattle.calm_service.proofs.RecordedRows.{accepts_none, gives_none, makes_none_whole}
 use Rattle.calm_service.proofs.RecordedStays.{in_office, keeps_log}
 use Rattle.calm_service.proofs.SettledLaw as from_start
 use Rattle.calm_service.proofs.SettledStays.{AsksOrNot, IsReached, LedIn, ListsAll, after_one, asked_or_not, harmless_first, its_me, led_after, lists_after, nodes, tells_low}
-use Rattle.calm_leader.proofs.TermsHeard.{IsOfRun}
+use Rattle.calm_service.specs.ServiceBelow.{ServiceGrounds}
 use Rattle.cluster_spec.specs.Cluster.{AreMembers, Cluster, after_row, after_rows, cluster, world_of}
 use Rattle.cluster_spec.specs.Lawful.{DoNoHarm, DoesNoHarm}
 
-module _ (group : List Party) (laws : CalmLaws) (codec : CodecLaws) (one_transfer : DeliversOne) (stay : ListsStay) (clocks : Party → ℕ) (pace : Pace)
-    (ids : List ℕ) (members : AreMembers ids) (listed : (p : ℕ) → In (OfMember p) group → In p ids)
-    (of_run : (rows : List Row) → DoNoHarm (cluster ids) rows → IsOfRun (world_of ids rows))
-    (same_members : (rows : List Row) → (world_of ids rows).ids ≡ ids)
-    (grown : (rows : List Row) (row : Row) → world_of ids (rows ++ row ∷ []) ≡ after_row (world_of ids rows) row)
-    (grown_harmless : (rows : List Row) (row : Row) → DoNoHarm (cluster ids) rows → DoesNoHarm (world_of ids rows) row → DoNoHarm (cluster ids)
-    (rows ++ row ∷ []))
+module _ (below : ServiceGrounds) (group : List Party) (clocks : Party → ℕ) (pace : Pace) (ids : List ℕ) (members : AreMembers ids)
+    (listed : (p : ℕ) → In (OfMember p) group → In p ids)
     (n term : ℕ) (log : List Entry) (member : In (OfMember n) group) where
   abbrev Reached : ℕ → Cluster → List Timed → Type 0
-  Reached = IsReached group laws codec one_transfer stay clocks pace ids members listed of_run same_members grown grown_harmless
+  Reached = IsReached below group clocks pace ids members listed
 
   abbrev Lists : Cluster → Type 0
-  Lists = ListsAll group laws codec one_transfer stay clocks pace ids members listed of_run same_members grown grown_harmless n term log member
+  Lists = ListsAll below group clocks pace ids members listed n term log member
 
   abbrev Led : Cluster → List Timed → Type 0
-  Led = LedIn group laws codec one_transfer stay clocks pace ids members listed of_run same_members grown grown_harmless n term log member
+  Led = LedIn below group clocks pace ids members listed n term log member
 
   abbrev clock : ℕ → ℕ
   clock moment = moment + clocks (OfMember n)
@@ -52,27 +43,25 @@ module _ (group : List Party) (laws : CalmLaws) (codec : CodecLaws) (one_transfe
       (accepted : List Accepted) → IsLed group n term w → Lists w → MissesNobody n w timed.row → LeadsWith n log accepted (clock moment) w
       → KeepsLog n log accepted (clock timed.at) w timed.row
   row_keeps moment w timed rest h harm accepted led lists missed is =
-      keeps_log laws.frame group clocks pace n term log accepted (clock moment) timed.at h.traffic w
-      (nodes group laws codec one_transfer stay clocks pace ids members listed of_run same_members grown grown_harmless) member h.flies lists
+      keeps_log below.frame group clocks pace n term log accepted (clock moment) timed.at h.traffic w
+      (nodes below group clocks pace ids members listed) member h.flies lists
       (omega (arith, h.calm.0.moments, h.at_end)) is.server (in_office n term log accepted (clock moment) w is led.leader)
-      (its_me group laws codec one_transfer stay clocks pace ids members listed of_run same_members grown grown_harmless n term log member moment w timed rest h harm
-      is.server is.runs) timed.row h.calm.1
-      (tells_low group laws codec one_transfer stay clocks pace ids members listed of_run same_members grown grown_harmless n term log member moment w timed rest h harm
-      is.server is.runs led) missed
+      (its_me below group clocks pace ids members listed n term log member moment w timed rest h harm is.server is.runs) timed.row h.calm.1
+      (tells_low below group clocks pace ids members listed n term log member moment w timed rest h harm is.server is.runs led) missed
 
   -- ---- all rows
 
   next_reached : (moment : ℕ) (w : Cluster) (timed : Timed) (rest : List Timed) → Reached moment w (timed ∷ rest) → DoesNoHarm w timed.row
       → Reached timed.at (after_row w timed.row) rest
-  next_reached = after_one group laws codec one_transfer stay clocks pace ids members listed of_run same_members grown grown_harmless
+  next_reached = after_one below group clocks pace ids members listed
 
   next_led : (w : Cluster) (timed : Timed) (front : List Timed) → Led w (timed ∷ front) → Led (after_row w timed.row) front
-  next_led = led_after group laws codec one_transfer stay clocks pace ids members listed of_run same_members grown grown_harmless n term log member
+  next_led = led_after below group clocks pace ids members listed n term log member
 
   next_lists : (moment : ℕ) (w : Cluster) (timed : Timed) (rest : List Timed) → Reached moment w (timed ∷ rest) → DoesNoHarm w timed.row → Lists w
       → Lists (after_row w timed.row)
   next_lists moment w timed rest h harm =
-      lists_after group laws codec one_transfer stay clocks pace ids members listed of_run same_members grown grown_harmless n term log member moment w timed rest h harm
+      lists_after below group clocks pace ids members listed n term log member moment w timed rest h harm
 
   -- where nobody asks
   pub log_stays_unasked : (accepted : List Accepted) (front rest : List Timed) (moment : ℕ) (w : Cluster) → Reached moment w (front ++ rest) → DoNoHarm w (rows_in front)
@@ -123,60 +112,36 @@ module _ (group : List Party) (laws : CalmLaws) (codec : CodecLaws) (one_transfe
 
 -- ---- the law
 
-module _ (laws : CalmLaws) (codec : CodecLaws) (one_transfer : DeliversOne) (stay : ListsStay) (ids : List ℕ) (members : AreMembers ids)
-    (of_run : (rows : List Row) → DoNoHarm (cluster ids) rows → IsOfRun (world_of ids rows))
-    (same_members : (rows : List Row) → (world_of ids rows).ids ≡ ids)
-    (grown : (rows : List Row) (row : Row) → world_of ids (rows ++ row ∷ []) ≡ after_row (world_of ids rows) row)
-    (grown_harmless : (rows : List Row) (row : Row) → DoNoHarm (cluster ids) rows → DoesNoHarm (world_of ids rows) row → DoNoHarm (cluster ids)
-    (rows ++ row ∷ []))
-    (rows : List Row) (harmless : DoNoHarm (cluster ids) rows)
-    (well : (group : List Party) → ((p : ℕ) → In (OfMember p) group → In p ids) → AreRunning group (world_of ids rows) → AreWell group (world_of ids rows)) where
+module _ (below : ServiceGrounds) (ids : List ℕ) (members : AreMembers ids) (rows : List Row) (harmless : DoNoHarm (cluster ids) rows) where
   abbrev w : Cluster
   w = world_of ids rows
 
   pub each_row_keeps : EachRowKeepsTheLog ids rows
   each_row_keeps group clocks pace start n term log accepted first front rest timed under is =
-      row_keeps group laws codec one_transfer stay clocks pace ids members under.listed of_run same_members grown grown_harmless
+      row_keeps below group clocks pace ids members under.listed
       n term log under.member (end_of (end_of start first) front) (after_rows (after_rows w (rows_in first)) (rows_in front)) timed rest
-      (from_start.reached laws codec one_transfer stay ids members of_run same_members grown grown_harmless rows harmless well
-      group clocks pace start n term first front (timed ∷ []) rest under)
-      (from_start.harm laws codec one_transfer stay ids members of_run same_members grown grown_harmless rows harmless well
-      group clocks pace start n term first front (timed ∷ []) rest under).1.0 accepted
-      (from_start.led laws codec one_transfer stay ids members of_run same_members grown grown_harmless rows harmless well
-      group clocks pace start n term first front (timed ∷ []) rest under [] (timed ∷ []) refl)
-      (from_start.lists laws codec one_transfer stay ids members of_run same_members grown grown_harmless rows harmless well
-      group clocks pace start n term first front (timed ∷ []) rest under)
-      (from_start.missed laws codec one_transfer stay ids members of_run same_members grown grown_harmless rows harmless well
-      group clocks pace start n term first front (timed ∷ []) rest under).0 is
+      (from_start.reached below ids members rows harmless group clocks pace start n term first front (timed ∷ []) rest under)
+      (from_start.harm below ids members rows harmless group clocks pace start n term first front (timed ∷ []) rest under).1.0 accepted
+      (from_start.led below ids members rows harmless group clocks pace start n term first front (timed ∷ []) rest under [] (timed ∷ []) refl)
+      (from_start.lists below ids members rows harmless group clocks pace start n term first front (timed ∷ []) rest under)
+      (from_start.missed below ids members rows harmless group clocks pace start n term first front (timed ∷ []) rest under).0 is
 
   pub stays_uncommitted : LogStaysUncommitted ids rows
   stays_uncommitted group clocks pace start n term log first early front rest under room is waits =
       let there = after_rows (after_rows w (rows_in first)) (rows_in early) in
-      log_stays_uncommitted group laws codec one_transfer stay clocks pace ids members under.listed of_run same_members grown grown_harmless
-      n term log under.member room front rest (end_of (end_of start first) early) there
-      (from_start.reached laws codec one_transfer stay ids members of_run same_members grown grown_harmless rows harmless well
-      group clocks pace start n term first early front rest under)
-      (harmless_first front rest there (from_start.harm laws codec one_transfer stay ids members of_run same_members grown grown_harmless rows harmless well
-      group clocks pace start n term first early front rest under).1).0
-      (from_start.led laws codec one_transfer stay ids members of_run same_members grown grown_harmless rows harmless well
-      group clocks pace start n term first early front rest under)
-      (from_start.lists laws codec one_transfer stay ids members of_run same_members grown grown_harmless rows harmless well
-      group clocks pace start n term first early front rest under)
-      (from_start.missed laws codec one_transfer stay ids members of_run same_members grown grown_harmless rows harmless well
-      group clocks pace start n term first early front rest under) waits is
+      log_stays_uncommitted below group clocks pace ids members under.listed n term log under.member room front rest (end_of (end_of start first) early) there
+      (from_start.reached below ids members rows harmless group clocks pace start n term first early front rest under)
+      (harmless_first front rest there (from_start.harm below ids members rows harmless group clocks pace start n term first early front rest under).1).0
+      (from_start.led below ids members rows harmless group clocks pace start n term first early front rest under)
+      (from_start.lists below ids members rows harmless group clocks pace start n term first early front rest under)
+      (from_start.missed below ids members rows harmless group clocks pace start n term first early front rest under) waits is
 
   pub stays_unasked : LogStaysUnasked ids rows
   stays_unasked group clocks pace start n term log accepted first early front rest under is none =
       let there = after_rows (after_rows w (rows_in first)) (rows_in early) in
-      log_stays_unasked group laws codec one_transfer stay clocks pace ids members under.listed of_run same_members grown grown_harmless
-      n term log under.member accepted front rest (end_of (end_of start first) early) there
-      (from_start.reached laws codec one_transfer stay ids members of_run same_members grown grown_harmless rows harmless well
-      group clocks pace start n term first early front rest under)
-      (harmless_first front rest there (from_start.harm laws codec one_transfer stay ids members of_run same_members grown grown_harmless rows harmless well
-      group clocks pace start n term first early front rest under).1).0
-      (from_start.led laws codec one_transfer stay ids members of_run same_members grown grown_harmless rows harmless well
-      group clocks pace start n term first early front rest under)
-      (from_start.lists laws codec one_transfer stay ids members of_run same_members grown grown_harmless rows harmless well
-      group clocks pace start n term first early front rest under)
-      (from_start.missed laws codec one_transfer stay ids members of_run same_members grown grown_harmless rows harmless well
-      group clocks pace start n term first early front rest under) none is
+      log_stays_unasked below group clocks pace ids members under.listed n term log under.member accepted front rest (end_of (end_of start first) early) there
+      (from_start.reached below ids members rows harmless group clocks pace start n term first early front rest under)
+      (harmless_first front rest there (from_start.harm below ids members rows harmless group clocks pace start n term first early front rest under).1).0
+      (from_start.led below ids members rows harmless group clocks pace start n term first early front rest under)
+      (from_start.lists below ids members rows harmless group clocks pace start n term first early front rest under)
+      (from_start.missed below ids members rows harmless group clocks pace start n term first early front rest under) none is

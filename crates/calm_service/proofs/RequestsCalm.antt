@@ -19,7 +19,7 @@ use Rattle.alloc_spec.specs.Step as server
 use Rattle.cluster_progress.specs.Devices.{RequestsAreRequests}
 use Rattle.cluster_recovery.specs.Calm.{Pace, Timed, rows_in}
 use Rattle.cluster_recovery.proofs.Members.{IsUp, steps_up}
-use Rattle.cluster_calm.specs.Calm.{AreCalm, AreRunning, Device as OfDevice, IsCalmRow, Member as OfMember, Party, Traffic, no_traffic, traffic_after}
+use Rattle.cluster_calm.specs.Calm.{AreCalm, Device as OfDevice, IsCalmRow, Member as OfMember, Party, Traffic, no_traffic, traffic_after}
 use Rattle.cluster_calm.proofs.Group.{AreWell, CalmLaws, sent_own, well_after}
 use Rattle.cluster_calm.proofs.Pair.{same_server}
 use Rattle.calm_service.specs.Requests.{DevicesGoOnTelling, HasAcceptedBeginning, IsRequestFor, IsTellingCalm, RequestsAreTheDevices, TellBeginning, TellsAt, TellsPart, WholeIsTheDevices}
@@ -34,8 +34,11 @@ use Rattle.calm_service.proofs.TidyCalm.{comes_with}
 use Rattle.calm_service.proofs.TidyRows.{Does, does}
 use Rattle.calm_service.proofs.TidyRows.Does.{Hears, Sends, Stays, Ticks}
 use Rattle.calm_service.proofs.TidyWays.{AllAre, all_after, next_is}
+use Rattle.calm_service.specs.ServiceBelow.{ServiceGrounds}
+use Rattle.calm_service.proofs.RequestsHeard.{all_hear}
+use Rattle.calm_service.proofs.ServiceGrounds.{calm_laws, well}
 use Rattle.cluster_spec.specs.Allocatees.{next_from}
-use Rattle.cluster_spec.specs.Cluster.{AreMembers, Cluster, after_row, after_rows, arrival_at, frame_at, receipt_of, tick_of, world_of}
+use Rattle.cluster_spec.specs.Cluster.{AreMembers, Cluster, after_row, after_rows, arrival_at, cluster, frame_at, receipt_of, tick_of, world_of}
 use Rattle.cluster_spec.specs.Lawful.{DoNoHarm}
 use Rattle.cluster_spec.specs.Members.{Member, MemberStatus, after_sending, member_after_step}
 use Rattle.cluster_spec.specs.Members.MemberStatus.{Up}
@@ -154,20 +157,21 @@ module _ (laws : CalmLaws) (requests : RequestsAreRequests) (group : List Party)
 
 -- ---- from where a calm begins
 
-module _ (laws : CalmLaws) (requests : RequestsAreRequests) (ids : List ℕ) (members : AreMembers ids) (rows : List Row)
-    (well : (group : List Party) → ((p : ℕ) → In (OfMember p) group → In p ids) → AreRunning group (world_of ids rows) → AreWell group (world_of ids rows))
-    (hears : (a : ℕ) (whole : List Timed) → DoNoHarm (world_of ids rows) (rows_in whole) → AllHearParts a (world_of ids rows) whole) where
+module _ (below : ServiceGrounds) (ids : List ℕ) (members : AreMembers ids) (rows : List Row) (harmless : DoNoHarm (cluster ids) rows) where
+  hears : (a : ℕ) (whole : List Timed) → DoNoHarm (world_of ids rows) (rows_in whole) → AllHearParts a (world_of ids rows) whole
+  hears a whole = all_hear below ids members a whole rows (world_of ids rows) refl harmless
+
   module _ (group : List Party) (clocks : Party → ℕ) (pace : Pace) (start a : ℕ) (uid : List ℕ) (all : List Timed)
       (is : IsTellingCalm ids rows group clocks pace start a uid all) where
     nodes : (p : ℕ) → In (OfMember p) group → (1 ≤ p) × (p ≤ 125)
     nodes p i = members.nodes p (is.listed p i)
 
-    begun : AreTelling laws requests group nodes clocks pace a is.alone uid is.size (no_traffic start) (world_of ids rows)
-    begun = record { well = well group is.listed is.running; flies = λ party. refl; begins = is.begins; device = is.device }
+    begun : AreTelling (calm_laws below) below.requests group nodes clocks pace a is.alone uid is.size (no_traffic start) (world_of ids rows)
+    begun = record { well = well below ids members rows harmless group is.listed is.running; flies = λ party. refl; begins = is.begins; device = is.device }
 
     telling_at : (front rest : List Timed) → all ≡ front ++ rest
-        → (later : Traffic) × AreTelling laws requests group nodes clocks pace a is.alone uid is.size later (after_rows (world_of ids rows) (rows_in front))
-    telling_at front rest split = telling_on laws requests group nodes clocks pace a is.alone uid is.size front rest (no_traffic start) (world_of ids rows)
+        → (later : Traffic) × AreTelling (calm_laws below) below.requests group nodes clocks pace a is.alone uid is.size later (after_rows (world_of ids rows) (rows_in front))
+    telling_at front rest split = telling_on (calm_laws below) below.requests group nodes clocks pace a is.alone uid is.size front rest (no_traffic start) (world_of ids rows)
         (subst (AreCalm group clocks pace (no_traffic start) (world_of ids rows)) split is.calm)
         (subst (AllHearParts a (world_of ids rows)) split (hears a all is.harmless)) begun
 
@@ -180,5 +184,5 @@ module _ (laws : CalmLaws) (requests : RequestsAreRequests) (ids : List ℕ) (me
 
   pub wholes_are : WholeIsTheDevices ids rows
   wholes_are group clocks pace start a m uid front rest timed message follows other preferred is i asked =
-      whole_on laws requests group (nodes group clocks pace start a uid (front ++ timed ∷ rest) is) clocks pace a is.alone uid is.size m i message follows other preferred front rest timed
+      whole_on (calm_laws below) below.requests group (nodes group clocks pace start a uid (front ++ timed ∷ rest) is) clocks pace a is.alone uid is.size m i message follows other preferred front rest timed
       (no_traffic start) (world_of ids rows) is.calm (hears a (front ++ timed ∷ rest) is.harmless) (begun group clocks pace start a uid (front ++ timed ∷ rest) is) asked

@@ -21,9 +21,7 @@ use Rattle.transfer_rx.specs.Acceptance.{first_signature}
 use Rattle.transfer_rx.specs.Reassembly.{Arrival, Delivery, Gives}
 use Rattle.transfer_rx.specs.Sound.{IsDelivered}
 use Rattle.alloc_spec.specs.Transfers.{SentTransfer}
-use Rattle.cluster_agreement.specs.Continues.{Continues}
 use Rattle.cluster_agreement.specs.Frames.{CameFrom, WasMade}
-use Rattle.cluster_agreement.specs.LawsBelow.{FrameLaws}
 use Rattle.cluster_agreement.specs.Shows.{Shows}
 use Rattle.cluster_agreement.proofs.DeliveredTransfers.{was_made}
 use Rattle.cluster_agreement.proofs.Idents.{IsWanted, one_what, wanted_is}
@@ -31,13 +29,14 @@ use Rattle.cluster_agreement.proofs.OneRow.{is_fine, stands}
 use Rattle.cluster_agreement.proofs.OneRowMore.{grown, harmless as one_more_harmless}
 use Rattle.cluster_agreement.proofs.RowsWithoutEvents.{past_first}
 use Rattle.cluster_agreement.proofs.WholeTransfers.{forged_allocation}
-use Rattle.cluster_progress.specs.Devices.{RequestsAreRequests}
 use Rattle.cluster_recovery.specs.Calm.{Timed, rows_in}
-use Rattle.calm_service.proofs.AllocationsMade.{AllMadeSized}
+use Rattle.calm_service.proofs.AllocationsMade.{AllMadeSized, all_made_sized}
 use Rattle.calm_service.proofs.RequestsRows.{AllHearParts, HearsParts, HoldsAt, IsTelling, telling_on}
+use Rattle.calm_service.specs.ServiceBelow.{ServiceGrounds}
+use Rattle.calm_leader.proofs.TermsHeard.{IsOfRun}
+use Rattle.calm_service.proofs.ServiceGrounds.{of_run}
 use Rattle.cluster_spec.specs.Cluster.{AreMembers, Cluster, after_row, after_rows, arrival_at, cluster, frame_at, world_of}
 use Rattle.cluster_spec.specs.Lawful.{DoNoHarm, DoesNoHarm, absent, arrival_refusal_at, cause, no_allocatee, no_such_frame, or_else}
-use Rattle.cluster_spec.specs.Refinement.{events, transfers_of_rows}
 
 -- of what has a source a device hears Allocations alone
 only_allocations : (kind : Kind) (number s : ℕ) → first_signature device.rows kind number ≡ Some s → is_anonymous kind ≡ false → (kind ≡ Broadcast) × (number ≡ 1)
@@ -47,12 +46,7 @@ only_allocations Anonymous number s e known = absurd (cc (known))
 only_allocations Request number s e known = absurd (cc (e))
 only_allocations Response number s e known = absurd (cc (e))
 
--- what is delivered to a device is not torn
-abbrev pub Untorn : Type 0
-Untorn = (d : Device) (arrival : Arrival) (delivery : Delivery) → arrival_judgement d arrival ≡ Fine → answer_to d arrival ≡ Gives delivery → delivery.whole ≡ false
-    → arrival.mark.step ≡ 0
-
-module _ (frame : FrameLaws) (untorn : Untorn) where
+module _ (below : ServiceGrounds) where
   -- ---- one row
 
   module _ (choice : ℕ → Bool) (made : List SentTransfer) (w : Cluster) (run : raft.World) (members : AreMembers w.ids) (shows : Shows choice made w run)
@@ -76,7 +70,7 @@ module _ (frame : FrameLaws) (untorn : Untorn) where
           (subst (λ (o : Option Device). arrival_refusal_at o (arrival_at (frame_at w.frames k) ms) ≡ None) there second.1)
 
       its : IsDelivered device.setting x.sessions (at_step x (arrival_at (frame_at w.frames k) ms)) d
-      its = frame.delivered device.setting x.sessions (at_step x (arrival_at (frame_at w.frames k) ms)) d gives
+      its = below.frame.delivered device.setting x.sessions (at_step x (arrival_at (frame_at w.frames k) ms)) d gives
 
       wants : IsWanted device.rows 0 (at_step x (arrival_at (frame_at w.frames k) ms)).id its.w.ident
       wants = wanted_is device.rows 0 (at_step x (arrival_at (frame_at w.frames k) ms)).id its.w its.accepted
@@ -89,9 +83,9 @@ module _ (frame : FrameLaws) (untorn : Untorn) where
       came = record { frame = frame_at w.frames k; there = stands w k second.0; id = refl; bytes = refl; mark = refl }
 
       whose : WasMade made d
-      whose = was_made frame w.ids (λ n i. (members.nodes n i).0) (λ n i. (members.nodes n i).1) made shows.holds.transfers device.setting w.frames shows.bus x.sessions
+      whose = was_made below.frame w.ids (λ n i. (members.nodes n i).0) (λ n i. (members.nodes n i).1) made shows.holds.transfers device.setting w.frames shows.bus x.sessions
           (shows.asking a x there).heard (at_step x (arrival_at (frame_at w.frames k) ms)) came d gives
-          (λ torn. ap (λ (m : Mark). m.step) its.mark ∙ untorn x (arrival_at (frame_at w.frames k) ms) d fine gives torn)
+          (λ torn. ap (λ (m : Mark). m.step) its.mark ∙ below.untorn x (arrival_at (frame_at w.frames k) ms) d fine gives torn)
           (forged_allocation w.ids d.ident broadcast.0 broadcast.1) (inr broadcast.0)
 
       parts : (message : Allocation) → allocation_of d.payload ≡ Some message → IsEndOfStage (length message.uid.items)
@@ -108,21 +102,20 @@ module _ (frame : FrameLaws) (untorn : Untorn) where
 
   -- ---- all rows
 
-  module _ (ids : List ℕ) (members : AreMembers ids) (same_ids : (w : Cluster) (rows : List Row) → (after_rows w rows).ids ≡ w.ids)
-      (shown : (rows : List Row) → DoNoHarm (cluster ids) rows → (choice : ℕ → Bool)
-      × Continues choice (transfers_of_rows (cluster ids) rows []) (world_of ids rows) (raft.initial_world ids) (events choice (cluster ids) rows))
-      (sized : (rows : List Row) → DoNoHarm (cluster ids) rows → AllMadeSized (transfers_of_rows (cluster ids) rows [])) (a : ℕ) where
+  module _ (ids : List ℕ) (members : AreMembers ids) (a : ℕ) where
     pub all_hear : (whole : List Timed) (done : List Row) (w : Cluster) → w ≡ world_of ids done → DoNoHarm (cluster ids) done → DoNoHarm w (rows_in whole) → AllHearParts a w whole
     all_hear [] done w is before harmless = tt
     all_hear (timed ∷ rest) done w is before harmless = (
       subst (λ (v : Cluster). HearsParts a v timed.row) (sym is)
-          (hears_parts (shown done before).0 (transfers_of_rows (cluster ids) done []) (world_of ids done)
-          (raft.run (raft.initial_world ids) (events (shown done before).0 (cluster ids) done)) (subst AreMembers (sym (same_ids (cluster ids) done)) members)
-          (shown done before).1.shows (sized done before) a timed.row here),
+          (hears_parts run.choice run.made (world_of ids done) run.run (subst AreMembers (sym (below.same (cluster ids) done)) members) run.shows
+          (all_made_sized below ids members done before) a timed.row here),
       all_hear rest (done ++ timed.row ∷ []) (after_row w timed.row) (ap (λ (v : Cluster). after_row v timed.row) is ∙ sym (grown (cluster ids) done timed.row))
           (one_more_harmless (cluster ids) done timed.row before here) harmless.1,
     )
       where
+        run : IsOfRun (world_of ids done)
+        run = of_run below ids members done before
+
         here : DoesNoHarm (world_of ids done) timed.row
         here = subst (λ (v : Cluster). DoesNoHarm v timed.row) is harmless.0
 
@@ -138,7 +131,7 @@ module _ (frame : FrameLaws) (untorn : Untorn) where
     same_rows (row ∷ rows) = ap (λ (l : List Row). row ∷ l) (same_rows rows)
 
     -- so a device tells parts of its unique ID behind all rows that do no harm
-    pub all_tell : RequestsAreRequests → (rows : List Row) → DoNoHarm (cluster ids) rows → HoldsAt IsTelling a (world_of ids rows).allocatee
-    all_tell requests rows harmless = subst (λ (l : List Row). HoldsAt IsTelling a (after_rows (cluster ids) l).allocatee) (same_rows rows)
-        (telling_on requests a (at_once rows) (cluster ids)
+    pub all_tell : (rows : List Row) → DoNoHarm (cluster ids) rows → HoldsAt IsTelling a (world_of ids rows).allocatee
+    all_tell rows harmless = subst (λ (l : List Row). HoldsAt IsTelling a (after_rows (cluster ids) l).allocatee) (same_rows rows)
+        (telling_on below.requests a (at_once rows) (cluster ids)
         (all_hear (at_once rows) [] (cluster ids) refl tt (subst (DoNoHarm (cluster ids)) (sym (same_rows rows)) harmless)) (λ d e. absurd (cc (e))))

@@ -1,23 +1,17 @@
 -- The pair that a leader records in a calm is told in time: from the row in which it is recorded to the law.
-use Rattle.std.proofs.Common.{◌≡◌, ℕ, ◌+◌, ◌<◌, ◌≤◌, Bool, List, [], ◌∷◌, ◌++◌, length, length-append, append_assoc, append-nil, refl, sym, ◌∙◌, ap, subst, inl, inr, arith}
+use Rattle.std.proofs.Common.{◌≡◌, ℕ, ◌+◌, ◌<◌, ◌≤◌, List, [], ◌∷◌, ◌++◌, length, length-append, append_assoc, append-nil, refl, sym, ◌∙◌, ap, subst, inl, inr, arith}
 use Rattle.std.specs.Prelude.{drop, max, slice_index_or}
 use Rattle.alloc_exchange.specs.Exchange.{Accepted}
 use Rattle.can_frame.specs.declared.entry.Entry.{Entry}
 use Rattle.can_frame.specs.Log.{log_limit}
 use Rattle.dsdl_codec.specs.declared.allocation.Allocation.{Allocation}
 use Rattle.raft_core.specs.Taken.{proposal}
-use Rattle.raft_model.specs.Fit.{IsFit}
-use Rattle.raft_model.specs.Lists.{In}
-use Rattle.raft_model.specs.Runs as raft
-use Rattle.raft_model.specs.Server.{RaftServer}
 use Rattle.raft_model.specs.Server.Role.{Leader}
 use Rattle.replay_text.specs.declared.row.Row.{Row}
 use Rattle.alloc_spec.specs.AllocatorState.{AllocatorState}
 use Rattle.alloc_spec.specs.Exchange.{may_follow}
 use Rattle.alloc_spec.specs.Step.{Event}
-use Rattle.alloc_spec.specs.Transfers.{SentTransfer}
 use Rattle.alloc_spec_laws.specs.Phases.{TellsDuly, when_committed, when_told}
-use Rattle.cluster_agreement.specs.Shows.{Shows, ShowsMember, ShowsUp}
 use Rattle.cluster_progress.proofs.Alone.{one_longer}
 use Rattle.cluster_recovery.specs.Calm.{HasSettled, Pace, Timed, end_of, rows_in}
 use Rattle.cluster_calm.specs.Calm.{Member as OfMember, Party}
@@ -34,17 +28,7 @@ use Rattle.calm_service.proofs.ServedToldRows.{SettlesBy, from_record}
 use Rattle.calm_service.proofs.ServedToldWhole.{whole_leaves_none}
 use Rattle.calm_service.proofs.SettledStays.{AsksOrNot, asked_or_not}
 use Rattle.cluster_spec.specs.Cluster.{Cluster, after_row, after_rows, world_of}
-use Rattle.cluster_spec.specs.Members.{MemberStatus}
 use Rattle.cluster_spec.specs.Members.MemberStatus.{Up}
-
--- a server of a world that rows show has told no more than it has committed
-pub tells_inside : (choice : ℕ → Bool) (made : List SentTransfer) (w : Cluster) (run : raft.World) → Shows choice made w run
-    → ((member : ℕ) → IsFit member (run.server member)) → (n : ℕ) (t : AllocatorState) → In n w.ids → (w.member n).status ≡ Up t
-    → t.raft_server.memory.told ≤ t.raft_server.store.commit
-tells_inside choice made w run shows fit n t listed up = subst (λ (s : RaftServer). s.memory.told ≤ s.store.commit) shown.runs.raft_server (fit n).told
-  where
-    shown : ShowsUp made w.ids w.frames run n t (w.member n).disk
-    shown = subst (λ (status : MemberStatus). ShowsMember choice made w.ids w.frames run n status (w.member n).disk) up (shows.lives n listed)
 
 module _ (ids : List ℕ) (rows : List Row) (keeps_row : EachRowKeepsTheLog ids rows) (uncommitted : LogStaysUncommitted ids rows) (settled_leads : SettledLeads)
     (settles : LeaderSettles) (lose : LeadersLoseNothing ids rows) (judged : VerdictsAre)

@@ -2,34 +2,25 @@
 use Rattle.std.proofs.Common.{◌≡◌, ◌≢◌, ℕ, List, [], ◌∷◌, ◌++◌, append_assoc, refl, sym, ◌∙◌, ap, subst}
 use Rattle.raft_model.specs.Lists.{In}
 use Rattle.replay_text.specs.declared.row.Row.{Row}
-use Rattle.cluster_agreement.specs.LawsBelow.{CodecLaws}
 use Rattle.cluster_recovery.specs.Calm.{Pace, Timed, end_of, rows_in}
-use Rattle.cluster_calm.specs.Calm.{AreCalm, AreRunning, Member as OfMember, Party, no_traffic}
-use Rattle.cluster_calm.specs.Calls.{Lists, ListsStay}
+use Rattle.cluster_calm.specs.Calm.{AreCalm, Member as OfMember, Party, no_traffic}
+use Rattle.cluster_calm.specs.Calls.{Lists}
 use Rattle.calm_leader.specs.LeadsOn.{IsLed}
 use Rattle.calm_service.specs.Settled.{AllRowsLeaveItSettled, EachRowLeavesItSettled, IsCalmUnder, NobodyIsMissed}
-use Rattle.cluster_calm.proofs.Group.{AreWell, CalmLaws}
-use Rattle.calm_leader.proofs.LeadsOn.{DeliversOne}
 use Rattle.calm_service.proofs.SettledStays.{IsReached, harmless_first, missed_first, reach_on, row_leaves, settled_on, unasked_on}
 use Rattle.calm_leader.proofs.Stretches.{world_both}
-use Rattle.calm_leader.proofs.TermsHeard.{IsOfRun}
-use Rattle.cluster_spec.specs.Cluster.{AreMembers, Cluster, after_row, after_rows, cluster, world_of}
-use Rattle.cluster_spec.specs.Lawful.{DoNoHarm, DoesNoHarm}
+use Rattle.calm_service.specs.ServiceBelow.{ServiceGrounds}
+use Rattle.calm_service.proofs.ServiceGrounds.{well}
+use Rattle.cluster_spec.specs.Cluster.{AreMembers, Cluster, after_rows, cluster, world_of}
+use Rattle.cluster_spec.specs.Lawful.{DoNoHarm}
 
-module _ (laws : CalmLaws) (codec : CodecLaws) (one_transfer : DeliversOne) (stay : ListsStay) (ids : List ℕ) (members : AreMembers ids)
-    (of_run : (rows : List Row) → DoNoHarm (cluster ids) rows → IsOfRun (world_of ids rows))
-    (same_members : (rows : List Row) → (world_of ids rows).ids ≡ ids)
-    (grown : (rows : List Row) (row : Row) → world_of ids (rows ++ row ∷ []) ≡ after_row (world_of ids rows) row)
-    (grown_harmless : (rows : List Row) (row : Row) → DoNoHarm (cluster ids) rows → DoesNoHarm (world_of ids rows) row → DoNoHarm (cluster ids)
-    (rows ++ row ∷ []))
-    (rows : List Row) (harmless : DoNoHarm (cluster ids) rows)
-    (well : (group : List Party) → ((p : ℕ) → In (OfMember p) group → In p ids) → AreRunning group (world_of ids rows) → AreWell group (world_of ids rows)) where
+module _ (below : ServiceGrounds) (ids : List ℕ) (members : AreMembers ids) (rows : List Row) (harmless : DoNoHarm (cluster ids) rows) where
   abbrev w : Cluster
   w = world_of ids rows
 
   module _ (group : List Party) (clocks : Party → ℕ) (pace : Pace) (start n term : ℕ) where
     abbrev Reached : (listed : (p : ℕ) → In (OfMember p) group → In p ids) → ℕ → Cluster → List Timed → Type 0
-    Reached listed = IsReached group laws codec one_transfer stay clocks pace ids members listed of_run same_members grown grown_harmless
+    Reached listed = IsReached below group clocks pace ids members listed
 
     module _ (first later : List Timed) (under : IsCalmUnder ids rows group clocks pace start n term first later) where
       -- where the calm begins
@@ -41,12 +32,12 @@ module _ (laws : CalmLaws) (codec : CodecLaws) (one_transfer : DeliversOne) (sta
         traffic = no_traffic start;
         calm = under.calm;
         at_end = refl;
-        well = well group under.listed under.running;
+        well = well below ids members rows harmless group under.listed under.running;
         flies = λ party. refl;
       }
 
       lists_at : (front rest : List Timed) → first ++ later ≡ front ++ rest → (m : ℕ) → In (OfMember m) group → m ≢ n → Lists n m (after_rows w (rows_in front))
-      lists_at front rest cut m i apart = stay group clocks pace (no_traffic start) n m front rest w (under.running n under.member)
+      lists_at front rest cut m i apart = below.lists_stay group clocks pace (no_traffic start) n m front rest w (under.running n under.member)
           (subst (AreCalm group clocks pace (no_traffic start) w) cut under.calm) (under.lists m i apart)
 
     module _ (first early front rest : List Timed) (under : IsCalmUnder ids rows group clocks pace start n term first (early ++ (front ++ rest))) where
@@ -65,9 +56,8 @@ module _ (laws : CalmLaws) (codec : CodecLaws) (one_transfer : DeliversOne) (sta
       harm = harmless_first early (front ++ rest) led_from harm_first.1
 
       pub reached : Reached under.listed (end_of (end_of start first) early) there (front ++ rest)
-      reached = reach_on group laws codec one_transfer stay clocks pace ids members under.listed of_run same_members grown grown_harmless
-          early (front ++ rest) (end_of start first) led_from
-          (reach_on group laws codec one_transfer stay clocks pace ids members under.listed of_run same_members grown grown_harmless
+      reached = reach_on below group clocks pace ids members under.listed early (front ++ rest) (end_of start first) led_from
+          (reach_on below group clocks pace ids members under.listed
           first (early ++ (front ++ rest)) start w (begins first (early ++ (front ++ rest)) under) harm_first.0)
           harm.0
 
@@ -84,7 +74,7 @@ module _ (laws : CalmLaws) (codec : CodecLaws) (one_transfer : DeliversOne) (sta
 
   pub each_row : EachRowLeavesItSettled ids rows
   each_row group clocks pace start n term log accepted first front rest timed under is =
-      row_leaves group laws codec one_transfer stay clocks pace ids members under.listed of_run same_members grown grown_harmless
+      row_leaves below group clocks pace ids members under.listed
       n term log under.member (end_of (end_of start first) front) (after_rows (after_rows w (rows_in first)) (rows_in front)) timed rest
       (reached group clocks pace start n term first front (timed ∷ []) rest under)
       (harm group clocks pace start n term first front (timed ∷ []) rest under).1.0 accepted
@@ -96,15 +86,13 @@ module _ (laws : CalmLaws) (codec : CodecLaws) (one_transfer : DeliversOne) (sta
   all_rows group clocks pace start n term log first early front rest under =
       let there = after_rows (after_rows w (rows_in first)) (rows_in early) in
       let moment = end_of (end_of start first) early in (
-        λ is none. settled_on group laws codec one_transfer stay clocks pace ids members under.listed of_run same_members grown grown_harmless
-            n term log under.member front rest moment there
+        λ is none. settled_on below group clocks pace ids members under.listed n term log under.member front rest moment there
             (reached group clocks pace start n term first early front rest under)
             (harmless_first front rest there (harm group clocks pace start n term first early front rest under).1).0
             (led group clocks pace start n term first early front rest under)
             (lists group clocks pace start n term first early front rest under)
             (missed group clocks pace start n term first early front rest under) none is,
-        λ accepted is none. unasked_on group laws codec one_transfer stay clocks pace ids members under.listed of_run same_members grown grown_harmless
-            n term log under.member accepted front rest moment there
+        λ accepted is none. unasked_on below group clocks pace ids members under.listed n term log under.member accepted front rest moment there
             (reached group clocks pace start n term first early front rest under)
             (harmless_first front rest there (harm group clocks pace start n term first early front rest under).1).0
             (led group clocks pace start n term first early front rest under)

@@ -14,19 +14,20 @@ use Rattle.replay_text.specs.declared.row.Row.TheVariants.{AEnd, AOpen, ARx, ASe
 use Rattle.transfer_rx.specs.Reassembly.{Answer as Received, Continues, Delivery, Drops, Gives, answer as received}
 use Rattle.alloc_spec.specs.Accepted.{setting_for}
 use Rattle.alloc_spec.specs.AllocatorState.{AllocatorState}
-use Rattle.cluster_agreement.specs.LawsBelow.{CodecLaws}
 use Rattle.cluster_recovery.specs.Calm.{HasSettled, Pace, Timed, end_of, rows_in}
 use Rattle.cluster_calm.specs.Calm.{AreCalm, AreRunning, IsCalmRow, Member as OfMember, Party, Traffic, traffic_after}
-use Rattle.cluster_calm.specs.Calls.{Lists, ListsStay}
+use Rattle.cluster_calm.specs.Calls.{Lists}
 use Rattle.calm_leader.specs.LeadsOn.{IsLed}
 use Rattle.calm_service.specs.Settled.{IsAsked, IsNotAsked, IsSettled, MissesNobody, NobodyAsks, NobodyIsMissed, NothingIsRecorded, StaysSettled}
-use Rattle.cluster_calm.proofs.Group.{AreWell, CalmLaws, IsWell, well_after}
-use Rattle.calm_leader.proofs.LeadsOn.{DeliversOne, all_play, none_higher}
+use Rattle.cluster_calm.proofs.Group.{AreWell, IsWell, well_after}
+use Rattle.calm_leader.proofs.LeadsOn.{all_play, none_higher}
 use Rattle.calm_leader.proofs.LeadsOnWays.{AreOfGroup, next_of_group, of_group_after}
 use Rattle.cluster_calm.proofs.Pair.{same_server}
 use Rattle.calm_service.proofs.SettledLeads.{settles, stays_settled}
 use Rattle.calm_leader.proofs.TermsHeard.{IsOfRun, tells_within}
 use Rattle.calm_leader.proofs.TermsKept.{TellsWithin}
+use Rattle.calm_service.specs.ServiceBelow.{ServiceGrounds}
+use Rattle.calm_service.proofs.ServiceGrounds.{calm_laws, of_run}
 use Rattle.cluster_spec.specs.Cluster.{AreMembers, Cluster, after_row, after_rows, arrival_at, cluster, frame_at, world_of}
 use Rattle.cluster_spec.specs.Lawful.{DoNoHarm, DoesNoHarm}
 use Rattle.cluster_spec.specs.Members.MemberStatus.{Up}
@@ -128,13 +129,8 @@ module _ (n : ℕ) (w : Cluster) (t : AllocatorState) (runs : (w.member n).statu
   asked_or_not (AOpen a uid pref ms word) = inr (λ message is. cc (is.comes.comes))
   asked_or_not (AEnd a) = inr (λ message is. cc (is.comes.comes))
 
-module _ (group : List Party) (laws : CalmLaws) (codec : CodecLaws) (one_transfer : DeliversOne) (stay : ListsStay) (clocks : Party → ℕ) (pace : Pace)
-    (ids : List ℕ) (members : AreMembers ids) (listed : (p : ℕ) → In (OfMember p) group → In p ids)
-    (of_run : (rows : List Row) → DoNoHarm (cluster ids) rows → IsOfRun (world_of ids rows))
-    (same_members : (rows : List Row) → (world_of ids rows).ids ≡ ids)
-    (grown : (rows : List Row) (row : Row) → world_of ids (rows ++ row ∷ []) ≡ after_row (world_of ids rows) row)
-    (grown_harmless : (rows : List Row) (row : Row) → DoNoHarm (cluster ids) rows → DoesNoHarm (world_of ids rows) row → DoNoHarm (cluster ids)
-    (rows ++ row ∷ [])) where
+module _ (below : ServiceGrounds) (group : List Party) (clocks : Party → ℕ) (pace : Pace) (ids : List ℕ) (members : AreMembers ids)
+    (listed : (p : ℕ) → In (OfMember p) group → In p ids) where
   pub nodes : (p : ℕ) → In (OfMember p) group → (1 ≤ p) × (p ≤ 125)
   nodes p i = members.nodes p (listed p i)
 
@@ -155,13 +151,13 @@ module _ (group : List Party) (laws : CalmLaws) (codec : CodecLaws) (one_transfe
       → IsReached timed.at (after_row w timed.row) rest
   after_one moment w timed rest h harm = record {
     rows = h.rows ++ timed.row ∷ [];
-    reached = grown h.rows timed.row ∙ ap (λ (v : Cluster). after_row v timed.row) h.reached;
-    harmless = grown_harmless h.rows timed.row h.harmless (subst (λ (v : Cluster). DoesNoHarm v timed.row) (sym h.reached) harm);
+    reached = below.grows (cluster ids) h.rows timed.row ∙ ap (λ (v : Cluster). after_row v timed.row) h.reached;
+    harmless = below.no_harm (cluster ids) h.rows timed.row h.harmless (subst (λ (v : Cluster). DoesNoHarm v timed.row) (sym h.reached) harm);
     traffic = traffic_after h.traffic w timed;
     calm = h.calm.2;
     at_end = refl;
-    well = well_after laws group nodes w h.well clocks pace h.traffic timed.at timed.row h.calm.1;
-    flies = λ party. of_group_after group laws nodes clocks pace h.traffic w h.well h.flies timed.at timed.row h.calm.1 party;
+    well = well_after (calm_laws below) group nodes w h.well clocks pace h.traffic timed.at timed.row h.calm.1;
+    flies = λ party. of_group_after group (calm_laws below) nodes clocks pace h.traffic w h.well h.flies timed.at timed.row h.calm.1 party;
   }
 
   -- and any number of rows
@@ -191,7 +187,7 @@ module _ (group : List Party) (laws : CalmLaws) (codec : CodecLaws) (one_transfe
 
       -- n lists each of them behind the row
       pub lists_after : ListsAll w → ListsAll (after_row w timed.row)
-      lists_after lists m i apart = stay group clocks pace h.traffic n m (timed ∷ []) rest w (running n member) h.calm (lists m i apart)
+      lists_after lists m i apart = below.lists_stay group clocks pace h.traffic n m (timed ∷ []) rest w (running n member) h.calm (lists m i apart)
 
       module _ (t : AllocatorState) (runs : (w.member n).status ≡ Up t) where
         -- the server is the member's
@@ -201,18 +197,18 @@ module _ (group : List Party) (laws : CalmLaws) (codec : CodecLaws) (one_transfe
             ap (λ (u : AllocatorState). u.me) (same_server t its.server (sym runs ∙ its.up.status)) ∙ its.its.me
 
         same_ids : w.ids ≡ ids
-        same_ids = sym (ap (λ (v : Cluster). v.ids) h.reached) ∙ same_members h.rows
+        same_ids = sym (ap (λ (v : Cluster). v.ids) h.reached) ∙ below.same (cluster ids) h.rows
 
         shown : IsOfRun w
-        shown = subst IsOfRun h.reached (of_run h.rows h.harmless)
+        shown = subst IsOfRun h.reached (of_run below ids members h.rows h.harmless)
 
         -- what comes to it tells no higher term
         pub tells_low : IsLed group n term w → (k ms : ℕ) → timed.row ≡ Rx n k ms → (d : Delivery)
             → received (setting_for t.me) t.sessions (arrival_at (frame_at w.frames k) (max t.now ms)) ≡ Gives d → TellsWithin term d
         tells_low led k ms e d gives =
             let calm : IsCalmRow group clocks pace h.traffic w timed.at (Rx n k ms) = subst (IsCalmRow group clocks pace h.traffic w timed.at) e h.calm.1 in
-            tells_within laws.frame codec w shown
-            (one_transfer shown.choice shown.made w shown.run (subst AreMembers (sym same_ids) members) shown.shows) group
+            tells_within below.frame below.codec w shown
+            (below.one_transfer shown.choice shown.made w shown.run (subst AreMembers (sym same_ids) members) shown.shows) group
             (λ p i. subst (λ (l : List ℕ). In p l) (sym same_ids) (listed p i)) nodes term
             (none_higher group n term w (all_play group n term w led running))
             n k ms t runs (subst (DoesNoHarm w) e harm) d gives
@@ -222,7 +218,7 @@ module _ (group : List Party) (laws : CalmLaws) (codec : CodecLaws) (one_transfe
       pub row_leaves : (accepted : List Accepted) → IsLed group n term w → ListsAll w → MissesNobody n w timed.row → IsSettled n log accepted (clock moment) w
           → StaysSettled n log accepted (clock timed.at) w timed.row
       row_leaves accepted led lists missed is =
-          stays_settled laws.frame group clocks pace n term log accepted (clock moment) timed.at h.traffic w nodes member h.flies lists
+          stays_settled below.frame group clocks pace n term log accepted (clock moment) timed.at h.traffic w nodes member h.flies lists
           (omega (arith, h.calm.0.moments, h.at_end)) is.settled.server (settles n term log accepted (clock moment) w is led.leader)
           (its_me is.settled.server is.settled.runs) timed.row h.calm.1 (tells_low is.settled.server is.settled.runs led) missed
 

@@ -15,19 +15,13 @@ use Rattle.replay_text.specs.declared.row.Row.{Row}
 use Rattle.cluster_discovery.specs.Members.{is_on_list}
 use Rattle.alloc_spec.specs.AllocatorState.{AllocatorState, is_recorded, members_of}
 use Rattle.alloc_spec_laws.proofs.Choices.{le_true, tell}
-use Rattle.cluster_agreement.specs.LawsBelow.{CodecLaws}
 use Rattle.cluster_recovery.specs.Calm.{Pace, Timed, end_of, rows_in}
-use Rattle.cluster_calm.specs.Calm.{AreRunning, Member as OfMember, Party}
-use Rattle.cluster_calm.specs.Calls.{ListsStay}
+use Rattle.cluster_calm.specs.Calm.{Member as OfMember, Party}
 use Rattle.calm_leader.specs.Entries.{HasComeBy, come_within, is_one_of}
 use Rattle.calm_leader.specs.NoElection.{CallsFit}
-use Rattle.calm_leader.specs.Entries.{EntriesComeInTime}
 use Rattle.calm_service.specs.Settled.{IsCalmUnder}
 use Rattle.calm_service.specs.Settles.{CanCatchUp, GrowsBy, HasComeToLead, WaitsWithBlank}
-use Rattle.cluster_calm.proofs.Group.{AreWell, CalmLaws}
-use Rattle.calm_leader.proofs.LeadsOn.{DeliversOne}
 use Rattle.calm_leader.proofs.Stretches.{end_both, end_last}
-use Rattle.calm_leader.proofs.TermsHeard.{IsOfRun}
 use Rattle.calm_leader.proofs.TermsRoles.{LeadsAt}
 use Rattle.calm_service.proofs.SettledLaw as from_start
 use Rattle.calm_service.proofs.SettledStays.{harmless_first}
@@ -37,8 +31,9 @@ use Rattle.calm_service.proofs.SettledServers.{Settles}
 use Rattle.calm_service.proofs.SettlesOffice.{IsAtBlank, IsWaiting}
 use Rattle.calm_service.proofs.SettlesRows.{HasBlank}
 use Rattle.calm_service.proofs.SettlesWaits.{BlankComes, LogGrows, Waits, waits_on}
-use Rattle.cluster_spec.specs.Cluster.{AreMembers, Cluster, after_row, after_rows, cluster, world_of}
-use Rattle.cluster_spec.specs.Lawful.{DoNoHarm, DoesNoHarm}
+use Rattle.calm_service.specs.ServiceBelow.{ServiceGrounds}
+use Rattle.cluster_spec.specs.Cluster.{AreMembers, Cluster, after_rows, cluster, world_of}
+use Rattle.cluster_spec.specs.Lawful.{DoNoHarm}
 use Rattle.cluster_spec.specs.Members.MemberStatus.{Up}
 
 any_in : (p : ℕ) (others : List ℕ) → any (λ other. other == p) others ≡ true → In p others
@@ -66,16 +61,9 @@ heard_by ids others n count s known many = let more = count_grows (is_one_of n o
           ∙ knows p (any_in p others (sym (ap (λ (x : Bool). x || any (λ other. other == p) others) z.0) ∙ is_it))
     ]
 
-module _ (laws : CalmLaws) (codec : CodecLaws) (one_transfer : DeliversOne) (stay : ListsStay) (ids : List ℕ) (members : AreMembers ids)
-    (of_run : (rows : List Row) → DoNoHarm (cluster ids) rows → IsOfRun (world_of ids rows))
-    (same_members : (rows : List Row) → (world_of ids rows).ids ≡ ids)
-    (grown : (rows : List Row) (row : Row) → world_of ids (rows ++ row ∷ []) ≡ after_row (world_of ids rows) row)
-    (grown_harmless : (rows : List Row) (row : Row) → DoNoHarm (cluster ids) rows → DoesNoHarm (world_of ids rows) row → DoNoHarm (cluster ids)
-    (rows ++ row ∷ []))
-    (rows : List Row) (harmless : DoNoHarm (cluster ids) rows)
-    (well : (group : List Party) → ((p : ℕ) → In (OfMember p) group → In p ids) → AreRunning group (world_of ids rows) → AreWell group (world_of ids rows))
+module _ (below : ServiceGrounds) (ids : List ℕ) (members : AreMembers ids) (rows : List Row) (harmless : DoNoHarm (cluster ids) rows)
     (group : List Party) (clocks : Party → ℕ) (pace : Pace) (start n term : ℕ) (first later : List Timed)
-    (under : IsCalmUnder ids rows group clocks pace start n term first later) (come : EntriesComeInTime ids rows) (log : List Entry) (more one : ℕ) (next : List ℕ)
+    (under : IsCalmUnder ids rows group clocks pace start n term first later) (log : List Entry) (more one : ℕ) (next : List ℕ)
     (new : HasComeToLead ids n log (end_of start first + clocks (OfMember n)) (after_rows (world_of ids rows) (rows_in first)))
     (fits : CallsFit n (world_of ids rows) (first ++ later))
     (short : 4 * pace.delay < call_timeout)
@@ -117,7 +105,7 @@ module _ (laws : CalmLaws) (codec : CodecLaws) (one_transfer : DeliversOne) (sta
   ]
     where
       by : HasComeBy n m (length new.server.raft_server.store.log) by_then from led_from later
-      by = come group clocks pace start n m term more first [] later new.server under.listed under.running under.member (others.apart m i).0 (others.apart m i).1
+      by = below.come ids rows members harmless group clocks pace start n m term more first [] later new.server under.listed under.running under.member (others.apart m i).0 (others.apart m i).1
           short under.calm under.harmless under.led fits (others.calling m i) new.runs (others.few m i) long
 
       inside : (tail : List Timed) × (F ≡ by.front ++ tail)
@@ -155,7 +143,7 @@ module _ (laws : CalmLaws) (codec : CodecLaws) (one_transfer : DeliversOne) (sta
     earlier = let e = waiting.earlier in let t = its_term in omega (arith, e, t)
 
     abbrev WaitsIn : ℕ → Cluster → Type 0
-    WaitsIn = Waits group laws codec one_transfer stay clocks pace ids members under_cut.listed of_run same_members grown grown_harmless n term log under_cut.member earlier
+    WaitsIn = Waits below group clocks pace ids members under_cut.listed n term log under_cut.member earlier
         waiting.room
 
     at_first : WaitsIn from led_from
@@ -201,7 +189,7 @@ module _ (laws : CalmLaws) (codec : CodecLaws) (one_transfer : DeliversOne) (sta
         ]
 
     abbrev Comes : Type 0
-    Comes = BlankComes group laws codec one_transfer stay clocks pace ids members under_cut.listed of_run same_members grown grown_harmless n term log under_cut.member
+    Comes = BlankComes below group clocks pace ids members under_cut.listed n term log under_cut.member
         earlier waiting.room from led_from F
 
     -- the blank comes in these rows: so by the moment at which they are cut
@@ -222,7 +210,7 @@ module _ (laws : CalmLaws) (codec : CodecLaws) (one_transfer : DeliversOne) (sta
             ∙ append_assoc comes.early comes.late (heard_rows.next ∷ heard_rows.rest))
 
     abbrev LogGrew : Type 0
-    LogGrew = LogGrows group laws codec one_transfer stay clocks pace ids members under_cut.listed of_run same_members grown grown_harmless n term log under_cut.member
+    LogGrew = LogGrows below group clocks pace ids members under_cut.listed n term log under_cut.member
         earlier waiting.room from led_from F
 
     abbrev Growth : Type 0
@@ -255,19 +243,14 @@ module _ (laws : CalmLaws) (codec : CodecLaws) (one_transfer : DeliversOne) (sta
 
     -- so the blank has come, or the log grows
     pub blank_by : HasBlankBy by_then ⊎ Growth
-    blank_by = elim (waits_on group laws codec one_transfer stay clocks pace ids members under_cut.listed of_run same_members grown grown_harmless n term log under_cut.member
+    blank_by = elim (waits_on below group clocks pace ids members under_cut.listed n term log under_cut.member
         earlier waiting.room F (heard_rows.next ∷ heard_rows.rest) from led_from
-        (from_start.reached laws codec one_transfer stay ids members of_run same_members grown grown_harmless rows harmless well
-        group clocks pace start n term first [] F (heard_rows.next ∷ heard_rows.rest) under_cut)
+        (from_start.reached below ids members rows harmless group clocks pace start n term first [] F (heard_rows.next ∷ heard_rows.rest) under_cut)
         (harmless_first F (heard_rows.next ∷ heard_rows.rest) led_from
-        (from_start.harm laws codec one_transfer stay ids members of_run same_members grown grown_harmless rows harmless well
-        group clocks pace start n term first [] F (heard_rows.next ∷ heard_rows.rest) under_cut).1).0
-        (from_start.led laws codec one_transfer stay ids members of_run same_members grown grown_harmless rows harmless well
-        group clocks pace start n term first [] F (heard_rows.next ∷ heard_rows.rest) under_cut)
-        (from_start.lists laws codec one_transfer stay ids members of_run same_members grown grown_harmless rows harmless well
-        group clocks pace start n term first [] F (heard_rows.next ∷ heard_rows.rest) under_cut)
-        (from_start.missed laws codec one_transfer stay ids members of_run same_members grown grown_harmless rows harmless well
-        group clocks pace start n term first [] F (heard_rows.next ∷ heard_rows.rest) under_cut)
+        (from_start.harm below ids members rows harmless group clocks pace start n term first [] F (heard_rows.next ∷ heard_rows.rest) under_cut).1).0
+        (from_start.led below ids members rows harmless group clocks pace start n term first [] F (heard_rows.next ∷ heard_rows.rest) under_cut)
+        (from_start.lists below ids members rows harmless group clocks pace start n term first [] F (heard_rows.next ∷ heard_rows.rest) under_cut)
+        (from_start.missed below ids members rows harmless group clocks pace start n term first [] F (heard_rows.next ∷ heard_rows.rest) under_cut)
         at_first) [
           | inl is ↦ absurd (waits_not is)
           | inr ends ↦ elim ends [ inl comes ↦ inl (as_by comes) | inr g ↦ inr (as_growth g) ]

@@ -14,28 +14,20 @@ use Rattle.raft_model.specs.Server.Role.{Leader}
 use Rattle.raft_model.proofs.Stored.{last_below}
 use Rattle.replay_text.specs.declared.row.Row.{Row}
 use Rattle.alloc_spec.specs.AllocatorState.{AllocatorState}
-use Rattle.alloc_spec.specs.Step.{Event}
 use Rattle.alloc_spec.specs.Transfers.{SentTransfer}
-use Rattle.alloc_spec_laws.specs.Phases.{TellsDuly, when_committed, when_told}
 use Rattle.alloc_spec_laws.proofs.Choices.{lt_tells}
-use Rattle.cluster_agreement.specs.LawsBelow.{CodecLaws}
 use Rattle.cluster_agreement.specs.Shows.{Shows, ShowsMember, ShowsUp}
 use Rattle.cluster_progress.proofs.Alone.{last_entry, one_longer}
 use Rattle.cluster_recovery.specs.Calm.{Pace, Timed, end_of, rows_in}
-use Rattle.cluster_calm.specs.Calm.{AreCalm, AreRunning, Member as OfMember, Party, no_traffic}
-use Rattle.cluster_calm.specs.Calls.{ListsStay}
+use Rattle.cluster_calm.specs.Calm.{AreCalm, Member as OfMember, Party, no_traffic}
 use Rattle.calm_leader.specs.Entries.{IsCommittedBy, KeepsCalling, come_within}
 use Rattle.calm_leader.specs.NoElection.{CallsFit}
-use Rattle.calm_leader.specs.Entries.{EntriesAreCommittedInTime, EntriesComeInTime, calls_left}
+use Rattle.calm_leader.specs.Entries.{calls_left}
 use Rattle.calm_service.specs.Recorded.{EachRowKeepsTheLog, LeaderSettles, LeadsWith}
 use Rattle.calm_service.specs.ServedTold.{HasRoomInSteps}
 use Rattle.calm_service.specs.Settled.{IsCalmUnder, IsNotAsked, NobodyAsks}
 use Rattle.calm_service.specs.Settles.{CanCatchUp, GrowsBy, HasComeToLead, HasSettledBy, MayHaveBlank, WaitsWithBlank, settle_within}
-use Rattle.cluster_calm.proofs.Group.{AreWell, CalmLaws}
-use Rattle.calm_leader.proofs.LeadsOn.{DeliversOne}
 use Rattle.calm_leader.proofs.Stretches.{end_both, world_both}
-use Rattle.calm_leader.proofs.TermsHeard.{IsOfRun}
-use Rattle.calm_service.proofs.AllocationsTold.{VerdictsAre}
 use Rattle.calm_service.proofs.Served.{commits_inside}
 use Rattle.calm_service.proofs.ServedTold.{HasReached}
 use Rattle.calm_service.proofs.SettlesCommits.{StillLeads, still_leads}
@@ -43,8 +35,9 @@ use Rattle.calm_service.proofs.SettlesFrom.{CutAt, carry, cut_at, front_in, lead
 use Rattle.calm_service.proofs.SettlesHeard.{HasBlankBy, blank_by, heard_rows, known_then}
 use Rattle.calm_service.proofs.SettlesKnown.{HasCommitted, IsCalledBy, Knows, calls_stay, commit_kept, known_kept}
 use Rattle.calm_service.proofs.SettlesTells.{tells_all, told_kept}
+use Rattle.calm_service.specs.ServiceBelow.{ServiceGrounds}
 use Rattle.cluster_spec.specs.Cluster.{AreMembers, Cluster, after_row, after_rows, cluster, world_of}
-use Rattle.cluster_spec.specs.Lawful.{DoNoHarm, DoesNoHarm}
+use Rattle.cluster_spec.specs.Lawful.{DoNoHarm}
 use Rattle.cluster_spec.specs.Members.{MemberStatus}
 use Rattle.cluster_spec.specs.Members.MemberStatus.{Up}
 
@@ -90,16 +83,8 @@ is_fitting choice made w run shows invariants fit n t listed up = record {
     its : IsFit n t.raft_server
     its = subst (IsFit n) shown.runs.raft_server (fit n)
 
-module _ (laws : CalmLaws) (codec : CodecLaws) (one_transfer : DeliversOne) (stay : ListsStay) (ids : List ℕ) (members : AreMembers ids)
-    (of_run : (rows : List Row) → DoNoHarm (cluster ids) rows → IsOfRun (world_of ids rows))
-    (same_members : (rows : List Row) → (world_of ids rows).ids ≡ ids)
-    (grown : (rows : List Row) (row : Row) → world_of ids (rows ++ row ∷ []) ≡ after_row (world_of ids rows) row)
-    (grown_harmless : (rows : List Row) (row : Row) → DoNoHarm (cluster ids) rows → DoesNoHarm (world_of ids rows) row → DoNoHarm (cluster ids)
-    (rows ++ row ∷ []))
-    (rows : List Row) (harmless : DoNoHarm (cluster ids) rows)
-    (well : (group : List Party) → ((p : ℕ) → In (OfMember p) group → In p ids) → AreRunning group (world_of ids rows) → AreWell group (world_of ids rows))
-    (come : EntriesComeInTime ids rows) (commit : EntriesAreCommittedInTime ids rows) (keeps_row : EachRowKeepsTheLog ids rows) (settles : LeaderSettles)
-    (judged : VerdictsAre) (duly : (t : AllocatorState) (number : ℕ) (event : Event) → TellsDuly number (when_committed t number event) (when_told t number event))
+module _ (below : ServiceGrounds) (ids : List ℕ) (members : AreMembers ids) (rows : List Row) (harmless : DoNoHarm (cluster ids) rows)
+    (keeps_row : EachRowKeepsTheLog ids rows) (settles : LeaderSettles)
     (group : List Party) (clocks : Party → ℕ) (pace : Pace) (start n term : ℕ) (log : List Entry) (more untold one : ℕ) (next : List ℕ) (first later : List Timed)
     (under : IsCalmUnder ids rows group clocks pace start n term first later)
     (fitting : (front rest : List Timed) (t : AllocatorState) → first ++ later ≡ front ++ rest
@@ -151,7 +136,7 @@ module _ (laws : CalmLaws) (codec : CodecLaws) (one_transfer : DeliversOne) (sta
   -- what was told at first is told
   told_at : (a b : List Timed) → later ≡ a ++ b → (t : AllocatorState) → ((at a).member n).status ≡ Up t → HasReached new.server.raft_server.memory.told t.raft_server
   told_at a b cut t up = carry w group clocks pace start n first later under.calm (under.running n under.member)
-      (λ (s : AllocatorState). HasReached new.server.raft_server.memory.told s.raft_server) (told_kept judged new.server.raft_server.memory.told) [] a b
+      (λ (s : AllocatorState). HasReached new.server.raft_server.memory.told s.raft_server) (told_kept below.judged new.server.raft_server.memory.told) [] a b
       cut new.server new.runs
       (record {
         sane = sane [] later new.server refl new.runs;
@@ -182,7 +167,7 @@ module _ (laws : CalmLaws) (codec : CodecLaws) (one_transfer : DeliversOne) (sta
 
   settles_committed : new.server.raft_server.store.commit ≡ length log → Ends
   unfolding at_first
-  settles_committed all = tells_all ids rows group clocks pace start n term first later under keeps_row judged log log (inl refl) sane fit duly settles room
+  settles_committed all = tells_all ids rows group clocks pace start n term first later under keeps_row below.judged log log (inl refl) sane fit below.tell settles room
       last long_later untold new.server.raft_server.memory.told [] later refl (omega arith)
       (record { accepted = new.server.accepted; leads = at_first (inl all) }) all (told_at [] later refl) few
 
@@ -202,12 +187,12 @@ module _ (laws : CalmLaws) (codec : CodecLaws) (one_transfer : DeliversOne) (sta
 
   module _ (longer : List Entry) (its_log : MayHaveBlank log term longer) (own_last : last_term longer ≡ term) where
     abbrev On : List Timed → Type 0
-    On = StillLeads ids rows group clocks pace start n term first later under keeps_row judged log longer its_log sane
+    On = StillLeads ids rows group clocks pace start n term first later under keeps_row below.judged log longer its_log sane
 
     -- it goes on so behind more rows, or a request makes the log grow
     goes_on : (F G tail H : List Timed) → G ≡ F ++ tail → later ≡ G ++ H → end_of from G ≤ last → On F → On G ⊎ Growth
     goes_on F G tail H joined cut soon on = subst (λ (l : List Timed). On l ⊎ Growth) (sym joined)
-        (still_leads ids rows group clocks pace start n term first later under keeps_row judged log longer its_log sane last tail F H
+        (still_leads ids rows group clocks pace start n term first later under keeps_row below.judged log longer its_log sane last tail F H
         (cut ∙ (ap (λ (l : List Timed). l ++ H) joined ∙ append_assoc F tail H))
         (let e = ap (λ (l : List Timed). end_of from l) joined in omega (arith, soon, e)) on)
 
@@ -223,7 +208,7 @@ module _ (laws : CalmLaws) (codec : CodecLaws) (one_transfer : DeliversOne) (sta
       own = ap (λ (l : List Entry). term_at l (length l)) on.leads.log_is ∙ own_last
 
       committed : IsCommittedBy n (length u.raft_server.store.log) (end_of from F + come_within pace k) start w (first ++ (F ++ R))
-      committed = commit group clocks pace start n term k one next first F R u under.listed under.running under.member others.apart others.many short
+      committed = below.committed ids rows members harmless group clocks pace start n term k one next first F R u under.listed under.running under.member others.apart others.many short
           (subst (AreCalm group clocks pace (no_traffic start) w) whole under.calm)
           (subst (λ (l : List Timed). DoNoHarm w (rows_in l)) whole under.harmless)
           (λ a b e. under.led a b (cut ∙ e))
@@ -249,8 +234,8 @@ module _ (laws : CalmLaws) (codec : CodecLaws) (one_transfer : DeliversOne) (sta
           let split : first ++ later ≡ committed.front ++ committed.rest = whole ∙ committed.split in
           let inside = front_in w group clocks pace start n [] (first ++ later) under.calm (under.running n under.member) by_commit at_whole committed.front committed.rest split
           (let s = committed.soon in omega (arith, s, soon)) in
-          let kept : HasCommitted judged (length longer) v.raft_server = carry w group clocks pace start n [] (first ++ later) under.calm (under.running n under.member)
-          (λ (s : AllocatorState). HasCommitted judged (length longer) s.raft_server) (commit_kept judged (length longer)) committed.front inside.0 D
+          let kept : HasCommitted below.judged (length longer) v.raft_server = carry w group clocks pace start n [] (first ++ later) under.calm (under.running n under.member)
+          (λ (s : AllocatorState). HasCommitted below.judged (length longer) s.raft_server) (commit_kept below.judged (length longer)) committed.front inside.0 D
           (at_whole.split ∙ (ap (λ (l : List Timed). l ++ D) inside.1 ∙ append_assoc committed.front inside.0 D))
           committed.leader committed.leads
           (record {
@@ -275,7 +260,7 @@ module _ (laws : CalmLaws) (codec : CodecLaws) (one_transfer : DeliversOne) (sta
           (omega (arith, soon)) in
           elim (goes_on F C inside.0 D inside.1 cut_commit.split (let s = cut_commit.soon in omega (arith, s)) on) [
             | inr growth ↦ inr growth
-            | inl then_ ↦ tells_all ids rows group clocks pace start n term first later under keeps_row judged log longer its_log sane fit duly settles room
+            | inl then_ ↦ tells_all ids rows group clocks pace start n term first later under keeps_row below.judged log longer its_log sane fit below.tell settles room
                 last long_later (untold + 1) new.server.raft_server.memory.told C D cut_commit.split
                 (let s = cut_commit.soon in omega (arith, s)) then_ (all_committed then_) (told_at C D cut_commit.split)
                 (let e = a_blank_more in let f = few in omega (arith, e, f))
@@ -300,8 +285,8 @@ module _ (laws : CalmLaws) (codec : CodecLaws) (one_transfer : DeliversOne) (sta
     long_heard = let l = long in omega (arith, l)
 
     heard : CutAt from by_heard later
-    heard = heard_rows laws codec one_transfer stay ids members of_run same_members grown grown_harmless rows harmless well group clocks pace start n term first later
-        under come log more one next new fits short others long_heard
+    heard = heard_rows below ids members rows harmless group clocks pace start n term first later
+        under log more one next new fits short others long_heard
 
     abbrev F : List Timed
     F = heard.front
@@ -313,11 +298,11 @@ module _ (laws : CalmLaws) (codec : CodecLaws) (one_transfer : DeliversOne) (sta
     own_last = ap (λ (e : Entry). e.term) (last_entry log (blank term))
 
     abbrev OnBlank : List Timed → Type 0
-    OnBlank = StillLeads ids rows group clocks pace start n term first later under keeps_row judged log longer (inr refl) sane
+    OnBlank = StillLeads ids rows group clocks pace start n term first later under keeps_row below.judged log longer (inr refl) sane
 
     abbrev Comes : Type 0
-    Comes = HasBlankBy laws codec one_transfer stay ids members of_run same_members grown grown_harmless rows harmless well group clocks pace start n term first later
-        under come log more one next new fits short others long_heard by_heard
+    Comes = HasBlankBy below ids members rows harmless group clocks pace start n term first later
+        under log more one next new fits short others long_heard by_heard
 
     -- it has the blank behind these rows, or a request made the log grow
     with_blank : Comes → OnBlank F ⊎ Growth
@@ -328,8 +313,8 @@ module _ (laws : CalmLaws) (codec : CodecLaws) (one_transfer : DeliversOne) (sta
         (record { accepted = comes.has.accepted; leads = comes.has.leads })
 
     on_heard : OnBlank F ⊎ Growth
-    on_heard = elim (blank_by laws codec one_transfer stay ids members of_run same_members grown grown_harmless rows harmless well group clocks pace start n term first later
-        under come log more one next new fits short others long_heard some waiting) [
+    on_heard = elim (blank_by below ids members rows harmless group clocks pace start n term first later
+        under log more one next new fits short others long_heard some waiting) [
           | inl comes ↦ with_blank comes
           | inr g ↦ inr (record {
             front = g.front;
@@ -372,8 +357,8 @@ module _ (laws : CalmLaws) (codec : CodecLaws) (one_transfer : DeliversOne) (sta
       one_left : (m : ℕ) → In m (one ∷ next) → calls_left v m ≤ 1
       unfolding heard
       one_left m i =
-          let known = known_then laws codec one_transfer stay ids members of_run same_members grown grown_harmless rows harmless well group clocks pace start n term first
-          later under come log more one next new fits short others long_heard m i v on.leads.runs in
+          let known = known_then below ids members rows harmless group clocks pace start n term first
+          later under log more one next new fits short others long_heard m i v on.leads.runs in
           let most = called m in
           let s = size in omega (arith, known, most, s)
 

@@ -6,24 +6,21 @@ use Rattle.can_frame.specs.declared.entry.Entry.{Entry}
 use Rattle.can_frame.specs.Log.{last_term, log_limit}
 use Rattle.raft_model.specs.Lists.{In}
 use Rattle.raft_model.specs.Members.{IsAll}
-use Rattle.replay_text.specs.declared.row.Row.{Row}
 use Rattle.alloc_spec.specs.AllocatorState.{AllocatorState, members_of}
 use Rattle.alloc_spec_laws.proofs.LeadersBlanks.{goes_on_to_wait}
-use Rattle.cluster_agreement.specs.LawsBelow.{CodecLaws}
 use Rattle.cluster_recovery.specs.Calm.{Pace, Timed, end_of, rows_in}
 use Rattle.cluster_calm.specs.Calm.{Member as OfMember, Party}
-use Rattle.cluster_calm.specs.Calls.{ListsStay}
 use Rattle.calm_leader.specs.LeadsOn.{IsLed}
 use Rattle.calm_service.specs.Settled.{MissesNobody, NobodyIsMissed}
 use Rattle.cluster_calm.proofs.Calls.{Always}
 use Rattle.cluster_calm.proofs.CallsKept.{IsKept, further}
-use Rattle.cluster_calm.proofs.Group.{CalmLaws}
 use Rattle.cluster_calm.proofs.Pair.{same_server}
-use Rattle.calm_leader.proofs.LeadsOn.{DeliversOne}
 use Rattle.calm_leader.proofs.TermsHeard.{IsOfRun}
 use Rattle.calm_service.proofs.SettledStays.{IsReached, LedIn, ListsAll, after_one, its_me, led_after, lists_after, nodes, tells_low}
 use Rattle.calm_service.proofs.SettlesRows.{GrowsIn, HasBlank, IsInWait, lists_all, waits_or_adds}
-use Rattle.cluster_spec.specs.Cluster.{AreMembers, Cluster, after_row, after_rows, cluster, world_of}
+use Rattle.calm_service.specs.ServiceBelow.{ServiceGrounds}
+use Rattle.calm_service.proofs.ServiceGrounds.{of_run}
+use Rattle.cluster_spec.specs.Cluster.{AreMembers, Cluster, after_row, after_rows, cluster}
 use Rattle.cluster_spec.specs.Lawful.{DoNoHarm, DoesNoHarm}
 use Rattle.cluster_spec.specs.Members.MemberStatus.{Up}
 
@@ -34,22 +31,17 @@ IsTold t = t.times.waits ≡ true
 told_kept : IsKept Always IsTold
 told_kept = record { stepped = λ t number event may h. goes_on_to_wait t number event ∙ h; popped = λ t h. h }
 
-module _ (group : List Party) (laws : CalmLaws) (codec : CodecLaws) (one_transfer : DeliversOne) (stay : ListsStay) (clocks : Party → ℕ) (pace : Pace)
-    (ids : List ℕ) (members : AreMembers ids) (listed : (p : ℕ) → In (OfMember p) group → In p ids)
-    (of_run : (rows : List Row) → DoNoHarm (cluster ids) rows → IsOfRun (world_of ids rows))
-    (same_members : (rows : List Row) → (world_of ids rows).ids ≡ ids)
-    (grown : (rows : List Row) (row : Row) → world_of ids (rows ++ row ∷ []) ≡ after_row (world_of ids rows) row)
-    (grown_harmless : (rows : List Row) (row : Row) → DoNoHarm (cluster ids) rows → DoesNoHarm (world_of ids rows) row → DoNoHarm (cluster ids)
-    (rows ++ row ∷ []))
+module _ (below : ServiceGrounds) (group : List Party) (clocks : Party → ℕ) (pace : Pace) (ids : List ℕ) (members : AreMembers ids)
+    (listed : (p : ℕ) → In (OfMember p) group → In p ids)
     (n term : ℕ) (log : List Entry) (member : In (OfMember n) group) (earlier : last_term log < term) (room : length log < log_limit) where
   abbrev Reached : ℕ → Cluster → List Timed → Type 0
-  Reached = IsReached group laws codec one_transfer stay clocks pace ids members listed of_run same_members grown grown_harmless
+  Reached = IsReached below group clocks pace ids members listed
 
   abbrev Lists : Cluster → Type 0
-  Lists = ListsAll group laws codec one_transfer stay clocks pace ids members listed of_run same_members grown grown_harmless n term log member
+  Lists = ListsAll below group clocks pace ids members listed n term log member
 
   abbrev Led : Cluster → List Timed → Type 0
-  Led = LedIn group laws codec one_transfer stay clocks pace ids members listed of_run same_members grown grown_harmless n term log member
+  Led = LedIn below group clocks pace ids members listed n term log member
 
   abbrev clock : ℕ → ℕ
   clock moment = moment + clocks (OfMember n)
@@ -84,10 +76,10 @@ module _ (group : List Party) (laws : CalmLaws) (codec : CodecLaws) (one_transfe
     t = waits.is.server
 
     same_ids : w.ids ≡ ids
-    same_ids = sym (ap (λ (v : Cluster). v.ids) h.reached) ∙ same_members h.rows
+    same_ids = sym (ap (λ (v : Cluster). v.ids) h.reached) ∙ below.same (cluster ids) h.rows
 
     all : IsAll (members_of t) ids
-    all = subst (IsAll (members_of t)) same_ids (lists_all laws.more w (subst IsOfRun h.reached (of_run h.rows h.harmless)) (subst AreMembers (sym same_ids) members) n t
+    all = subst (IsAll (members_of t)) same_ids (lists_all below.more w (subst IsOfRun h.reached (of_run below ids members h.rows h.harmless)) (subst AreMembers (sym same_ids) members) n t
         (subst (λ (l : List ℕ). In n l) (sym same_ids) (listed n member)) waits.is.its.up.status waits.is.its.done.leads.0)
 
     told_then : (u : AllocatorState) → ((after_row w timed.row).member n).status ≡ Up u → IsTold u
@@ -98,13 +90,11 @@ module _ (group : List Party) (laws : CalmLaws) (codec : CodecLaws) (one_transfe
 
     one : (IsInWait ids n term log (clock timed.at) (after_row w timed.row) ⊎ HasBlank ids n term log (clock timed.at) (after_row w timed.row))
         ⊎ GrowsIn ids n term log (clock timed.at) w timed.row
-    one = waits_or_adds laws.frame group clocks pace n term log earlier room (clock moment) timed.at h.traffic w
-        (nodes group laws codec one_transfer stay clocks pace ids members listed of_run same_members grown grown_harmless) member h.flies lists
+    one = waits_or_adds below.frame group clocks pace n term log earlier room (clock moment) timed.at h.traffic w
+        (nodes below group clocks pace ids members listed) member h.flies lists
         (let m = h.calm.0.moments in let e = h.at_end in omega (arith, m, e)) ids waits.is
-        (its_me group laws codec one_transfer stay clocks pace ids members listed of_run same_members grown grown_harmless n term log member moment w timed rest h harm
-        t waits.is.its.up.status) waits.told all timed.row h.calm.1
-        (tells_low group laws codec one_transfer stay clocks pace ids members listed of_run same_members grown grown_harmless n term log member moment w timed rest h harm
-        t waits.is.its.up.status led) missed
+        (its_me below group clocks pace ids members listed n term log member moment w timed rest h harm t waits.is.its.up.status) waits.told all timed.row h.calm.1
+        (tells_low below group clocks pace ids members listed n term log member moment w timed rest h harm t waits.is.its.up.status led) missed
 
     -- so it is behind the row
     one_on : (more : List Timed) → Waits timed.at (after_row w timed.row) ⊎ EndsIn moment w (timed ∷ more)
@@ -123,11 +113,10 @@ module _ (group : List Party) (laws : CalmLaws) (codec : CodecLaws) (one_transfe
   waits_on (timed ∷ front) rest moment w h harm led lists missed waits =
       elim (one_on moment w timed (front ++ rest) h harm.0 (led [] (timed ∷ front) refl) lists missed.0 waits front) [
         | inl next ↦ behind (waits_on front rest timed.at (after_row w timed.row)
-            (after_one group laws codec one_transfer stay clocks pace ids members listed of_run same_members grown grown_harmless moment w timed (front ++ rest) h harm.0)
+            (after_one below group clocks pace ids members listed moment w timed (front ++ rest) h harm.0)
             harm.1
-            (led_after group laws codec one_transfer stay clocks pace ids members listed of_run same_members grown grown_harmless n term log member w timed front led)
-            (lists_after group laws codec one_transfer stay clocks pace ids members listed of_run same_members grown grown_harmless n term log member moment w timed
-            (front ++ rest) h harm.0 lists) missed.1 next)
+            (led_after below group clocks pace ids members listed n term log member w timed front led)
+            (lists_after below group clocks pace ids members listed n term log member moment w timed (front ++ rest) h harm.0 lists) missed.1 next)
         | inr ends ↦ inr ends
       ]
     where

@@ -8,10 +8,10 @@ use Rattle.replay_text.specs.declared.row.Row.{Row}
 use Rattle.alloc_spec.specs.AllocatorState.{AllocatorState, is_recorded, members_of}
 use Rattle.cluster_recovery.specs.Calm.{Pace, Timed, end_of, rows_in}
 use Rattle.cluster_recovery.proofs.Choosing.{left_false}
-use Rattle.cluster_calm.specs.Calm.{AreCalm, AreRunning, Member as OfMember, Party, no_traffic}
+use Rattle.cluster_calm.specs.Calm.{AreCalm, Member as OfMember, Party, no_traffic}
 use Rattle.cluster_calm.specs.Calls.{Lists}
 use Rattle.cluster_recovery.proofs.Members.{IsUp}
-use Rattle.cluster_calm.proofs.Group.{AreWell, CalmLaws, IsServer, IsWell}
+use Rattle.cluster_calm.proofs.Group.{AreWell, IsServer, IsWell}
 use Rattle.cluster_calm.proofs.Pair.{same_server}
 use Rattle.calm_service.specs.Tidy.{DiscoveriesMissNobody, IsFit, MembersStayFit, MembersStayTidy, NeedsNoDiscovery, NoDiscoveryWaits, TidyMembersAreFit, TidyMembersMissNobody}
 use Rattle.calm_service.proofs.DialogOthers.{none_in}
@@ -19,7 +19,10 @@ use Rattle.calm_service.proofs.SettledServers.{after_ends}
 use Rattle.calm_service.proofs.TidyCalm.{nobody_missed}
 use Rattle.calm_service.proofs.TidyMembers.{AreKept, IsRested, rested_on}
 use Rattle.calm_service.proofs.TidyRows.{IsQuiet, number_from}
-use Rattle.cluster_spec.specs.Cluster.{AreMembers, Cluster, after_rows, world_of}
+use Rattle.calm_service.specs.ServiceBelow.{ServiceGrounds}
+use Rattle.calm_service.proofs.ServiceGrounds.{calm_laws, well}
+use Rattle.cluster_spec.specs.Cluster.{AreMembers, Cluster, after_rows, cluster, world_of}
+use Rattle.cluster_spec.specs.Lawful.{DoNoHarm}
 
 -- a tidy member is fit
 unfoldable pub tidy_is_fit : TidyMembersAreFit
@@ -47,8 +50,7 @@ fit_needs_none n now w h = record {
 or_none : (b : Bool) → b ≡ false → (b || false) ≡ false
 or_none b e = rw (e) refl
 
-module _ (laws : CalmLaws) (ids : List ℕ) (members : AreMembers ids) (rows : List Row)
-    (well : (group : List Party) → ((p : ℕ) → In (OfMember p) group → In p ids) → AreRunning group (world_of ids rows) → AreWell group (world_of ids rows)) where
+module _ (below : ServiceGrounds) (ids : List ℕ) (members : AreMembers ids) (rows : List Row) (harmless : DoNoHarm (cluster ids) rows) where
   abbrev w : Cluster
   w = world_of ids rows
 
@@ -58,7 +60,7 @@ module _ (laws : CalmLaws) (ids : List ℕ) (members : AreMembers ids) (rows : L
     nodes p i = members.nodes p (listed p i)
 
     all_well : AreWell group w
-    all_well = well group listed (λ p i. (needs p i).running)
+    all_well = well below ids members rows harmless group listed (λ p i. (needs p i).running)
 
     -- each is quiet when the calm begins
     begins_quiet : (p : ℕ) (i : In (OfMember p) group) → IsQuiet p (needs p i).running.server w
@@ -78,7 +80,7 @@ module _ (laws : CalmLaws) (ids : List ℕ) (members : AreMembers ids) (rows : L
 
   pub miss_nobody : DiscoveriesMissNobody ids rows
   miss_nobody group clocks pace start m front rest listed calm needs none =
-      nobody_missed laws group (nodes group listed needs none) clocks pace m front rest (no_traffic start) w calm (record {
+      nobody_missed (calm_laws below) group (nodes group listed needs none) clocks pace m front rest (no_traffic start) w calm (record {
         well = all_well group listed needs none;
         flies = λ party. refl;
         quiet = λ p i. ((needs p i).running.server, begins_quiet group listed needs none p i);
@@ -97,10 +99,10 @@ module _ (laws : CalmLaws) (ids : List ℕ) (members : AreMembers ids) (rows : L
     needs : (p : ℕ) → In (OfMember p) group → NeedsNoDiscovery p w
     needs p j = fit_needs_none p (start + clocks (OfMember p)) w (fit p j)
 
-    rests_later : (t : AllocatorState) × IsRested laws group (nodes group listed needs none) clocks pace Fits kept m (end_of start front + clocks (OfMember m)) t
+    rests_later : (t : AllocatorState) × IsRested (calm_laws below) group (nodes group listed needs none) clocks pace Fits kept m (end_of start front + clocks (OfMember m)) t
         (after_rows w (rows_in front))
     unfolding fit_needs_none needs
-    rests_later = rested_on laws group (nodes group listed needs none) clocks pace Fits kept m i front rest (no_traffic start) w calm (record {
+    rests_later = rested_on (calm_laws below) group (nodes group listed needs none) clocks pace Fits kept m i front rest (no_traffic start) w calm (record {
       well = all_well group listed needs none;
       flies = λ party. refl;
       rested = λ p j. (

@@ -1,14 +1,13 @@
 -- What all changes of a step keep, the whole step keeps.
-use Rattle.std.proofs.Common.{◌≡◌, ◌≢◌, ℕ, Bool, true, false, List, [], ◌∷◌, drop, max, refl, sym, ◌∙◌, Option, None, Some}
+use Rattle.std.proofs.Common.{◌≡◌, ◌≢◌, ℕ, false, List, [], ◌∷◌, drop, max, refl, sym, ◌∙◌, Option, None, Some}
 use Rattle.std.specs.Prelude.{◌-◌, ◌&&◌, not, nat_eq, nat_le, nat_lt, slice_index_or}
 use Rattle.alloc_exchange.specs.declared.heard.Heard.{Heard}
 use Rattle.alloc_exchange.specs.declared.heard.Heard.TheVariants.{Denied, FollowUp, Ignored, Whole}
 use Rattle.alloc_exchange.specs.Exchange.{answer}
 use Rattle.can_frame.specs.declared.entry.Entry.{Entry}
-use Rattle.can_frame.specs.declared.identifier.Kind.{Kind}
-use Rattle.can_frame.specs.declared.identifier.Kind.TheVariants.{Anonymous, Message as Broadcast, Request as RequestKind, Response}
+use Rattle.can_frame.specs.declared.identifier.Kind.TheVariants.{Anonymous, Message as Broadcast}
 use Rattle.can_frame.specs.declared.step.What.{What}
-use Rattle.can_frame.specs.declared.step.What.TheVariants.{Alloc, App, AppQ, Disc, Info, InfoQ, Stat, Vote, VoteQ}
+use Rattle.can_frame.specs.declared.step.What.TheVariants.{Alloc, AppQ, Disc, InfoQ, Stat, VoteQ}
 use Rattle.can_frame.specs.Log.{blank}
 use Rattle.can_frame.specs.Timing.{status_interval}
 use Rattle.can_frame.specs.Zeros.{zeros}
@@ -17,43 +16,35 @@ use Rattle.dsdl_codec.specs.declared.allocation.Allocation.{Allocation}
 use Rattle.dsdl_codec.specs.declared.discovery.Discovery.{Discovery}
 use Rattle.dsdl_codec.specs.declared.node_info.NodeInfo.{NodeInfo}
 use Rattle.dsdl_codec.specs.Allocation.{allocation_of}
-use Rattle.dsdl_codec.specs.AppendAnswer.{append_answer_bytes, append_answer_of}
-use Rattle.dsdl_codec.specs.AppendRequest.{append_request_of}
 use Rattle.dsdl_codec.specs.Discovery.{discovery_of}
-use Rattle.dsdl_codec.specs.NodeInfo.{node_info_bytes, node_info_of}
-use Rattle.dsdl_codec.specs.NodeStatus.{node_status_bytes, node_status_of}
-use Rattle.dsdl_codec.specs.VoteAnswer.{vote_answer_bytes, vote_answer_of}
-use Rattle.dsdl_codec.specs.VoteRequest.{vote_request_of}
+use Rattle.dsdl_codec.specs.NodeStatus.{node_status_bytes}
 use Rattle.id_selector.specs.Choice.{chosen}
 use Rattle.node_discovery.specs.Watch.{next_query, some_unknown}
 use Rattle.raft_core.specs.Calls.{owed}
 use Rattle.raft_core.specs.Handled as handled
 use Rattle.raft_core.specs.Taken.{proposal}
-use Rattle.raft_core.specs.Times.{HandedIn, given_at, given_call, given_proposal, given_tick, is_awaited, overdue}
-use Rattle.raft_model.specs.Decisions.{grants, verdict_on}
+use Rattle.raft_core.specs.Times.{HandedIn, given_at, given_call, given_proposal, given_tick, overdue}
 use Rattle.raft_model.specs.Duty as duty
 use Rattle.raft_model.specs.Messages.{Message, Request}
-use Rattle.raft_model.specs.Messages.Message.{Answers, Requests}
+use Rattle.raft_model.specs.Messages.Message.{Requests}
 use Rattle.raft_model.specs.Moves.{Move, next_entry}
-use Rattle.raft_model.specs.Moves.Appending.{Verdict, is_accepted}
-use Rattle.raft_model.specs.Moves.Elections.{is_leader, with_term}
-use Rattle.raft_model.specs.Moves.Leading.{answer_to, append_request, vote_request}
-use Rattle.raft_model.specs.Moves.Move.{AnswerAgain, CallForVote, CallToAppend, ProposeEntry, TakeAppendRequest, TakeVoteRequest, TellNothing, TellPair}
+use Rattle.raft_model.specs.Moves.Elections.{is_leader}
+use Rattle.raft_model.specs.Moves.Leading.{append_request, vote_request}
+use Rattle.raft_model.specs.Moves.Move.{AnswerAgain, CallForVote, CallToAppend, ProposeEntry, TellNothing, TellPair}
 use Rattle.transfer_rx.specs.Reassembly.{Answer, Continues, Delivery, Drops, Gives, Arrival}
 use Rattle.transfer_rx.specs.Sessions.{Session}
 use Rattle.alloc_spec.specs.AllocatorState.{AllocatorState, is_zero, known, may_propose, members_of, recorded_at, start_of, status_of, taken}
-use Rattle.alloc_spec.specs.Delivered.{StepResult, asks_info, by_kind, delivery_phase, hears_discovery, hears_status, reads, request, response}
-use Rattle.alloc_spec.specs.Delivered as delivered
+use Rattle.alloc_spec.specs.Delivered.{StepResult, delivery_phase, hears_discovery, hears_status}
 use Rattle.alloc_spec.specs.Ending.{append_call_bytes, calls_all, calls_owed, calls_peer, commit_phase, end_phase, has_to_tell, tell_phase, tells_next, vote_call_bytes}
 use Rattle.alloc_spec.specs.Exchange.{allocation_payload, answers_or_records, answers_request, gives_entry, gives_pair, hears_allocation, hears_whole, may_follow, records, records_at, with_request}
-use Rattle.alloc_spec.specs.Services.{answers_append, answers_append_request, answers_call, answers_vote, answers_vote_request, append_answered, ends_append_call, ends_vote_call, hears_info, info_of, is_listed, takes_append_answer, takes_append_request, takes_vote_answer, takes_vote_request, vote_answered}
+use Rattle.alloc_spec.specs.Services.{hears_info}
 use Rattle.alloc_spec.specs.Step.{Event, all_nodes, at_moment, at_sessions, begin_phase, event_phase, moment_of, step, with_answer, with_sessions}
 use Rattle.alloc_spec.specs.Step.Event.{Rx, Tick}
 use Rattle.alloc_spec.specs.StepState.{StepState, initial_state, with_moves, with_response_to, with_transfer}
 use Rattle.alloc_spec.specs.Tick.{asks, candidate, clock_phase, discovery_phase, election_moves, election_phase, new_uid, proposes, record_phase, records_as, records_node, status_phase, tells_members, tells_status, with_query, with_status}
 use Rattle.alloc_spec.specs.Transfers.{has_room, id_of}
 use Rattle.alloc_spec_laws.proofs.Choices.{either}
-use Rattle.calm_service.proofs.AllocationsOffered.{comes_to}
+use Rattle.calm_service.proofs.AllocationsOffered.{comes_to, delivery_passes}
 
 -- Each change of a step keeps it, but for the hearing of messages and of requests of devices.
 pub record IsPassed (number : ℕ) (Keeps : StepState → Type 0) : Type 0 where
@@ -199,80 +190,12 @@ module _ (number : ℕ) (Keeps : StepState → Type 0) (k : IsPassed number Keep
   hears_request : (message : Allocation) (g : StepState) → Keeps (with_request message g) → Keeps (hears_allocation number message g)
   hears_request message g h = answers_it (answer g.allocator.accepted message g.allocator.now (may_follow g.allocator)) (with_request message g) h
 
-  -- ---- what else is delivered
+  -- ---- what is delivered
 
-  module _ (d : Delivery) (harmless : IsHarmless Keeps d) (g : StepState) (h : Keeps g) where
-    read : {A : Type 0} (does : A → StepState → StepState) (value : Option A) → ((v : A) → value ≡ Some v → Keeps (does v g)) → KeepsResult (reads does value g)
-    read does None f = h
-    read does (Some v) f = f v refl
-
-    asking : (bytes : List ℕ) → KeepsResult (asks_info number d bytes g)
-    asking [] = k.responds Info d (node_info_bytes (info_of g.allocator)) None g (λ e. cc (e)) h
-    asking (byte ∷ bytes) = h
-
-    call_answered : (move : Request → Move) (call : Option Request) → Keeps (answers_call number move call g)
-    call_answered move None = h
-    call_answered move (Some asked) = k.moves (given_at g.allocator.now)
-        (handled.with_blank (members_of g.allocator) g.allocator.me number g.allocator.times g.allocator.raft_server (move asked ∷ [])) g h
-
-    message_comes : d.ident.kind ≡ Broadcast → KeepsResult (delivered.message d g)
-    message_comes kind = either KeepsResult (nat_eq d.ident.number 341) (reads (λ status. hears_status d) (node_status_of d.payload) g)
-        (reads (hears_discovery d) (discovery_of d.payload) g)
-        (λ e. read (λ status. hears_status d) (node_status_of d.payload) (λ status f. harmless.status kind g h))
-        (λ e. read (hears_discovery d) (discovery_of d.payload) (λ message f. harmless.discovery kind e message f g h))
-
-    vote_comes : (asked : Request) → Keeps (answers_vote number d asked g)
-    vote_comes asked =
-        let store = with_term g.allocator.raft_server.store asked.term in
-        let granted : Bool = grants store asked in
-        k.responds Vote d (vote_answer_bytes (record { term = store.term; granted = granted }) 0)
-        (Some (Answers (answer_to g.allocator.me number store asked granted)))
-        (with_moves number (given_at g.allocator.now) (TakeVoteRequest asked granted ∷ []) g) (λ f. cc (f))
-        (k.moves (given_at g.allocator.now) (TakeVoteRequest asked granted ∷ []) g h)
-
-    append_comes : (asked : Request) → Keeps (answers_append number d asked g)
-    append_comes asked =
-        let store = with_term g.allocator.raft_server.store asked.term in
-        let verdict : Verdict = verdict_on g.allocator.raft_server asked in
-        k.responds App d (append_answer_bytes (record { term = store.term; success = is_accepted verdict }) 0)
-        (Some (Answers (answer_to g.allocator.me number store asked (is_accepted verdict))))
-        (with_moves number (given_at g.allocator.now) (TakeAppendRequest asked verdict ∷ []) g) (λ f. cc (f))
-        (k.moves (given_at g.allocator.now) (TakeAppendRequest asked verdict ∷ []) g h)
-
-    request_comes : KeepsResult (request number d g)
-    request_comes = either KeepsResult (nat_eq d.ident.number 1) (asks_info number d d.payload g) _ (λ e. asking d.payload)
-        (λ e. either KeepsResult (nat_eq d.ident.number 30) (reads (takes_append_request number d) (append_request_of d.payload) g)
-        (reads (takes_vote_request number d) (vote_request_of d.payload) g)
-        (λ e. read (takes_append_request number d) (append_request_of d.payload) (λ asked f.
-        either Keeps (is_listed d g.allocator) (answers_append_request number d asked g) g
-        (λ e. append_comes (handled.append_request_of asked d.mark.step d.ident.source g.allocator.me)) (λ e. h)))
-        (λ e. read (takes_vote_request number d) (vote_request_of d.payload) (λ asked f.
-        either Keeps (is_listed d g.allocator) (answers_vote_request number d asked g) g
-        (λ e. vote_comes (handled.vote_request_of asked d.mark.step d.ident.source g.allocator.me)) (λ e. h))))
-
-    response_comes : KeepsResult (response number d g)
-    response_comes = either KeepsResult (nat_eq d.ident.number 1) (reads (hears_info d) (node_info_of d.payload) g) _
-        (λ e. read (hears_info d) (node_info_of d.payload) (λ info f. k.infos d info g h))
-        (λ e. either KeepsResult (nat_eq d.ident.number 30) (reads (takes_append_answer number d) (append_answer_of d.payload) g)
-        (reads (takes_vote_answer number d) (vote_answer_of d.payload) g)
-        (λ e. read (takes_append_answer number d) (append_answer_of d.payload) (λ says f.
-        either Keeps (is_listed d g.allocator) (ends_append_call number d says g) g
-        (λ e. either Keeps (is_awaited g.allocator.raft_server g.allocator.times d.ident.source true d.id) _ g
-        (λ e. call_answered (append_answered d says) (g.allocator.raft_server.memory.pending d.ident.source)) (λ e. h)) (λ e. h)))
-        (λ e. read (takes_vote_answer number d) (vote_answer_of d.payload) (λ says f.
-        either Keeps (is_listed d g.allocator) (ends_vote_call number d says g) g
-        (λ e. either Keeps (is_awaited g.allocator.raft_server g.allocator.times d.ident.source false d.id) _ g
-        (λ e. call_answered (vote_answered d says) (g.allocator.raft_server.memory.pending d.ident.source)) (λ e. h)) (λ e. h))))
-
-    kind_comes : (kind : Kind) → d.ident.kind ≡ kind → KeepsResult (by_kind number d kind g)
-    kind_comes Anonymous e = read (hears_allocation number) (allocation_of d.payload) (λ message f. hears_request message g (harmless.request e message f g h))
-    kind_comes Broadcast e = message_comes e
-    kind_comes RequestKind e = request_comes
-    kind_comes Response e = response_comes
-
-    delivery_comes : KeepsResult (delivery_phase number d g)
-    unfolding delivery_phase
-    delivery_comes = kind_comes d.ident.kind refl
+  delivery_comes : (d : Delivery) → IsHarmless Keeps d → (g : StepState) → Keeps g → KeepsResult (delivery_phase number d g)
+  delivery_comes d harmless g h = delivery_passes number Keeps
+      (record { moves = k.moves; responds = λ what d payload says g other more h. k.responds what d payload says g other h; infos = k.infos })
+      d harmless.status harmless.discovery g h (λ kind message says. hears_request message g (harmless.request kind message says g h))
 
   -- ---- the step
 

@@ -10,3 +10,4 @@ pub mod Tidy
 pub mod AskingServed
 pub mod AskingKnown
 pub mod Requests
+pub mod ServiceBelow

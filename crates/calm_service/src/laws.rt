@@ -16,6 +16,7 @@ ghost use Rattle.calm_service.specs.Served.{time_to_be_committed, time_to_be_ser
 ghost use Rattle.calm_service.specs.ServedExample.{DevicesMayBeServed, before_world, first_log, served_pace};
 ghost use Rattle.calm_service.specs.ServedExample.{served_rows, served_start};
 ghost use Rattle.calm_service.specs.ServedTold.{HasSettledWithPairBy, NewPairsAreTold};
+ghost use Rattle.calm_service.specs.ServiceBelow.{ServiceGrounds};
 ghost use Rattle.calm_service.specs.Settled.{AllRowsLeaveItSettled, EachRowLeavesItSettled};
 ghost use Rattle.calm_service.specs.Settles.{LeadersAddTheirBlanks, LeadersSettle, LeadersSettleUnasked};
 ghost use Rattle.calm_service.specs.Tidy.{DiscoveriesMissNobody, FitMembersLead, MembersStayFit, MembersStayTidy};
@@ -69,20 +70,7 @@ pub fn who_has_settled_stays_settled()
     ensures all { (ids : List ℕ) (rows : List Row) → AreMembers ids → DoNoHarm (cluster ids) rows →
         AllRowsLeaveItSettled ids rows }
 {
-    a_choice_fits();
-    delivers_what_comes_whole();
-    frames_carry_what_is_cut();
-    its_frames_are_anonymous();
-    lengths_of_cuttings();
-    rows_are_shown();
-    rows_grow_by_one();
-    steps_stay_in_range();
-    what_a_row_delivers_is_one_transfer();
-    what_a_step_keeps();
-    what_is_said_of_a_step();
-    what_is_said_of_frames();
-    what_is_said_of_messages();
-    who_is_listed_stays();
+    what_service_stands_on();
 }
 
 /// A leader's log stays as it is in such a calm, whether the whole of it is committed or not, until a request of a
@@ -101,20 +89,7 @@ pub fn a_leaders_log_stays()
     ensures unasked { (ids : List ℕ) (rows : List Row) → AreMembers ids → DoNoHarm (cluster ids) rows →
         LogStaysUnasked ids rows }
 {
-    a_choice_fits();
-    delivers_what_comes_whole();
-    frames_carry_what_is_cut();
-    its_frames_are_anonymous();
-    lengths_of_cuttings();
-    rows_are_shown();
-    rows_grow_by_one();
-    steps_stay_in_range();
-    what_a_row_delivers_is_one_transfer();
-    what_a_step_keeps();
-    what_is_said_of_a_step();
-    what_is_said_of_frames();
-    what_is_said_of_messages();
-    who_is_listed_stays();
+    what_service_stands_on();
 }
 
 /// A device that asks is heard out in time by a leader that has settled. In a calm as above, at a pace of which a
@@ -129,24 +104,7 @@ pub fn devices_are_heard_out_in_calm()
     ensures { (ids : List ℕ) (rows : List Row) → AreMembers ids → DoNoHarm (cluster ids) rows →
         DevicesAreHeardOut ids rows }
 {
-    a_choice_fits();
-    a_leader_follows_up();
-    allocations_both_ways();
-    delivers_what_comes_whole();
-    frames_carry_what_is_cut();
-    its_frames_are_anonymous();
-    law_decisions();
-    lengths_of_cuttings();
-    requests_are_delivered();
-    requests_of_devices_are_requests();
-    rows_are_shown();
-    rows_grow_by_one();
-    sessions_of_a_step();
-    steps_stay_in_range();
-    transfers_of_a_step_are_apart();
-    what_a_step_keeps();
-    what_is_said_of_a_step();
-    what_is_said_of_frames();
+    what_service_stands_on();
     who_has_settled_stays_settled();
 }
 
@@ -157,25 +115,7 @@ pub fn known_devices_are_told_in_calm()
     ensures { (ids : List ℕ) (rows : List Row) → AreMembers ids → DoNoHarm (cluster ids) rows →
         KnownDevicesAreTold ids rows }
 {
-    a_choice_fits();
-    a_leader_follows_up();
-    allocations_both_ways();
-    delivers_what_comes_whole();
-    frames_carry_what_is_cut();
-    its_frames_are_anonymous();
-    law_decisions();
-    law_every_run();
-    lengths_of_cuttings();
-    requests_are_delivered();
-    requests_of_devices_are_requests();
-    rows_are_shown();
-    rows_grow_by_one();
-    sessions_of_a_step();
-    steps_stay_in_range();
-    transfers_of_a_step_are_apart();
-    what_a_step_keeps();
-    what_is_said_of_a_step();
-    what_is_said_of_frames();
+    what_service_stands_on();
     who_has_settled_stays_settled();
 }
 
@@ -187,13 +127,8 @@ pub fn new_devices_are_recorded_in_calm()
     ensures { (ids : List ℕ) (rows : List Row) → AreMembers ids → DoNoHarm (cluster ids) rows →
         NewDevicesAreRecorded ids rows }
 {
-    a_choice_fits();
-    a_leader_records_the_pair();
-    chosen_is_the_choice();
     devices_are_heard_out_in_calm();
-    rows_are_shown();
-    rows_grow_by_one();
-    who_is_listed_stays();
+    what_service_stands_on();
 }
 
 /// A leader loses nothing in a calm as above, in which it leads throughout and its calls find room in its queue.
@@ -216,16 +151,9 @@ pub fn new_pairs_are_committed_in_calm()
     ensures { (ids : List ℕ) (rows : List Row) → AreMembers ids → DoNoHarm (cluster ids) rows →
         NewPairsAreCommitted ids rows }
 {
-    a_choice_fits();
-    calls_return_to_who_leads_on();
-    entries_are_committed_in_time();
-    law_decisions();
-    law_every_run();
     leaders_lose_nothing_in_calm();
     new_devices_are_recorded_in_calm();
-    rows_are_shown();
-    rows_grow_by_one();
-    what_entries_stand_on();
+    what_service_stands_on();
 }
 
 /// The pair of a new device is told in time. In a calm as for [`new_pairs_are_committed_in_calm`], the leader tells it
@@ -235,17 +163,9 @@ pub fn new_pairs_are_offered_in_calm()
     ensures { (ids : List ℕ) (rows : List Row) → AreMembers ids → DoNoHarm (cluster ids) rows →
         NewPairsAreOffered ids rows }
 {
-    a_choice_fits();
-    calls_return_to_who_leads_on();
-    duty_of_a_step();
-    entries_are_committed_in_time();
-    law_decisions();
-    law_every_run();
     leaders_lose_nothing_in_calm();
     new_devices_are_recorded_in_calm();
-    rows_are_shown();
-    rows_grow_by_one();
-    what_entries_stand_on();
+    what_service_stands_on();
 }
 
 /// The pair of a new device is told in time. In a calm as for [`new_pairs_are_committed_in_calm`], in which the leader
@@ -256,16 +176,11 @@ pub fn new_pairs_are_told_in_calm()
     ensures { (ids : List ℕ) (rows : List Row) → AreMembers ids → DoNoHarm (cluster ids) rows →
         NewPairsAreTold ids rows }
 {
-    a_choice_fits();
     a_leaders_log_stays();
-    duty_of_a_step();
-    law_decisions();
-    law_fit();
     leaders_lose_nothing_in_calm();
     new_devices_are_recorded_in_calm();
     new_pairs_are_committed_in_calm();
-    rows_are_shown();
-    rows_grow_by_one();
+    what_service_stands_on();
 }
 
 /// A new device is served in time. In a calm as for [`new_pairs_are_offered_in_calm`], in which the leader's queue has
@@ -276,16 +191,8 @@ pub fn new_devices_are_served_in_calm()
     ensures { (ids : List ℕ) (rows : List Row) → AreMembers ids → DoNoHarm (cluster ids) rows →
         NewDevicesAreServed ids rows }
 {
-    a_choice_fits();
-    a_node_id_is_given_for_good();
-    allocations_both_ways();
-    allocations_come_in_calm();
-    law_every_run();
     new_pairs_are_offered_in_calm();
-    rows_are_shown();
-    rows_grow_by_one();
-    the_allocatees();
-    the_headline();
+    what_service_stands_on();
 }
 
 /// Members stay fit in a calm, whoever leads. A member is tidy where nothing keeps it from serving once it leads: it
@@ -303,17 +210,7 @@ pub fn members_stay_tidy()
         MembersStayFit ids rows }
     ensures are { TidyMembersAreFit }
 {
-    a_choice_fits();
-    delivers_what_comes_whole();
-    frames_carry_what_is_cut();
-    its_frames_are_anonymous();
-    lengths_of_cuttings();
-    rows_are_shown();
-    rows_grow_by_one();
-    steps_stay_in_range();
-    what_a_step_keeps();
-    what_is_said_of_a_step();
-    what_is_said_of_frames();
+    what_service_stands_on();
 }
 
 /// A member that was told the members at its opening is tidy until its first step, lists each of them, and has no
@@ -339,17 +236,7 @@ pub fn discoveries_miss_nobody()
     ensures tidy { (ids : List ℕ) (rows : List Row) → AreMembers ids → DoNoHarm (cluster ids) rows →
         TidyMembersMissNobody ids rows }
 {
-    a_choice_fits();
-    delivers_what_comes_whole();
-    frames_carry_what_is_cut();
-    its_frames_are_anonymous();
-    lengths_of_cuttings();
-    rows_are_shown();
-    rows_grow_by_one();
-    steps_stay_in_range();
-    what_a_step_keeps();
-    what_is_said_of_a_step();
-    what_is_said_of_frames();
+    what_service_stands_on();
 }
 
 /// A leader settles in time, whether it has just come to lead or leads already. In a calm in which it leads on from a
@@ -369,27 +256,8 @@ pub fn leaders_settle_in_calm()
     ensures unasked { (ids : List ℕ) (rows : List Row) → AreMembers ids → DoNoHarm (cluster ids) rows →
         LeadersSettleUnasked ids rows }
 {
-    a_choice_fits();
     a_leaders_log_stays();
-    delivers_what_comes_whole();
-    duty_of_a_step();
-    entries_are_committed_in_time();
-    entries_come_in_time();
-    frames_carry_what_is_cut();
-    its_frames_are_anonymous();
-    law_decisions();
-    law_every_run();
-    law_fit();
-    lengths_of_cuttings();
-    rows_are_shown();
-    rows_grow_by_one();
-    steps_stay_in_range();
-    what_a_row_delivers_is_one_transfer();
-    what_a_step_keeps();
-    what_is_said_of_a_step();
-    what_is_said_of_frames();
-    what_is_said_of_messages();
-    who_is_listed_stays();
+    what_service_stands_on();
 }
 
 /// The premises of [`new_devices_are_served_in_calm`] and of [`new_pairs_are_told_in_calm`] can be met together
@@ -420,24 +288,7 @@ pub fn asking_devices_are_heard_out_in_calm()
     ensures { (ids : List ℕ) (rows : List Row) → AreMembers ids → DoNoHarm (cluster ids) rows →
         AskingDevicesAreHeardOut ids rows }
 {
-    a_choice_fits();
-    a_leader_follows_up();
-    allocations_both_ways();
-    delivers_what_comes_whole();
-    frames_carry_what_is_cut();
-    its_frames_are_anonymous();
-    law_decisions();
-    lengths_of_cuttings();
-    requests_are_delivered();
-    requests_of_devices_are_requests();
-    rows_are_shown();
-    rows_grow_by_one();
-    sessions_of_a_step();
-    steps_stay_in_range();
-    transfers_of_a_step_are_apart();
-    what_a_step_keeps();
-    what_is_said_of_a_step();
-    what_is_said_of_frames();
+    what_service_stands_on();
     who_has_settled_stays_settled();
 }
 
@@ -452,15 +303,7 @@ pub fn who_leads_has_come_to_lead()
     ensures comes { (ids : List ℕ) (rows : List Row) → AreMembers ids → DoNoHarm (cluster ids) rows →
         WhoLeadsHasComeToLead ids rows }
 {
-    a_choice_fits();
-    law_decisions();
-    law_every_run();
-    law_fit();
-    members_of_a_step();
-    rows_are_shown();
-    rows_grow_by_one();
-    what_a_step_keeps();
-    what_is_said_of_a_step();
+    what_service_stands_on();
 }
 
 /// Who is heard out is served in time, from the middle of a calm on, in which a member leads from some moment on.
@@ -475,22 +318,7 @@ pub fn heard_devices_are_served_in_calm()
     ensures { (ids : List ℕ) (rows : List Row) → AreMembers ids → DoNoHarm (cluster ids) rows →
         HeardDevicesAreServed ids rows }
 {
-    a_choice_fits();
-    a_leader_records_the_pair();
-    a_node_id_is_given_for_good();
-    allocations_both_ways();
-    allocations_come_in_calm();
-    chosen_is_the_choice();
-    duty_of_a_step();
-    entries_are_committed_in_time();
-    law_decisions();
-    law_every_run();
-    rows_are_shown();
-    rows_grow_by_one();
-    the_allocatees();
-    the_headline();
-    what_entries_stand_on();
-    who_is_listed_stays();
+    what_service_stands_on();
 }
 
 /// The requests that members accept in a calm tell the unique ID of its only device, part by part. Where those that
@@ -515,20 +343,7 @@ pub fn requests_are_the_devices()
     ensures whole { (ids : List ℕ) (rows : List Row) → AreMembers ids → DoNoHarm (cluster ids) rows →
         WholeIsTheDevices ids rows }
 {
-    a_choice_fits();
-    allocations_both_ways();
-    delivers_what_comes_whole();
-    frames_carry_what_is_cut();
-    its_frames_are_anonymous();
-    lengths_of_cuttings();
-    requests_of_devices_are_requests();
-    rows_are_shown();
-    rows_grow_by_one();
-    steps_stay_in_range();
-    what_a_step_keeps();
-    what_is_fine_is_not_torn();
-    what_is_said_of_a_step();
-    what_is_said_of_frames();
+    what_service_stands_on();
 }
 
 /// Who follows falls silent in a calm. Where a member leads on from some moment on and the others follow, each other
@@ -540,17 +355,7 @@ pub fn who_follows_falls_silent()
     ensures { (ids : List ℕ) (rows : List Row) → AreMembers ids → DoNoHarm (cluster ids) rows →
         WhoFollowsFallsSilent ids rows }
 {
-    a_choice_fits();
-    delivers_what_comes_whole();
-    frames_carry_what_is_cut();
-    its_frames_are_anonymous();
-    lengths_of_cuttings();
-    rows_are_shown();
-    rows_grow_by_one();
-    steps_stay_in_range();
-    what_a_step_keeps();
-    what_is_said_of_a_step();
-    what_is_said_of_frames();
+    what_service_stands_on();
 }
 
 /// Who is heard out, and whose unique ID stands in the leader's log, is told its node ID in time, from the middle of a
@@ -563,13 +368,7 @@ pub fn heard_known_devices_are_told_in_calm()
     ensures { (ids : List ℕ) (rows : List Row) → AreMembers ids → DoNoHarm (cluster ids) rows →
         HeardKnownDevicesAreTold ids rows }
 {
-    a_choice_fits();
-    a_node_id_is_given_for_good();
-    allocations_both_ways();
-    allocations_come_in_calm();
-    law_every_run();
-    rows_are_shown();
-    rows_grow_by_one();
+    what_service_stands_on();
 }
 
 /// Who is recorded is served in time, from the middle of a calm on, also where it does not wait to be told: requests
@@ -580,20 +379,48 @@ pub fn recorded_devices_are_served_in_calm()
     ensures { (ids : List ℕ) (rows : List Row) → AreMembers ids → DoNoHarm (cluster ids) rows →
         RecordedDevicesAreServed ids rows }
 {
+    what_service_stands_on();
+}
+
+/// What the laws of service stand on: what the crates below say of steps, frames and rows that do no harm, of devices
+/// and what they are told, of the Raft model, and of what comes in calm.
+pub fn what_service_stands_on()
+    ensures { ServiceGrounds }
+{
     a_choice_fits();
+    a_leader_follows_up();
     a_leader_records_the_pair();
     a_node_id_is_given_for_good();
     allocations_both_ways();
     allocations_come_in_calm();
+    calls_return_to_who_leads_on();
     chosen_is_the_choice();
+    delivers_what_comes_whole();
     duty_of_a_step();
     entries_are_committed_in_time();
+    entries_come_in_time();
+    frames_carry_what_is_cut();
+    its_frames_are_anonymous();
     law_decisions();
     law_every_run();
+    law_fit();
+    lengths_of_cuttings();
+    members_of_a_step();
+    requests_are_delivered();
+    requests_of_devices_are_requests();
     rows_are_shown();
     rows_grow_by_one();
+    sessions_of_a_step();
+    steps_stay_in_range();
     the_allocatees();
     the_headline();
+    transfers_of_a_step_are_apart();
+    what_a_row_delivers_is_one_transfer();
+    what_a_step_keeps();
     what_entries_stand_on();
+    what_is_fine_is_not_torn();
+    what_is_said_of_a_step();
+    what_is_said_of_frames();
+    what_is_said_of_messages();
     who_is_listed_stays();
 }

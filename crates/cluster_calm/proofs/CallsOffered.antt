@@ -1,39 +1,28 @@
 -- What a step keeps of a leader's calls to one peer, where it offers the peer no append request.
-use Rattle.std.proofs.Common.{◌≡◌, ◌≢◌, ℕ, ◌≤◌, arith, Bool, true, false, List, [], ◌∷◌, ◌++◌, length, drop, refl, sym, ◌∙◌, ap, subst, inl, inr, Option, None, Some}
-use Rattle.std.specs.Prelude.{⊤, ◌⊎◌, ◌-◌, ◌&&◌, ◌||◌, nat_le, nat_lt, if◌then◌else◌}
+use Rattle.std.proofs.Common.{◌≡◌, ◌≢◌, ℕ, Bool, true, false, List, [], ◌∷◌, ◌++◌, length, drop, refl, sym, ◌∙◌, ap, subst, inl, inr, Option, None, Some}
+use Rattle.std.specs.Prelude.{⊤, ◌⊎◌, ◌-◌, ◌||◌, nat_le}
 use Rattle.std.proofs.lemmas.Bool.Decides.{eqb_tells}
 use Rattle.can_frame.specs.declared.step.What.{What}
 use Rattle.can_frame.specs.declared.step.What.TheVariants.{AppQ, VoteQ}
 use Rattle.raft_core.specs.Calls.{due, due_unless}
-use Rattle.raft_core.specs.Times.{HandedIn, Sending, Times, begin_wait, end_call, end_vote_call, given_at, given_call, is_silent, raise, stand, step_down, times_after, times_after_all, win}
-use Rattle.raft_model.specs.Handlers.{server_after, server_after_all}
-use Rattle.raft_model.specs.Lists.{In, at, at_here, at_other}
-use Rattle.raft_model.specs.Messages.{Answer, Request}
+use Rattle.raft_core.specs.Times.{Sending, Times, given_call, is_silent}
+use Rattle.raft_model.specs.Lists.{In, at, at_other}
+use Rattle.raft_model.specs.Messages.{Request}
 use Rattle.raft_model.specs.Messages.Message.{Requests}
-use Rattle.raft_model.specs.Moves.{Move, memory_after}
-use Rattle.raft_model.specs.Moves.Appending.{acknowledges, matched_memory}
-use Rattle.raft_model.specs.Moves.Appending.Verdict.{Added, Held, Outdated, Refused}
-use Rattle.raft_model.specs.Moves.Elections.{counts, has_quorum, memory_without_call, own_vote, stand_memory, stepped_down, votes_with, win_memory, with_vote}
+use Rattle.raft_model.specs.Moves.{Move}
 use Rattle.raft_model.specs.Moves.Leading.{append_request, vote_request}
-use Rattle.raft_model.specs.Moves.Move.{AnswerAgain, CallForVote, CallToAppend, CommitTo, GiveUp, ProposeEntry, TakeAppendAnswer, TakeAppendRequest, TakeVoteAnswer, TakeVoteRequest, TellNothing, TellPair, TimeOut}
-use Rattle.raft_model.specs.Server.{Memory, RaftServer, Role}
+use Rattle.raft_model.specs.Moves.Move.{CallForVote, CallToAppend}
+use Rattle.raft_model.specs.Server.{Memory, Role}
 use Rattle.raft_model.specs.Server.Role.{Candidate, Follower, Leader}
 use Rattle.alloc_spec.specs.AllocatorState.{AllocatorState, members_of}
 use Rattle.alloc_spec.specs.Ending.{append_call_bytes, calls_all, calls_owed, calls_peer, vote_call_bytes}
-use Rattle.alloc_spec.specs.Step.{Event, at_moment, begin_phase, moment_of, step}
-use Rattle.alloc_spec.specs.StepState.{StepState, initial_state, with_counter, with_move_if, with_offer}
+use Rattle.alloc_spec.specs.Step.{Event, step}
+use Rattle.alloc_spec.specs.StepState.{StepState, with_counter, with_move_if, with_offer}
 use Rattle.alloc_spec.specs.Transfers.{Offer, has_room, id_of}
-use Rattle.alloc_spec_laws.specs.Calls.{carrier}
-use Rattle.alloc_spec_laws.specs.Phases.{when_committed, when_seen, when_told}
-use Rattle.alloc_spec_laws.proofs.CalledPeers.{AreQuiet, IsQuiet, commit_quiet}
+use Rattle.alloc_spec_laws.specs.Phases.{when_told}
 use Rattle.alloc_spec_laws.proofs.Choices.{either}
-use Rattle.alloc_spec_laws.proofs.DistinctTransfers.{rank, sent}
-use Rattle.alloc_spec_laws.proofs.EndOffers.{Told, tells}
-use Rattle.alloc_spec_laws.proofs.KeptByChanges.{Keeping}
-use Rattle.alloc_spec_laws.proofs.KeptBySteps.{event_keeps, gives_up_keeps, tell_keeps}
 use Rattle.alloc_spec_laws.proofs.Lists.{in_back, in_front}
-use Rattle.alloc_spec_laws.proofs.LogGrowth.{commit_decided}
-use Rattle.alloc_spec_laws.proofs.Transfers.{event_offers}
+use Rattle.cluster_calm.proofs.PeerMoves.{IsKeptByMoves, OfPeer, until_calls}
 
 -- what may hold of the pending call to a peer, of what is kept with it, and of the moment of the last append request
 abbrev pub OfCalls : Type 1
@@ -54,150 +43,28 @@ OrOffered m H offers p s a = Offered m offers ⊎ H p s a
 abbrev pub Kept : ℕ → OfCalls → StepState → Type 0
 Kept m H g = OfLeader m (OrOffered m H g.offers) g.allocator.raft_server.memory g.allocator.times
 
--- ---- moves that call nobody
-
-module _ (m : ℕ) (H : OfCalls) (ended : (p : Option Request) (s : Option Sending) (a : Option ℕ) → H p s a → H None None a) (won : H None None None) where
-  ends : (node : ℕ) (pending : ℕ → Option Request) (sending : ℕ → Option Sending) (a : Option ℕ) → H (pending m) (sending m) a
-      → H (at pending node None m) (at sending node None m) a
-  ends node pending sending a h = elim (eqb_tells m node) [
-    | inl z ↦ subst (λ (p : Option Request). H p (at sending node None m) a) (sym (at_here pending node m None z.1))
-        (subst (λ (s : Option Sending). H None s a) (sym (at_here sending node m None z.1)) (ended (pending m) (sending m) a h))
-    | inr z ↦ subst (λ (p : Option Request). H p (at sending node None m) a) (sym (at_other pending node m None z.1))
-        (subst (λ (s : Option Sending). H (pending m) s a) (sym (at_other sending node m None z.1)) h)
-  ]
-
-  down : (now : ℕ) (role : Role) (times : Times) (p : Option Request) → H p (times.sending m) (times.appended m)
-      → H p ((step_down now role times).sending m) ((step_down now role times).appended m)
-  down now Follower times p h = h
-  down now Candidate times p h = h
-  down now Leader times p h = h
-
-  raised : (now term : ℕ) (server : RaftServer) (times : Times) (p : Option Request) → H p (times.sending m) (times.appended m)
-      → H p ((raise now term server times).sending m) ((raise now term server times).appended m)
-  raised now term server times p h =
-      either (λ (ts : Times). H p (ts.sending m) (ts.appended m)) (nat_lt server.store.term term) (step_down now server.memory.role times) times
-      (λ e. down now server.memory.role times p h) (λ e. h)
-
-  stood : (me : ℕ) (given : HandedIn) (server : RaftServer) (times : Times) (q : Bool)
-      → OfLeader m H (if q then win_memory server.store (stand_memory me server.memory) else stand_memory me server.memory)
-      (if q then win (stand given times) else stand given times)
-  stood me given server times true leads = won
-  stood me given server times false leads = absurd (cc leads)
-
-  asked_vote : (given : HandedIn) (server : RaftServer) (times : Times) (request : Request) (granted higher : Bool) → OfLeader m H server.memory times
-      → OfLeader m H (if higher then record server.memory { role = Follower } else server.memory)
-      (if granted then begin_wait given.now times else raise given.now request.term server times)
-  asked_vote given server times request true true h leads = absurd (cc leads)
-  asked_vote given server times request true false h leads = h leads
-  asked_vote given server times request false true h leads = absurd (cc leads)
-  asked_vote given server times request false false h leads = raised given.now request.term server times (server.memory.pending m) (h leads)
-
-  vote_answered : (given : HandedIn) (server : RaftServer) (times : Times) (answer : Answer) (higher counted_one wins : Bool) → OfLeader m H server.memory times
-      → OfLeader m H (if higher then stepped_down server.memory answer.from
-      else (if counted_one then (if wins then win_memory server.store (with_vote server.memory answer) else with_vote server.memory answer)
-      else memory_without_call server.memory answer.from))
-      (if higher then step_down given.now server.memory.role (end_vote_call answer.from times)
-      else (if counted_one && wins then win (end_vote_call answer.from times) else end_vote_call answer.from times))
-  vote_answered given server times answer true c q h leads = absurd (cc leads)
-  vote_answered given server times answer false true true h leads = won
-  vote_answered given server times answer false true false h leads = ends answer.from server.memory.pending times.sending (times.appended m) (h leads)
-  vote_answered given server times answer false false q h leads = ends answer.from server.memory.pending times.sending (times.appended m) (h leads)
-
-  append_answered : (given : HandedIn) (server : RaftServer) (times : Times) (answer : Answer) (higher counted_one : Bool) → OfLeader m H server.memory times
-      → OfLeader m H (if higher then stepped_down server.memory answer.from
-      else (if counted_one then matched_memory server.memory answer else memory_without_call server.memory answer.from))
-      (raise given.now answer.term server (end_call answer.from times))
-  append_answered given server times answer true c h leads = absurd (cc leads)
-  append_answered given server times answer false true h leads = raised given.now answer.term server (end_call answer.from times) (at server.memory.pending answer.from None m)
-      (ends answer.from server.memory.pending times.sending (times.appended m) (h leads))
-  append_answered given server times answer false false h leads = raised given.now answer.term server (end_call answer.from times) (at server.memory.pending answer.from None m)
-      (ends answer.from server.memory.pending times.sending (times.appended m) (h leads))
-
-  after_move : (members : List ℕ) (me number : ℕ) (given : HandedIn) (server : RaftServer) (move : Move) (times : Times) → IsQuiet move
-      → OfLeader m H server.memory times → OfLeader m H (memory_after members me number server move) (times_after members me given server move times)
-  after_move members me number given server TimeOut times quiet h = stood me given server times (has_quorum members (own_vote me))
-  after_move members me number given server (TakeVoteRequest request granted) times quiet h =
-      asked_vote given server times request granted (nat_lt server.store.term request.term) h
-  after_move members me number given server (TakeVoteAnswer answer) times quiet h =
-      vote_answered given server times answer (nat_lt server.store.term answer.term) (counts server answer) (has_quorum members (votes_with server.memory answer)) h
-  after_move members me number given server (TakeAppendRequest request Outdated) times quiet h = h
-  after_move members me number given server (TakeAppendRequest request Refused) times quiet h = λ leads. absurd (cc leads)
-  after_move members me number given server (TakeAppendRequest request Held) times quiet h = λ leads. absurd (cc leads)
-  after_move members me number given server (TakeAppendRequest request (Added entry)) times quiet h = λ leads. absurd (cc leads)
-  after_move members me number given server (TakeAppendAnswer answer) times quiet h =
-      append_answered given server times answer (nat_lt server.store.term answer.term) (acknowledges server answer) h
-  after_move members me number given server (ProposeEntry entry) times quiet h = h
-  after_move members me number given server (CommitTo index) times quiet h = h
-  after_move members me number given server TellPair times quiet h = h
-  after_move members me number given server TellNothing times quiet h = h
-  after_move members me number given server (CallForVote node) times quiet h = absurd quiet
-  after_move members me number given server (CallToAppend node previous with_entry) times quiet h = absurd quiet
-  after_move members me number given server (AnswerAgain place) times quiet h = h
-  after_move members me number given server (GiveUp node) times quiet h = λ leads. ends node server.memory.pending times.sending (times.appended m) (h leads)
-
-  after_moves : (members : List ℕ) (me number : ℕ) (given : HandedIn) (moves : List Move) (server : RaftServer) (times : Times) → AreQuiet moves
-      → OfLeader m H server.memory times
-      → OfLeader m H (server_after_all members me number server moves).memory (times_after_all members me number given server moves times)
-  after_moves members me number given [] server times quiet h = h
-  after_moves members me number given (move ∷ moves) server times quiet h =
-      after_moves members me number given moves (server_after members me number server move) (times_after members me given server move times) quiet.1
-      (after_move members me number given server move times quiet.0 h)
-
 -- ---- until the calls
-
--- a call is among these offers
-abbrev HasCall : List Offer → Type 0
-HasCall offers = (offer : Offer) × In offer offers × (8 ≤ rank offer.what)
-
-is_call : (request : Request) → 8 ≤ rank (carrier request)
-is_call request = either (λ (what : What). 8 ≤ rank what) request.append AppQ VoteQ (λ e. omega arith) (λ e. omega arith)
 
 offered_still : (m : ℕ) (offers : List Offer) (offer : Offer) → Offered m offers → Offered m (offers ++ offer ∷ [])
 offered_still m offers offer c = (c.0, in_front c.0 offers (offer ∷ []) c.1, c.2, c.3)
 
-module _ (m : ℕ) (H : OfCalls) (ended : (p : Option Request) (s : Option Sending) (a : Option ℕ) → H p s a → H None None a) (won : H None None None) (number : ℕ) where
-  -- a call is offered, or this is kept
-  abbrev CallsOrKeeps : StepState → Type 0
-  CallsOrKeeps g = HasCall g.offers ⊎ Kept m H g
+-- moves that call nobody keep what holds where a server leads, whatever its term
+abbrev Leading : OfCalls → OfPeer
+Leading H r term p s a l = r ≡ Leader → H p s l
 
-  still_ended : (offers : List Offer) (p : Option Request) (s : Option Sending) (a : Option ℕ) → OrOffered m H offers p s a → OrOffered m H offers None None a
-  still_ended offers p s a (inl c) = inl c
-  still_ended offers p s a (inr h) = inr (ended p s a h)
+abbrev AnyTerm : ℕ → ℕ → Type 0
+AnyTerm term more = ⊤
 
-  longer : (offers : List Offer) (offer : Offer) (memory : Memory) (times : Times) → HasCall offers ⊎ OfLeader m (OrOffered m H offers) memory times
-      → HasCall (offers ++ offer ∷ []) ⊎ OfLeader m (OrOffered m H (offers ++ offer ∷ [])) memory times
-  longer offers offer memory times (inl c) = inl (c.0, in_front c.0 offers (offer ∷ []) c.1, c.2)
-  longer offers offer memory times (inr h) = inr (λ leads. elim (h leads) [ inl c ↦ inl (offered_still m offers offer c) | inr k ↦ inr k ])
-
-  taken : (given : HandedIn) (moves : List Move) (members : List ℕ) (me : ℕ) (offers : List Offer) (server : RaftServer) (times : Times) → AreQuiet moves
-      → HasCall offers ⊎ OfLeader m (OrOffered m H offers) server.memory times
-      → HasCall offers ⊎ OfLeader m (OrOffered m H offers) (server_after_all members me number server moves).memory (times_after_all members me number given server moves times)
-  taken given moves members me offers server times quiet (inl c) = inl c
-  taken given moves members me offers server times quiet (inr h) =
-      inr (after_moves m (OrOffered m H offers) (still_ended offers) (inr won) members me number given moves server times quiet h)
-
-  keeping : (event : Event) → Keeping number event CallsOrKeeps (λ d. ⊤)
-  keeping event = record {
-    takes_keep = λ given moves g quiet decided h.
-        taken given moves (members_of g.allocator) g.allocator.me g.offers g.allocator.raft_server g.allocator.times quiet h;
-    proposes_keep = λ given uid node g found h. h;
-    sends_keep = λ what to payload says g sends h. longer g.offers (sent what to payload says g) g.allocator.raft_server.memory g.allocator.times h;
-    calls_keep = λ what peer move request payload g makes fits h. inl (
-      sent what peer payload (Some (Requests request)) g,
-      in_back (sent what peer payload (Some (Requests request)) g) g.offers (sent what peer payload (Some (Requests request)) g ∷ []) (inl refl),
-      subst (λ (w : What). 8 ≤ rank w) (sym makes.carried) (is_call request),
-    );
-    responds_keep = λ what d payload says g comes responds h. longer g.offers _ g.allocator.raft_server.memory g.allocator.times h;
-    changes_keep = λ u g like h. subst (λ (server : RaftServer). HasCall g.offers ⊎ OfLeader m (OrOffered m H g.offers) server.memory u.times) (sym like.raft_server)
-        (subst (λ (times : Times). HasCall g.offers ⊎ OfLeader m (OrOffered m H g.offers) g.allocator.raft_server.memory times) (sym like.times) h);
-    watches_keep = λ node happens g has h. h;
-    tells_keep = λ g h. h;
-    hears_keep = λ d message g comes kind other read h. h;
-  }
-
-  none_called : (g : StepState) → Told g → CallsOrKeeps g → Kept m H g
-  none_called g told (inl c) = absurd (omega (arith, told.each c.0 c.1, c.2))
-  none_called g told (inr h) = h
+leading_kept : (H : OfCalls) → ((p : Option Request) (s : Option Sending) (a : Option ℕ) → H p s a → H None None a) → H None None None
+    → IsKeptByMoves AnyTerm (Leading H)
+leading_kept H ended won = record {
+  ended = λ r term p s a l h leads. ended p s l (h leads);
+  voted = λ r term p s a l h leads. ended p s l (h leads);
+  won = λ r term p s a b l h leads. won;
+  stood = λ r term p s a l h leads. absurd (cc leads);
+  follows = λ r term p s a l h leads. absurd (cc leads);
+  rises = λ r term more p s a l up h. h;
+}
 
 -- ---- the calls
 
@@ -341,24 +208,15 @@ module _ (number m : ℕ) where
 
 module _ (m : ℕ) (H : OfCalls) (ended : (p : Option Request) (s : Option Sending) (a : Option ℕ) → H p s a → H None None a) (won : H None None None)
     (t : AllocatorState) (number : ℕ) (event : Event) where
-  -- until a step makes its calls, this is kept, or an append request to the peer is offered
-  pub before_calls : OfLeader m H t.raft_server.memory t.times → Kept m H (when_told t number event)
-  before_calls h = none_called m H ended won number (when_told t number event)
-      (tells number (when_committed t number event) (event_offers number event (begin_phase number (moment_of event) t) refl))
-      (tell_keeps number event (CallsOrKeeps m H ended won number) (λ d. ⊤) k (when_committed t number event)
-      (k.takes_keep (given_at (when_seen t number event).allocator.now) _ (when_seen t number event)
-      (commit_quiet (members_of (when_seen t number event).allocator) (when_seen t number event).allocator.me (when_seen t number event).allocator.raft_server)
-      (commit_decided (members_of (when_seen t number event).allocator) (when_seen t number event).allocator.me number (when_seen t number event).allocator.raft_server)
-      (event_keeps number event (CallsOrKeeps m H ended won number) (λ d. ⊤) k (begin_phase number (moment_of event) t) (λ arrival is d e. tt)
-      (gives_up_keeps number event (CallsOrKeeps m H ended won number) (λ d. ⊤) k (initial_state (at_moment (moment_of event) t)) (inr (λ leads. inr (h leads)))))))
-    where
-      k : Keeping number event (CallsOrKeeps m H ended won number) (λ d. ⊤)
-      k = keeping m H ended won number event
+  -- until a step makes its calls, this is kept
+  pub before_calls : OfLeader m H t.raft_server.memory t.times
+      → OfLeader m H (when_told t number event).allocator.raft_server.memory (when_told t number event).allocator.times
+  before_calls h = until_calls m AnyTerm (Leading H) (leading_kept H ended won) (λ members me number server move. tt) number t event h
 
   pub step_keeps_calls : OfLeader m H t.raft_server.memory t.times → Kept m H (step t number event).step_state
   unfolding step
   step_keeps_calls h = all_keep number (Kept m H) (kept_votes number m H) (kept_appends number m H)
-      (drop 1 (members_of (when_told t number event).allocator)) (when_told t number event) (before_calls h)
+      (drop 1 (members_of (when_told t number event).allocator)) (when_told t number event) (λ leads. inr (before_calls h leads))
 
 -- the calls of a step leave its role, its moment and its list
 pub same_after : (t : AllocatorState) (number : ℕ) (event : Event) → let told = (when_told t number event).allocator in

@@ -18,6 +18,7 @@ pub mod Whole
 pub mod CallsKept
 pub mod Calls
 pub mod CallsRead
+pub mod PeerMoves
 pub mod CallsOffered
 pub mod CallsInTime
 pub mod EachServer

@@ -1,27 +1,24 @@
-use Rattle.std.proofs.Common.{ℕ, ◌+◌, arith, true, ◌++◌, inl, inr}
-use Rattle.raft_model.specs.Lists.{In}
-use Rattle.raft_model.specs.Server.{Store}
-use Rattle.cluster_calm.specs.Calm.{Member}
+use Rattle.std.proofs.Common.{◌+◌, arith, ◌++◌, inl, inr}
 use Rattle.calm_leader.proofs.Stretches.{harmless_both}
 use Rattle.calm_election.specs.Elections.{election_within, longest_wait}
-use Rattle.calm_election.proofs.ElectionsEnd.{led_later, lists_in, told_all}
+use Rattle.calm_election.proofs.ElectionGrounds.{all_listed}
+use Rattle.calm_election.proofs.ElectionsEnd.{led_later}
 use Rattle.calm_election.proofs.OneTerm.{stands_at_top}
 use Rattle.calm_election.proofs.OneTermWins.{first_of, wins_or_led}
 use Rattle.calm_election.proofs.laws.elections_end_in_one_term.Goals as goal
-use Rattle.cluster_spec.specs.Cluster.{cluster, rules_of, world_of}
+use Rattle.cluster_spec.specs.Cluster.{cluster, world_of}
 
 pub returns : goal.returns
 returns c = λ ids rows members harmless group clocks pace start term whole r in_term long.
-    let knows = λ (p : ℕ) (store : Store) (opened word : ℕ) (i : In (Member p) group).
-    c.members_of_a_step.ensures.all p (rules_of ids true) store opened word (members.nodes p (r.listed p i)).0 (told_all ids p members (r.listed p i)) in
-    let lists = lists_in ids rows group clocks pace start whole r c.law_members.ensures.count knows c.members_of_a_step.ensures.opening in
+    let below = c.what_elections_stand_on.ensures in
+    let lists = all_listed below ids members rows harmless group clocks pace start whole r in
     elim (c.who_is_furthest_stands.ensures ids rows members harmless group clocks pace start whole r (omega (arith, long))) [
       | inl furthest ↦
-          let found = first_of ids rows group clocks pace start whole r c.steps_stay_in_range.ensures.size c.followers_follow_on.ensures.frames
+          let found = first_of ids rows group clocks pace start whole r below.more.size below.leave
           (start + longest_wait + pace.period) furthest in
           wins_or_led ids rows group clocks pace start whole r (c.logs_stay_in_calm.ensures ids rows members harmless) (c.no_appends_come.ensures ids rows members harmless) lists (start + election_within pace)
           (start + longest_wait + pace.period) found.so
-          (stands_at_top ids rows group clocks pace start whole r c.steps_stay_in_range.ensures.size (c.terms_stay_in_calm.ensures ids rows members harmless)
+          (stands_at_top ids rows group clocks pace start whole r below.more.size (c.terms_stay_in_calm.ensures ids rows members harmless)
           (c.terms_do_not_fall.ensures ids rows)
           (λ more fine. c.who_stands_asks.ensures ids (rows ++ more) members (harmless_both (cluster ids) rows more harmless fine))
           (c.vote_requests_come_back.ensures ids rows members harmless) c.who_is_listed_stays.ensures lists

@@ -1,30 +1,8 @@
-use Rattle.calm_election.proofs.WinsGrounds.{Below, scene}
+use Rattle.calm_election.proofs.WinsGrounds.{scene}
 use Rattle.calm_election.proofs.WinsKnows.{knows_terms}
 use Rattle.calm_election.proofs.laws.who_stands_knows_terms.Goals as goal
 
 pub returns : goal.returns
-returns c =
-    let below : Below = record {
-      more = c.what_a_step_keeps.ensures;
-      count = c.law_members.ensures.count;
-      ticks = c.steps_are_in_time.ensures.follows;
-      frames = c.followers_follow_on.ensures.frames;
-      hears_anew = c.steps_are_in_time.ensures.waits;
-      stay = c.who_is_listed_stays.ensures;
-      granted = c.law_decisions.ensures.granted;
-      chosen = c.a_choice_fits.ensures;
-      shown = c.rows_are_shown.ensures;
-      same = c.rows_grow_by_one.ensures.members;
-      taken = c.votes_are_taken.ensures;
-      asked = c.who_stands_asks.ensures;
-      waits_on = c.who_asked_waits_on.ensures;
-      candidates = c.candidates_stay.ensures;
-      answers_read = c.vote_answers_read_as_said.ensures;
-      begin = c.waits_begin_then.ensures;
-      terms = c.terms_stay_in_calm.ensures;
-      rise = c.terms_do_not_fall.ensures;
-      free = c.votes_stay_free.ensures;
-    } in
-    λ ids rows members harmless group clocks pace start k term front rest timed calm.
+returns c = λ ids rows members harmless group clocks pace start k term front rest timed calm.
     let alone_back = c.votes_come_alone.ensures ids rows members harmless in
-    knows_terms (scene below ids members rows harmless alone_back group clocks pace start k term front rest timed calm)
+    knows_terms (scene c.what_winners_stand_on.ensures ids members rows harmless alone_back group clocks pace start k term front rest timed calm)

@@ -1,4 +1,4 @@
-use Rattle.std.proofs.Common.{◌≡◌, ◌≤◌, ℕ, List, [], ◌∷◌, ◌++◌, refl, sym, subst}
+use Rattle.std.proofs.Common.{◌≡◌, ◌≤◌, ℕ, List, [], ◌∷◌, ◌++◌, refl, sym, subst, inl}
 use Rattle.raft_model.specs.Lists.{In}
 use Rattle.raft_model.specs.Runs.{World, initial_world, run}
 use Rattle.alloc_spec.specs.AllocatorState.{AllocatorState}
@@ -6,12 +6,20 @@ use Rattle.alloc_spec.specs.Transfers.{SentTransfer}
 use Rattle.cluster_agreement.specs.Shows.{Shows}
 use Rattle.cluster_recovery.proofs.Members.{IsQuiet}
 use Rattle.cluster_calm.specs.Calm.{Member, no_traffic}
-use Rattle.calm_leader.proofs.CallsBegin.{all_given, begins, sides}
-use Rattle.calm_leader.proofs.CallsComeBack.{comes_back_later}
+use Rattle.cluster_calm.proofs.Calls.{lists_on}
+use Rattle.calm_leader.specs.Entries.{CanExchange}
+use Rattle.calm_leader.proofs.CallsAlone.{reach}
+use Rattle.calm_leader.proofs.CallsComeBack.{comes_back}
+use Rattle.calm_leader.proofs.CallsExchange.{calling, fresh}
+use Rattle.calm_leader.proofs.CallsWait.{IsCalling}
+use Rattle.calm_leader.proofs.Exchange.{AllGiven, Exchange}
+use Rattle.calm_leader.proofs.ExchangeGoes.{Going, at_first}
+use Rattle.calm_leader.proofs.ExchangeStart.{all_given}
+use Rattle.cluster_recovery.specs.Calm.{Timed, rows_in}
 use Rattle.cluster_calm.proofs.Group.{AreWell, CalmLaws, IsServer}
 use Rattle.cluster_calm.proofs.Start.{places_in, server_is, well_in}
 use Rattle.calm_leader.proofs.laws.calls_come_back.Goals as goal
-use Rattle.cluster_spec.specs.Cluster.{Cluster, cluster, world_of}
+use Rattle.cluster_spec.specs.Cluster.{Cluster, after_rows, cluster, world_of}
 use Rattle.cluster_spec.specs.Members.MemberStatus.{Up}
 use Rattle.cluster_spec.specs.Refinement.{events, transfers_of_rows}
 
@@ -51,10 +59,25 @@ returns c =
     let of_m = running m in_m in
     let quiet_n : IsQuiet (w.member n).disk = record { faults = of_n.faults; calls = of_n.disk } in
     let quiet_m : IsQuiet (w.member m).disk = record { faults = of_m.faults; calls = of_m.disk } in
-    comes_back_later (sides laws group clocks pace nodes n m in_n in_m apart_offers stay apart quick term start w calls answers (is n in_n) (is m in_m) quiet_n quiet_m lists_m lists_n may may_answer) front rest timed offer request (no_traffic start) w
-    calls.sender
-    (begins laws group clocks pace nodes n m in_n in_m apart_offers stay apart quick term start w calls answers (is n in_n) (is m in_m) quiet_n quiet_m lists_m lists_n may may_answer)
-    are calm
-    (all_given laws group clocks pace nodes n m in_n in_m ids (λ done h. c.calls_read_as_said.ensures ids done members h) (λ done h. c.answers_read_as_said.ensures ids done members h)
-    c.rows_grow_by_one.ensures.world c.rows_grow_by_one.ensures.harmless (front ++ timed ∷ rest) rows (no_traffic start) w refl harmless are calm no_harm memory_n memory_m places) leads
-    call.sends call.what call.to call.says long
+    let whole : List Timed = front ++ timed ∷ rest in
+    let can : CanExchange n m w whole = record {
+      calls_it = lists_m;
+      hears_it = lists_n;
+      calls = calls;
+      first_call = may;
+      answers = answers;
+      first_answer = may_answer;
+      memory = memory_n;
+      its_memory = memory_m;
+      place = places;
+    } in
+    let both : Exchange = calling laws apart_offers stay group clocks pace nodes n m in_n in_m apart quick w whole can in
+    let its : IsCalling both = record { asks = refl; answers = refl; quick = quick; reads = λ x r. r; told = λ y r. r } in
+    let given : AllGiven both w whole = all_given both ids (λ done h row offer. c.calls_read_as_said.ensures ids done members h n row offer)
+    (λ done h row offer. c.answers_read_as_said.ensures ids done members h m row offer) c.rows_grow_by_one.ensures.world c.rows_grow_by_one.ensures.harmless whole rows
+    (no_traffic start) w refl harmless are calm no_harm memory_n memory_m places in
+    let g : Going both w whole = at_first both start w whole
+    (fresh laws apart_offers stay group clocks pace nodes n m in_n in_m apart quick w whole can start (is n in_n) (is m in_m) quiet_n quiet_m calm are given) in
+    let there = reach both its term front rest timed w g leads (inl (refl, refl)) in
+    comes_back both its term (after_rows w (rows_in front)) timed rest there.1.0 there.0 there.1.1
+    (lists_on stay m group clocks pace (no_traffic start) n front (timed ∷ rest) w of_n calm lists_m) offer request call.sends call.what call.to call.says long

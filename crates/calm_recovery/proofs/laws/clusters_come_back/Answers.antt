@@ -30,11 +30,10 @@ returns-clause-back c ids rows members harmless = clusters_come_back ids rows (r
   blanks = blanks_behind ids rows harmless (λ list fine. c.who_leads_has_come_to_lead.ensures.blank ids list members fine);
   calling = c.leaders_go_on_calling.ensures ids rows members harmless;
   return = c.calls_return_in_rounds.ensures ids rows members harmless;
-  tidy_fit = c.members_stay_tidy.ensures.are;
   fit = c.members_stay_tidy.ensures.fit ids rows members harmless;
-  missed = c.discoveries_miss_nobody.ensures.tidy ids rows members harmless;
+  missed = c.discoveries_miss_nobody.ensures.any ids rows members harmless;
   settle = c.leaders_settle_in_calm.ensures.settle ids rows members harmless;
-}) (c.leaders_come.ensures ids rows members harmless) (c.members_stay_tidy.ensures.tidy ids rows members harmless)
+}) (c.leaders_come.ensures ids rows members harmless) c.members_stay_tidy.ensures.are (c.members_stay_tidy.ensures.tidy ids rows members harmless)
 
 pub returns-clause-limit : goal.returns-clause-limit
 returns-clause-limit c ids rows members harmless =

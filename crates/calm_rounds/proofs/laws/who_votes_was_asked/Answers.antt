@@ -1,41 +1,8 @@
-use Rattle.std.proofs.Common.{ℕ, List}
-use Rattle.raft_model.specs.Runs.{initial_world, run}
-use Rattle.cluster_calm.proofs.Group.{CalmLaws}
 use Rattle.calm_rounds.proofs.HeardVotes.{was_asked}
-use Rattle.calm_rounds.proofs.HeardMade.{HeardLaws}
+use Rattle.calm_rounds.proofs.RoundsGrounds.{heard_laws}
 use Rattle.calm_rounds.proofs.laws.who_votes_was_asked.Goals as goal
-use Rattle.cluster_spec.specs.Cluster.{AreMembers, cluster}
-use Rattle.cluster_spec.specs.Refinement.{events}
 
 pub returns : goal.returns
-returns c =
-    let frame = c.what_is_said_of_frames.ensures in
-    let laws : CalmLaws = record {
-      frame = frame;
-      in_step = c.what_is_said_of_a_step.ensures;
-      more = c.what_a_step_keeps.ensures;
-      cutting = record {
-        piece_read = frame.piece_read;
-        carried = c.frames_carry_what_is_cut.ensures.carried;
-        cut = c.lengths_of_cuttings.ensures.cut;
-        count = frame.cut_count;
-      };
-      whole = c.delivers_what_comes_whole.ensures;
-      popped = c.steps_stay_in_range.ensures.popped;
-      device_step = c.its_frames_are_anonymous.ensures.step;
-      device_popped = c.its_frames_are_anonymous.ensures.popped;
-    } in
-    let its : (ids : List ℕ) → AreMembers ids → HeardLaws ids = λ ids members. record {
-      calm = laws;
-      one_transfer = c.what_a_row_delivers_is_one_transfer.ensures;
-      members = members;
-      shown = λ list fine. let chosen = c.a_choice_fits.ensures ids list members fine in (
-        chosen.0,
-        run (initial_world ids) (events chosen.0 (cluster ids) list),
-        (c.rows_are_shown.ensures chosen.0 ids list members fine chosen.1).shows,
-      );
-      same = c.rows_grow_by_one.ensures.members (cluster ids);
-    } in
-    λ ids rows members harmless group clocks pace start m front rest timed calm in_m gives.
-    was_asked ids (its ids members) (λ list fine. c.vote_requests_read_as_said.ensures ids list members fine) rows harmless group clocks pace start m front rest
+returns c = let below = c.what_rounds_stand_on.ensures in λ ids rows members harmless group clocks pace start m front rest timed calm in_m gives.
+    was_asked ids (heard_laws below ids members) (λ list fine. below.requests_read ids list members fine) rows harmless group clocks pace start m front rest
     timed calm in_m gives

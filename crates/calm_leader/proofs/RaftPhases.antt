@@ -1,5 +1,5 @@
 -- What a step keeps of a Raft server, of what it waits for and of the moment, phase by phase: a tick, a frame, and the
--- end of the step.
+-- end of the step. Where a blank may follow a move, it is kept behind both, or behind each.
 use Rattle.std.proofs.Common.{◌≡◌, ◌≢◌, ℕ, ◌+◌, Bool, true, false, List, [], ◌∷◌, refl, drop, Option, Some, None}
 use Rattle.std.specs.Prelude.{◌&&◌, ◌||◌, ◌-◌, length, nat_eq, nat_le, nat_lt, not, slice_index_or}
 use Rattle.alloc_exchange.specs.declared.heard.Heard.{Heard}
@@ -11,6 +11,7 @@ use Rattle.can_frame.specs.declared.entry.Entry.{Entry}
 use Rattle.can_frame.specs.declared.step.What.TheVariants.{Alloc, AppQ, InfoQ, VoteQ}
 use Rattle.can_frame.specs.Log.{blank}
 use Rattle.can_frame.specs.Timing.{status_interval}
+use Rattle.can_frame.specs.Zeros.{zeros}
 use Rattle.cluster_discovery.specs.Members.{is_due}
 use Rattle.dsdl_codec.specs.declared.append_answer.AppendAnswer.{AppendAnswer}
 use Rattle.dsdl_codec.specs.declared.append_request.AppendRequest.{AppendRequest}
@@ -49,9 +50,9 @@ use Rattle.alloc_spec.specs.Exchange.{allocation_payload, answers_or_records, an
 use Rattle.alloc_spec.specs.Services.{answers_append_request, answers_call, answers_vote_request, append_answered, ends_append_call, ends_vote_call, hears_info, is_listed, takes_append_answer, takes_append_request, takes_vote_answer, takes_vote_request, vote_answered}
 use Rattle.alloc_spec.specs.Step.{Event, begin_phase, step, with_answer}
 use Rattle.alloc_spec.specs.StepState.{StepState, with_moves, with_transfer}
-use Rattle.alloc_spec.specs.Tick.{asks, candidate, clock_phase, discovery_phase, election_phase, new_uid, query_phase, record_phase, records_as, records_node, status_phase, tells_members, tells_status, with_query_if}
+use Rattle.alloc_spec.specs.Tick.{asks, candidate, clock_phase, discovery_phase, election_phase, new_uid, proposes, query_phase, record_phase, records_as, records_node, status_phase, tells_members, tells_status, with_query_if}
 use Rattle.alloc_spec.specs.Transfers.{has_room, id_of}
-use Rattle.alloc_spec.proofs.Blanks.{move_with_blank, tick_with_blank}
+use Rattle.alloc_spec.proofs.Blanks.{move_with_blank, moves_and_blank, tick_with_blank}
 use Rattle.alloc_spec_laws.proofs.Choices.{and_left, either, eq_false, eq_true}
 use Rattle.alloc_spec_laws.proofs.Proposals.{leader_of}
 use Rattle.cluster_progress.specs.Requests.{moment_at}
@@ -68,6 +69,15 @@ Keeps H g = H g.allocator.me g.allocator.raft_server g.allocator.times g.allocat
 abbrev pub Grows : OfServer → Type 0
 Grows H = (log : List Entry) (me : ℕ) (server : RaftServer) (times : Times) (now : ℕ) → server.memory.role ≡ Leader → H me server times now
     → H me (record server { store = record server.store { log = log } }) times now
+
+-- it holds still when a leader records an entry
+abbrev pub Records : ℕ → OfServer → Type 0
+Records number H = (origin : ℕ) (uid : List ℕ) (node : ℕ) (g : StepState) → g.allocator.raft_server.memory.role ≡ Leader → Keeps H g
+    → Keeps H (proposes number origin uid node g)
+
+-- as it does where any log may follow
+pub grown : (number : ℕ) (H : OfServer) → Grows H → Records number H
+grown number H grows origin uid node g leads h = grows _ g.allocator.me g.allocator.raft_server g.allocator.times g.allocator.now leads h
 
 -- it holds still when a leader commits and tells
 pub record EndsQuietly (H : OfServer) : Type 0 where
@@ -179,28 +189,11 @@ module _ (number : ℕ) (H : OfServer) (ends : Ends number H) where
 
 -- ---- a tick
 
-module _ (number : ℕ) (Before H : OfServer) (idle : (me : ℕ) (server : RaftServer) (times : Times) (now : ℕ) → Before me server times now → H me server times now)
-    (stands : (members : List ℕ) (me word : ℕ) (server : RaftServer) (times : Times) (now : ℕ) → Before me server times now
-    → H me (server_after members me number server TimeOut) (times_after members me (given_tick now word) server TimeOut times) now)
-    (grows : Grows H) where
-  -- the tick of Raft: the member stands for election, or not; and a leader may add a blank
-  elects : (word : ℕ) (g : StepState) → Keeps Before g → Keeps H (election_phase number word g)
-  elects word g h = tick_with_blank (Keeps H) number word g ticked (λ moment. grows _ g.allocator.me _ _ g.allocator.now moment.leads ticked)
-    where
-      cond : Bool
-      cond = (knows_all g.allocator && has_waited g.allocator.times g.allocator.now)
-          && (not (is_leader g.allocator.raft_server.memory.role) && nat_lt g.allocator.raft_server.store.term term_limit)
-
-      ticked : Keeps H (with_moves number (given_tick g.allocator.now word)
-          (tick_phase (knows_all g.allocator && has_waited g.allocator.times g.allocator.now) g.allocator.raft_server) g)
-      ticked = either (λ (moves : List Move). Keeps H (with_moves number (given_tick g.allocator.now word) moves g)) cond (TimeOut ∷ []) []
-          (λ e. stands (members_of g.allocator) g.allocator.me word g.allocator.raft_server g.allocator.times g.allocator.now h)
-          (λ e. idle g.allocator.me g.allocator.raft_server g.allocator.times g.allocator.now h)
-
+module _ (number : ℕ) (H : OfServer) (records : Records number H) where
   -- a leader records a node
   recorded_as : (node : ℕ) (uid : Option (List ℕ)) (g : StepState) → g.allocator.raft_server.memory.role ≡ Leader → Keeps H g → Keeps H (records_as number node uid g)
-  recorded_as node None g leads h = grows _ g.allocator.me g.allocator.raft_server g.allocator.times g.allocator.now leads h
-  recorded_as node (Some uid) g leads h = grows _ g.allocator.me g.allocator.raft_server g.allocator.times g.allocator.now leads h
+  recorded_as node None g leads h = records 3 _ node g leads h
+  recorded_as node (Some uid) g leads h = records 2 uid node g leads h
 
   recorded_node : (node : Option ℕ) (g : StepState) → g.allocator.raft_server.memory.role ≡ Leader → Keeps H g → Keeps H (records_node number node g)
   recorded_node None g leads h = h
@@ -215,14 +208,7 @@ module _ (number : ℕ) (Before H : OfServer) (idle : (me : ℕ) (server : RaftS
   asked None g h = h
   asked (Some node) g h = asked_if (has_room g.allocator.queue []) node (id_of g.allocator.ids InfoQ node) (with_transfer number InfoQ node [] None g) h
 
-  -- Discovery and NodeStatus come before the tick of Raft
-  finds : (x : StepState) → Keeps Before x → Keeps Before (discovery_phase number x)
-  finds x i = either (Keeps Before) (is_due (start_of x.allocator) x.allocator.heard x.allocator.now) (tells_members number x) x (λ e. i) (λ e. i)
-
-  states : (x : StepState) → Keeps Before x → Keeps Before (status_phase number x)
-  states x i = either (Keeps Before) (nat_le status_interval (x.allocator.now - x.allocator.status_at)) (tells_status number x) x (λ e. i) (λ e. i)
-
-  -- what is recorded and asked comes behind it
+  -- what is recorded and asked comes behind the tick of Raft
   notes : (x : StepState) → Keeps H x → Keeps H (record_phase number x)
   notes x i = either (Keeps H) (may_propose x.allocator) (records_node number (candidate x.allocator) x) x
       (λ e. recorded_node (candidate x.allocator) x
@@ -232,12 +218,50 @@ module _ (number : ℕ) (Before H : OfServer) (idle : (me : ℕ) (server : RaftS
   queries x i = either (Keeps H) (is_leader x.allocator.raft_server.memory.role) (asks number (next_query x.allocator.watch (known x.allocator) x.allocator.now) x) x
       (λ e. asked (next_query x.allocator.watch (known x.allocator) x.allocator.now) x i) (λ e. i)
 
+  -- the step behind the tick of Raft, and a blank that may follow it
+  abbrev ticked_by : ℕ → StepState → StepState
+  ticked_by word g = with_moves number (given_tick g.allocator.now word)
+      (tick_phase (knows_all g.allocator && has_waited g.allocator.times g.allocator.now) g.allocator.raft_server) g
+
+  pub tick_and_blank : (word : ℕ) (g : StepState) → Keeps H (ticked_by word g) → Keeps H (election_phase number word g)
+  tick_and_blank word g h = tick_with_blank (Keeps H) number word g h (λ moment. records 0 zeros 0 (ticked_by word g) moment.leads h)
+
+  -- what holds behind the tick of Raft holds when the event of a tick is done
+  pub behind_election : (word : ℕ) (g : StepState) → Keeps H (election_phase number word (status_phase number (discovery_phase number g)))
+      → Keeps H (clock_phase number word g)
+  behind_election word g h =
+      let elected : StepState = election_phase number word (status_phase number (discovery_phase number g)) in
+      queries (record_phase number elected) (notes elected h)
+
+module _ (number : ℕ) (Before H : OfServer) (idle : (me : ℕ) (server : RaftServer) (times : Times) (now : ℕ) → Before me server times now → H me server times now)
+    (stands : (members : List ℕ) (me word : ℕ) (server : RaftServer) (times : Times) (now : ℕ) → Before me server times now
+    → H me (server_after members me number server TimeOut) (times_after members me (given_tick now word) server TimeOut times) now)
+    (grows : Grows H) where
+  -- the tick of Raft: the member stands for election, or not; and a leader may add a blank
+  elects : (word : ℕ) (g : StepState) → Keeps Before g → Keeps H (election_phase number word g)
+  elects word g h = tick_and_blank number H (grown number H grows) word g ticked
+    where
+      cond : Bool
+      cond = (knows_all g.allocator && has_waited g.allocator.times g.allocator.now)
+          && (not (is_leader g.allocator.raft_server.memory.role) && nat_lt g.allocator.raft_server.store.term term_limit)
+
+      ticked : Keeps H (with_moves number (given_tick g.allocator.now word)
+          (tick_phase (knows_all g.allocator && has_waited g.allocator.times g.allocator.now) g.allocator.raft_server) g)
+      ticked = either (λ (moves : List Move). Keeps H (with_moves number (given_tick g.allocator.now word) moves g)) cond (TimeOut ∷ []) []
+          (λ e. stands (members_of g.allocator) g.allocator.me word g.allocator.raft_server g.allocator.times g.allocator.now h)
+          (λ e. idle g.allocator.me g.allocator.raft_server g.allocator.times g.allocator.now h)
+
+  -- Discovery and NodeStatus come before the tick of Raft
+  finds : (x : StepState) → Keeps Before x → Keeps Before (discovery_phase number x)
+  finds x i = either (Keeps Before) (is_due (start_of x.allocator) x.allocator.heard x.allocator.now) (tells_members number x) x (λ e. i) (λ e. i)
+
+  states : (x : StepState) → Keeps Before x → Keeps Before (status_phase number x)
+  states x i = either (Keeps Before) (nat_le status_interval (x.allocator.now - x.allocator.status_at)) (tells_status number x) x (λ e. i) (λ e. i)
+
   -- what held before the tick makes this hold when its event is done
   pub when_ticked : (word : ℕ) (g : StepState) → Keeps Before g → Keeps H (clock_phase number word g)
-  when_ticked word g h =
-      let stated : StepState = status_phase number (discovery_phase number g) in
-      let elected : StepState = election_phase number word stated in
-      queries (record_phase number elected) (notes elected (elects word stated (states (discovery_phase number g) (finds g h))))
+  when_ticked word g h = behind_election number H (grown number H grows) word g
+      (elects word (status_phase number (discovery_phase number g)) (states (discovery_phase number g) (finds g h)))
 
   -- so it holds when the step is over
   pub at_tick : Ends number H → (t : AllocatorState) (now word : ℕ) → Keeps Before (begin_phase number now t)
@@ -247,9 +271,10 @@ module _ (number : ℕ) (Before H : OfServer) (idle : (me : ℕ) (server : RaftS
 
 -- ---- a frame
 
--- each message of Raft that the delivery may be makes this hold, of the step as it is then
-pub record Takes (number : ℕ) (H : OfServer) (d : Delivery) (g : StepState) : Type 0 where
-  pub vote_request : (message : VoteRequest) → vote_codec.vote_request_of d.payload ≡ Some message
+-- each message of Raft that the delivery may be makes this hold, of the step as it is then; an answer leaves the step so
+pub record Leaves (number : ℕ) (H : OfServer) (d : Delivery) (g : StepState) (answered : Move → StepState) : Type 0 where
+  pub vote_request : d.ident.kind ≡ RequestKind → d.ident.number ≢ 1 → d.ident.number ≢ 30 → (message : VoteRequest)
+      → vote_codec.vote_request_of d.payload ≡ Some message → is_listed d g.allocator ≡ true
       → let asked = vote_request_of message d.mark.step d.ident.source g.allocator.me in
       Keeps H (with_moves number (given_at g.allocator.now)
       (TakeVoteRequest asked (grants (with_term g.allocator.raft_server.store asked.term) asked) ∷ []) g)
@@ -257,23 +282,30 @@ pub record Takes (number : ℕ) (H : OfServer) (d : Delivery) (g : StepState) : 
       → append_codec.append_request_of d.payload ≡ Some message → is_listed d g.allocator ≡ true
       → let asked = append_request_of message d.mark.step d.ident.source g.allocator.me in
       Keeps H (with_moves number (given_at g.allocator.now) (TakeAppendRequest asked (verdict_on g.allocator.raft_server asked) ∷ []) g)
-  pub vote_answer : d.ident.kind ≡ Response → d.ident.number ≢ 1 → d.ident.number ≢ 30 → (message : VoteAnswer) (asked : Request)
-      → is_listed d g.allocator ≡ true
+  pub vote_answer : d.ident.kind ≡ Response → d.ident.number ≢ 1 → d.ident.number ≢ 30 → (message : VoteAnswer)
+      → vote_answer_of d.payload ≡ Some message → (asked : Request) → is_listed d g.allocator ≡ true
       → is_awaited g.allocator.raft_server g.allocator.times d.ident.source false d.id ≡ true
       → g.allocator.raft_server.memory.pending d.ident.source ≡ Some asked
-      → Keeps H (with_moves number (given_at g.allocator.now)
-      (TakeVoteAnswer (answer_of d.mark.step d.ident.source asked message.term message.granted) ∷ []) g)
-  pub append_answer : (message : AppendAnswer) (asked : Request)
+      → Keeps H (answered (TakeVoteAnswer (answer_of d.mark.step d.ident.source asked message.term message.granted)))
+  pub append_answer : d.ident.kind ≡ Response → d.ident.number ≡ 30 → (message : AppendAnswer)
+      → append_answer_of d.payload ≡ Some message → (asked : Request) → is_listed d g.allocator ≡ true
       → is_awaited g.allocator.raft_server g.allocator.times d.ident.source true d.id ≡ true
       → g.allocator.raft_server.memory.pending d.ident.source ≡ Some asked
-      → Keeps H (with_moves number (given_at g.allocator.now)
-      (TakeAppendAnswer (answer_of d.mark.step d.ident.source asked message.term message.success) ∷ []) g)
+      → Keeps H (answered (TakeAppendAnswer (answer_of d.mark.step d.ident.source asked message.term message.success)))
 
-module _ (number : ℕ) (H : OfServer) (grows : Grows H) where
+-- it holds behind the move alone
+abbrev pub Takes : (number : ℕ) → OfServer → Delivery → StepState → Type 0
+Takes number H d g = Leaves number H d g (λ move. with_moves number (given_at g.allocator.now) (move ∷ []) g)
+
+-- it holds behind the move of an answer and the blank that may follow
+abbrev pub Hears : (number : ℕ) → OfServer → Delivery → StepState → Type 0
+Hears number H d g = Leaves number H d g (λ move. moves_and_blank number (given_at g.allocator.now) (move ∷ []) g)
+
+module _ (number : ℕ) (H : OfServer) (records : Records number H) where
   -- a leader records what a device told
   recorded : (uid : List ℕ) (node : Option ℕ) (g : StepState) → g.allocator.raft_server.memory.role ≡ Leader → Keeps H g → Keeps H (records_at number uid node g)
   recorded uid None g leads h = h
-  recorded uid (Some node) g leads h = grows _ g.allocator.me g.allocator.raft_server g.allocator.times g.allocator.now leads h
+  recorded uid (Some node) g leads h = records 1 uid node g leads h
 
   -- a pair is given again
   given : (entry : Entry) (place : ℕ) (g : StepState) → Keeps H g → Keeps H (gives_entry number (AnswerAgain place) entry g)
@@ -305,13 +337,12 @@ module _ (number : ℕ) (H : OfServer) (grows : Grows H) where
 
   -- an answer is taken by the call that waits for it, and a leader may add a blank
   called : (move : Request → Move) (pending : Option Request) (g : StepState)
-      → ((asked : Request) → pending ≡ Some asked → Keeps H (with_moves number (given_at g.allocator.now) (move asked ∷ []) g)) → Keeps H g
+      → ((asked : Request) → pending ≡ Some asked → Keeps H (moves_and_blank number (given_at g.allocator.now) (move asked ∷ []) g)) → Keeps H g
       → Keeps H (answers_call number move pending g)
   called move None g takes h = h
-  called move (Some asked) g takes h = move_with_blank (Keeps H) number (given_at g.allocator.now) (move asked) g (takes asked refl)
-      (λ moment. grows _ g.allocator.me _ _ g.allocator.now moment.leads (takes asked refl))
+  called move (Some asked) g takes h = takes asked refl
 
-  module _ (d : Delivery) (g : StepState) (takes : Takes number H d g) (h : Keeps H g) where
+  module _ (d : Delivery) (g : StepState) (takes : Hears number H d g) (h : Keeps H g) where
     -- what reads as no value changes nothing
     read_it : {A : Type 0} (hears : A → StepState → StepState) (value : Option A) → ((a : A) → value ≡ Some a → Keeps H (hears a g))
         → Keeps H (reads hears value g).step_state
@@ -326,12 +357,12 @@ module _ (number : ℕ) (H : OfServer) (grows : Grows H) where
     KeepsAt r = Keeps H r.step_state
 
     -- an append answer is taken, where it is awaited
-    answers_append : KeepsAt (reads (takes_append_answer number d) (append_answer_of d.payload) g)
-    answers_append = read_it (takes_append_answer number d) (append_answer_of d.payload)
+    answers_append : d.ident.kind ≡ Response → d.ident.number ≡ 30 → KeepsAt (reads (takes_append_answer number d) (append_answer_of d.payload) g)
+    answers_append kind thirty = read_it (takes_append_answer number d) (append_answer_of d.payload)
         (λ m read. either (Keeps H) (is_listed d g.allocator) (ends_append_call number d m g) g
         (λ l. either (Keeps H) (is_awaited g.allocator.raft_server g.allocator.times d.ident.source true d.id)
         (answers_call number (append_answered d m) (g.allocator.raft_server.memory.pending d.ident.source) g) g
-        (λ a. called (append_answered d m) (g.allocator.raft_server.memory.pending d.ident.source) g (λ asked p. takes.append_answer m asked a p) h)
+        (λ a. called (append_answered d m) (g.allocator.raft_server.memory.pending d.ident.source) g (λ asked p. takes.append_answer kind thirty m read asked l a p) h)
         (λ a. h)) (λ l. h))
 
     -- a vote answer likewise
@@ -340,7 +371,7 @@ module _ (number : ℕ) (H : OfServer) (grows : Grows H) where
         (λ m read. either (Keeps H) (is_listed d g.allocator) (ends_vote_call number d m g) g
         (λ l. either (Keeps H) (is_awaited g.allocator.raft_server g.allocator.times d.ident.source false d.id)
         (answers_call number (vote_answered d m) (g.allocator.raft_server.memory.pending d.ident.source) g) g
-        (λ a. called (vote_answered d m) (g.allocator.raft_server.memory.pending d.ident.source) g (λ asked p. takes.vote_answer kind one thirty m asked l a p) h)
+        (λ a. called (vote_answered d m) (g.allocator.raft_server.memory.pending d.ident.source) g (λ asked p. takes.vote_answer kind one thirty m read asked l a p) h)
         (λ a. h)) (λ l. h))
 
     -- what is delivered, by its kind
@@ -356,9 +387,10 @@ module _ (number : ℕ) (H : OfServer) (grows : Grows H) where
         (λ m read. either (Keeps H) (is_listed d g.allocator) (answers_append_request number d m g) g
         (λ l. takes.append_request is (eq_true d.ident.number 30 f) m read l) (λ l. h)))
         (λ f. read_it (takes_vote_request number d) (vote_codec.vote_request_of d.payload)
-        (λ m read. either (Keeps H) (is_listed d g.allocator) (answers_vote_request number d m g) g (λ l. takes.vote_request m read) (λ l. h))))
+        (λ m read. either (Keeps H) (is_listed d g.allocator) (answers_vote_request number d m g) g (λ l. takes.vote_request is (eq_false d.ident.number 1 e) (eq_false d.ident.number 30 f) m read l)
+        (λ l. h))))
     kinds Response is = either KeepsAt (nat_eq d.ident.number 1) _ _ (λ e. read_it (hears_info d) (node_info_of d.payload) (λ m f. h))
-        (λ e. either KeepsAt (nat_eq d.ident.number 30) _ _ (λ f. answers_append)
+        (λ e. either KeepsAt (nat_eq d.ident.number 30) _ _ (λ f. answers_append is (eq_true d.ident.number 30 f))
         (λ f. answers_vote is (eq_false d.ident.number 1 e) (eq_false d.ident.number 30 f)))
 
     -- what is delivered
@@ -367,11 +399,30 @@ module _ (number : ℕ) (H : OfServer) (grows : Grows H) where
     delivered = kinds d.ident.kind refl
 
   -- what the receiver makes of the frame
-  by_answer : (got : Received) (g : StepState) → ((d : Delivery) → got ≡ Gives d → Takes number H d g) → Keeps H g → Keeps H (with_answer number got g).step_state
+  pub by_answer : (got : Received) (g : StepState) → ((d : Delivery) → got ≡ Gives d → Hears number H d g) → Keeps H g → Keeps H (with_answer number got g).step_state
   by_answer (Gives d) g takes h = delivered d g (takes d refl) h
   by_answer Continues g takes h = h
   by_answer (Drops why) g takes h = h
 
+  -- a blank is an entry
+  pub hears : (d : Delivery) (g : StepState) → Takes number H d g → Hears number H d g
+  hears d g takes = record {
+    vote_request = takes.vote_request;
+    append_request = takes.append_request;
+    vote_answer = λ kind one thirty message read asked listed awaited pending.
+        and_blank (TakeVoteAnswer (answer_of d.mark.step d.ident.source asked message.term message.granted))
+        (takes.vote_answer kind one thirty message read asked listed awaited pending);
+    append_answer = λ kind thirty message read asked listed awaited pending.
+        and_blank (TakeAppendAnswer (answer_of d.mark.step d.ident.source asked message.term message.success))
+        (takes.append_answer kind thirty message read asked listed awaited pending);
+  }
+    where
+      and_blank : (move : Move) → Keeps H (with_moves number (given_at g.allocator.now) (move ∷ []) g)
+          → Keeps H (moves_and_blank number (given_at g.allocator.now) (move ∷ []) g)
+      and_blank move h = move_with_blank (Keeps H) number (given_at g.allocator.now) move g h
+          (λ moment. records 0 zeros 0 (with_moves number (given_at g.allocator.now) (move ∷ []) g) moment.leads h)
+
+module _ (number : ℕ) (H : OfServer) (grows : Grows H) where
   -- what holds as a frame comes, and is kept by what it delivers, holds when the step is over
   pub at_frame : Ends number H → (t : AllocatorState) (arrival : Arrival) → Keeps H (when_come t number arrival)
       → ((d : Delivery) → answer (setting_for t.me) t.sessions (record arrival { moment = moment_at t arrival }) ≡ Gives d
@@ -379,5 +430,7 @@ module _ (number : ℕ) (H : OfServer) (grows : Grows H) where
       → Keeps H (step t number (Event.Rx arrival)).step_state
   unfolding step
   at_frame ends t arrival h takes =
-      at_end number H ends (with_answer number (answer (setting_for t.me) t.sessions (record arrival { moment = moment_at t arrival })) (when_come t number arrival)).step_state
-      (by_answer (answer (setting_for t.me) t.sessions (record arrival { moment = moment_at t arrival })) (when_come t number arrival) takes h)
+      let got : Received = answer (setting_for t.me) t.sessions (record arrival { moment = moment_at t arrival }) in
+      let come : StepState = when_come t number arrival in
+      at_end number H ends (with_answer number got come).step_state
+      (by_answer number H (grown number H grows) got come (λ d gives. hears number H (grown number H grows) d come (takes d gives)) h)

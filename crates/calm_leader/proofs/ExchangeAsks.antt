@@ -13,10 +13,9 @@ use Rattle.alloc_spec.specs.AllocatorState.{AllocatorState, members_of}
 use Rattle.alloc_spec.specs.Step.{Event, moment_of, step}
 use Rattle.alloc_spec.specs.Transfers.{Ids, Offer, id_after, id_of, ident_of, kind_of, number_of}
 use Rattle.alloc_spec_laws.specs.Responses.{IsResponse}
-use Rattle.calm_election.proofs.Exchange.{AllGiven, Exchange, Given, IsAnswered}
+use Rattle.calm_leader.proofs.Exchange.{AllGiven, Exchange, Given, IsAnswered, in_one, none_in, of_ones}
 use Rattle.calm_leader.proofs.EntriesRows.{step_or_not}
 use Rattle.calm_leader.proofs.RowsOfOne.{IsLeft, IsReceipt, left_up, receipt_is, stepped_up}
-use Rattle.calm_leader.proofs.TwoSides.{in_one, of_ones}
 use Rattle.cluster_agreement.proofs.Lists.{in_append}
 use Rattle.cluster_calm.specs.Calls.{Lists}
 use Rattle.cluster_calm.specs.Calm.{AreCalm, IsCalmRow, Member as OfMember, Party, Traffic, receives, traffic_after}
@@ -332,8 +331,8 @@ module _ (both : Exchange) where
       one_answer : (offer : Offer) → Sends m w row offer → offer.what ≡ answers → offer.to ≡ n → offer.id ≡ next
       one_answer offer is what to = elim (few answers n (step delivers.server number event).step_state.offers both.heard_answers.0 (both.apart_offers delivers.server number event)) [
         | inl nothing ↦ absurd (subst (λ (l : List Offer). In offer l) nothing (among offer is what to))
-        | inr o ↦ ap (λ (p : Offer). p.id) (in_one o.0 offer all_answers o.1 (among offer is what to)
-            ∙ sym (in_one o.0 its_answer.offer all_answers o.1 (among its_answer.offer sends_it its_answer.what to_n)))
+        | inr o ↦ ap (λ (p : Offer). p.id) (in_one offer o.0 all_answers o.1 (among offer is what to)
+            ∙ sym (in_one its_answer.offer o.0 all_answers o.1 (among its_answer.offer sends_it its_answer.what to_n)))
             ∙ (its_answer.id ∙ counts.0)
       ]
 
@@ -399,6 +398,17 @@ module _ (both : Exchange) where
         only = one_answer d.0 d.1 d.2 d.3;
       })
     ]
+
+    -- this one alone is made, where it is sent in the row
+    pub made_alone : (p : Passes) (offer : Offer) → Sends n w row offer → offer.what ≡ asks → offer.to ≡ m
+        → p.more ≡ record { at = timed.at; transfer = sent_by n w offer } ∷ []
+    made_alone p offer sends what to = elim p.news [
+      | inl none ↦ absurd (none_in x p.more none.0 (p.adds offer sends what to))
+      | inr o ↦ o.1 ∙ ap (λ (z : Made). z ∷ []) (sym (in_one x (record { at = timed.at; transfer = sent_by n w o.0 }) p.more o.1 (p.adds offer sends what to)))
+    ]
+      where
+        x : Made
+        x = record { at = timed.at; transfer = sent_by n w offer }
 
     -- what is under way was made two delays ago at most
     pub in_time : (x : Made) → In x a.xs → timed.at ≤ x.at + 2 * pace.delay

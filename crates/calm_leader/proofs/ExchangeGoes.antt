@@ -3,12 +3,12 @@ use Rattle.std.proofs.Common.{ℕ, ◌+◌, ◌*◌, ◌≤◌, List, [], ◌∷
 use Rattle.std.specs.Prelude.{◌⊎◌}
 use Rattle.raft_model.specs.Lists.{In}
 use Rattle.alloc_spec.specs.Transfers.{id_after, id_of}
-use Rattle.calm_election.proofs.Exchange.{AllGiven, Exchange}
-use Rattle.calm_election.proofs.ExchangeAnswers as replies
-use Rattle.calm_election.proofs.ExchangeAnswers.{Answering}
-use Rattle.calm_election.proofs.ExchangeAsks as questions
-use Rattle.calm_election.proofs.ExchangeAsks.{Asking}
-use Rattle.calm_election.proofs.ExchangeStart.{Fresh, answering, asking}
+use Rattle.calm_leader.proofs.Exchange.{AllGiven, Exchange}
+use Rattle.calm_leader.proofs.ExchangeAnswers as replies
+use Rattle.calm_leader.proofs.ExchangeAnswers.{Answering}
+use Rattle.calm_leader.proofs.ExchangeAsks as questions
+use Rattle.calm_leader.proofs.ExchangeAsks.{Asking}
+use Rattle.calm_leader.proofs.ExchangeStart.{Fresh, answering, asking}
 use Rattle.cluster_calm.specs.Calm.{AreCalm, Traffic, no_traffic, traffic_after}
 use Rattle.cluster_calm.proofs.Group.{AreWell, well_after}
 use Rattle.cluster_calm.proofs.Pending.{Made}

@@ -5,11 +5,11 @@ use Rattle.std.specs.Prelude.{⊤, ◌⊎◌}
 use Rattle.can_frame.specs.declared.step.What.{What}
 use Rattle.raft_model.specs.Lists.{In}
 use Rattle.alloc_spec.specs.Transfers.{Offer}
-use Rattle.calm_election.proofs.Exchange.{Exchange}
-use Rattle.calm_election.proofs.ExchangeAnswers.{IsSilent, in_one, none_in}
-use Rattle.calm_election.proofs.ExchangeGoes as goes
-use Rattle.calm_election.proofs.ExchangeGoes.{Going, a_row, a_then, answered_in_time, asked_in_time, goes_on, q_row, q_then}
-use Rattle.calm_election.proofs.ExchangeStart.{Fresh}
+use Rattle.calm_leader.proofs.Exchange.{Exchange, in_one, none_in}
+use Rattle.calm_leader.proofs.ExchangeAnswers.{IsSilent}
+use Rattle.calm_leader.proofs.ExchangeGoes as goes
+use Rattle.calm_leader.proofs.ExchangeGoes.{Going, a_row, a_then, answered_in_time, asked_in_time, goes_on, q_row, q_then}
+use Rattle.calm_leader.proofs.ExchangeStart.{Fresh}
 use Rattle.cluster_agreement.proofs.Lists.{in_append}
 use Rattle.cluster_calm.specs.Comes.{Sends, sent_by}
 use Rattle.cluster_calm.proofs.Pending.{Made}

@@ -1,5 +1,5 @@
 -- Two members of a calm, of which the one asks and the other answers: append requests, or vote requests.
-use Rattle.std.proofs.Common.{◌≡◌, ◌≢◌, ℕ, ◌*◌, ◌≤◌, List, [], ◌∷◌, ◌++◌}
+use Rattle.std.proofs.Common.{◌≡◌, ◌≢◌, ℕ, ◌+◌, ◌*◌, ◌≤◌, List, [], ◌∷◌, ◌++◌, subst, inl, inr, Some}
 use Rattle.std.specs.Prelude.{⊤}
 use Rattle.can_frame.specs.declared.identifier.Kind.TheVariants.{Request as RequestKind, Response}
 use Rattle.can_frame.specs.declared.step.What.{What}
@@ -9,15 +9,38 @@ use Rattle.alloc_spec.specs.AllocatorState.{members_of}
 use Rattle.alloc_spec.specs.AllocatorState.{AllocatorState}
 use Rattle.alloc_spec.specs.Step.{Event, step}
 use Rattle.alloc_spec.specs.Transfers.{Offer, SentTransfer, kind_of, number_of}
+use Rattle.alloc_spec_laws.proofs.Choices.{and_left, and_right}
 use Rattle.alloc_spec_laws.specs.Apart.{AreAllApart}
 use Rattle.calm_leader.specs.CallsComeBack.{HasPlace}
 use Rattle.cluster_calm.specs.Calm.{Member as OfMember, Party}
 use Rattle.cluster_calm.specs.Comes.{Delivers, HasMemory, IsHeard, Sends, sent_by}
-use Rattle.cluster_calm.proofs.Counting.{IsCounted}
+use Rattle.cluster_calm.proofs.Counting.{IsCounted, is_one, is_to, is_to_true, ones}
 use Rattle.cluster_calm.proofs.Group.{CalmLaws}
+use Rattle.cluster_calm.proofs.Pair.{out_ones}
 use Rattle.cluster_recovery.specs.Calm.{Pace, Timed, rows_in}
-use Rattle.cluster_spec.specs.Cluster.{Cluster, after_row, after_rows}
+use Rattle.cluster_spec.specs.Cluster.{Cluster, after_row, after_rows, step_of}
 use Rattle.cluster_spec.specs.Members.MemberStatus.{Up}
+
+-- ---- small facts
+
+pub none_in : {A : Type 0} (x : A) (l : List A) → l ≡ [] → In x l → ⊥
+none_in {A = A} x l e i = subst (λ (k : List A). In x k) e i
+
+pub in_one : {A : Type 0} (x y : A) (l : List A) → l ≡ y ∷ [] → In x l → x ≡ y
+in_one {A = A} x y l e i = elim (subst (λ (k : List A). In x k) e i) [ inl same ↦ same | inr j ↦ absurd j ]
+
+-- the offers of a kind in a step are sent
+pub of_ones : (p : ℕ) (w : Cluster) (row : Row) (s : AllocatorState) → (w.member p).status ≡ Up s → (event : Event) → step_of w row ≡ Some (p, event) → (what : What) (to : ℕ) (o : Offer)
+    → In o (ones what to (step s (w.rows + 1) event).step_state.offers) → Sends p w row o × (o.what ≡ what) × (o.to ≡ to)
+of_ones p w row s up event is_step what to o i =
+    let r = out_ones (is_one what to) (step s (w.rows + 1) event).step_state.offers o i in
+    let is = is_to_true what to o (and_right o.fitted (is_to what to o) r.1) in (
+      record { server = s; runs = up; event = event; in_step = is_step; offered = r.0; fitted = and_left o.fitted (is_to what to o) r.1 },
+      is.0,
+      is.1,
+    )
+
+-- ---- the two
 
 -- In this row, in which the request x is delivered to it, member m answers: to who asked, under the transfer ID of the
 -- request; and this holds of its server before the row, and of the answer.

@@ -8,10 +8,11 @@ use Rattle.replay_text.specs.declared.row.Row.{Row}
 use Rattle.alloc_spec.specs.AllocatorState.{AllocatorState, members_of}
 use Rattle.alloc_spec.specs.Step.{Event}
 use Rattle.alloc_spec.specs.Transfers.{Offer}
-use Rattle.calm_election.proofs.Exchange.{Exchange}
-use Rattle.calm_election.proofs.ExchangeAnswers as replies
-use Rattle.calm_election.proofs.ExchangeAnswers.{AreSilent, Comes, IsSilent, behind_first, comes, in_one, in_split, more_behind, no_first, none_in, none_is_some, same_first}
-use Rattle.calm_election.proofs.ExchangeGoes.{BringsA, BringsQ, Going, PassesA, PassesQ, a_row, a_then, asked_in_time, goes_on, q_row}
+use Rattle.calm_leader.proofs.Exchange.{Exchange}
+use Rattle.calm_leader.proofs.ExchangeAnswers as replies
+use Rattle.calm_leader.proofs.ExchangeAnswers.{AreSilent, Comes, IsSilent, behind_first, comes, in_split, more_behind, no_first, none_is_some, same_first}
+use Rattle.calm_leader.proofs.ExchangeAsks as questions
+use Rattle.calm_leader.proofs.ExchangeGoes.{BringsA, BringsQ, Going, PassesA, PassesQ, a_row, a_then, asked_in_time, goes_on, q_row}
 use Rattle.calm_leader.specs.CallsComeBack.{HasPlace}
 use Rattle.cluster_calm.specs.Comes.{Delivers, Sends, sent_by}
 use Rattle.cluster_calm.proofs.Pair.{same_server, same_stepper}
@@ -56,7 +57,7 @@ module _ (both : Exchange) where
 
   module _ (w : Cluster) (timed : Timed) (rest : List Timed) (g : Going both w (timed ∷ rest)) where
     -- where no request is delivered, and no answer is under way, none is behind the row, and none comes in it
-    still_none : PassesQ both w timed rest g → (of_a : PassesA both w timed rest g ⊎ BringsA both w timed rest g)
+    pub still_none : PassesQ both w timed rest g → (of_a : PassesA both w timed rest g ⊎ BringsA both w timed rest g)
         → g.a.xs ≡ [] → ((a_then both w timed rest g of_a).xs ≡ []) × IsSilent both w timed.row
     still_none p (inl r) empty = (
       r.xs_are ∙ (λ i. empty i ++ none i),
@@ -124,7 +125,7 @@ module _ (both : Exchange) where
   -- ---- the rows of a calm
 
   -- a request that is under way comes back
-  back : (Alone : Type 0) (x : Made) (rows : List Timed) (before others : List Made) (w : Cluster) (g : Going both w rows) → g.q.xs ≡ before ++ x ∷ others
+  pub back : (Alone : Type 0) (x : Made) (rows : List Timed) (before others : List Made) (w : Cluster) (g : Going both w rows) → g.q.xs ≡ before ++ x ∷ others
       → (Alone → (before ≡ []) × (g.a.xs ≡ [])) → (at : ℕ) → at ≤ x.at + 2 * pace.delay → x.at + 4 * pace.delay < end_of at rows → ComesBack Alone x w rows
   back Alone x [] before others w g split alone at past long = absurd (omega (arith, past, long))
   back Alone x (timed ∷ rest) [] others w g split alone at past long = elim (q_row both w timed rest g) [
@@ -161,18 +162,13 @@ module _ (both : Exchange) where
     abbrev x : Made
     x = record { at = timed.at; transfer = sent_by n w offer }
 
-    made_alone : (p : PassesQ both w timed rest g) → p.more ≡ x ∷ []
-    made_alone p = elim p.news [
-      | inl none ↦ absurd (none_in x p.more none.0 (p.adds offer sends what to))
-      | inr o ↦ o.1 ∙ ap (λ (z : Made). z ∷ []) (sym (in_one x (record { at = timed.at; transfer = sent_by n w o.0 }) p.more o.1 (p.adds offer sends what to)))
-    ]
-
     pub comes_back : ComesBack Alone x w (timed ∷ rest)
     comes_back = elim (q_row both w timed rest g) [
       | inl p ↦
           let a = a_row both w timed rest g in
           row_earlier w timed rest g Alone x (λ is. (still_none w timed rest g p a (alone is).1).1)
-          (back Alone x rest g.q.xs [] (after_row w timed.row) (goes_on both w timed rest g (inl p) a) (p.xs_are ∙ ap (λ (l : List Made). g.q.xs ++ l) (made_alone p))
+          (back Alone x rest g.q.xs [] (after_row w timed.row) (goes_on both w timed rest g (inl p) a) (p.xs_are ∙ ap (λ (l : List Made). g.q.xs ++ l)
+          (questions.made_alone both g.traffic w g.next g.q timed rest g.calm g.are g.given.0 p offer sends what to))
           (λ is. ((alone is).0, (still_none w timed rest g p a (alone is).1).0)) timed.at (omega arith) long)
       | inr d ↦ absurd (both.apart (same_stepper n m sends.event (receipt_of w d.delivers.k d.delivers.ms)
           (sym sends.in_step ∙ ap (λ (r : Row). step_of w r) d.delivers.comes)))

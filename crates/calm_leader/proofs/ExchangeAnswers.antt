@@ -14,9 +14,8 @@ use Rattle.alloc_spec.specs.AllocatorState.{AllocatorState}
 use Rattle.alloc_spec.specs.Step.{Event, step}
 use Rattle.alloc_spec.specs.Transfers.{Offer, SentTransfer, ident_of}
 use Rattle.alloc_spec_laws.proofs.Lists.{in_back}
-use Rattle.calm_election.proofs.Exchange.{AllGiven, Exchange, Given}
+use Rattle.calm_leader.proofs.Exchange.{AllGiven, Exchange, Given, in_one, none_in, of_ones}
 use Rattle.calm_leader.proofs.EntriesRows.{step_or_not}
-use Rattle.calm_leader.proofs.TwoSides.{of_ones}
 use Rattle.cluster_calm.specs.Calm.{AreCalm, IsCalmRow, Member as OfMember, Party, Traffic, receives, traffic_after}
 use Rattle.cluster_calm.specs.Comes.{Delivers, IsHeard, NoneRepeats, Sends, delivery_of, sent_by}
 use Rattle.cluster_calm.proofs.Counting.{ones}
@@ -57,12 +56,6 @@ more_behind x before others more xs later is split = is ∙ (ap (λ (l : List Ma
 
 pub in_split : (x : Made) (before others xs : List Made) → xs ≡ before ++ x ∷ others → In x xs
 in_split x before others xs split = subst (λ (l : List Made). In x l) (sym split) (in_back x before (x ∷ others) (inl refl))
-
-pub none_in : (x : Made) (l : List Made) → l ≡ [] → In x l → ⊥
-none_in x l e i = subst (λ (k : List Made). In x k) e i
-
-pub in_one : (x y : Made) (l : List Made) → l ≡ y ∷ [] → In x l → x ≡ y
-in_one x y l e i = elim (subst (λ (k : List Made). In x k) e i) [ inl same ↦ same | inr j ↦ absurd j ]
 
 -- ---- the answers that are under way
 

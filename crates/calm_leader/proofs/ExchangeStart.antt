@@ -6,9 +6,9 @@ use Rattle.transfer_rx.specs.Keys.{key_of}
 use Rattle.transfer_tx.specs.Queue.{Queued}
 use Rattle.alloc_spec.specs.AllocatorState.{AllocatorState}
 use Rattle.alloc_spec.specs.Transfers.{Offer, id_of, ident_of}
-use Rattle.calm_election.proofs.Exchange.{AllGiven, Exchange}
-use Rattle.calm_election.proofs.ExchangeAnswers.{Answering}
-use Rattle.calm_election.proofs.ExchangeAsks.{Asking, none_repeats}
+use Rattle.calm_leader.proofs.Exchange.{AllGiven, Exchange}
+use Rattle.calm_leader.proofs.ExchangeAnswers.{Answering}
+use Rattle.calm_leader.proofs.ExchangeAsks.{Asking, none_repeats}
 use Rattle.calm_leader.specs.CallsComeBack.{HasPlace}
 use Rattle.cluster_calm.specs.Calls.{Lists}
 use Rattle.cluster_calm.specs.Calm.{AreCalm, IsRunning, Member as OfMember, Traffic, no_traffic, traffic_after}
