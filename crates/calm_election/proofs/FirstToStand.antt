@@ -15,7 +15,8 @@ use Rattle.calm_election.specs.Terms.{NobodyLeads, NobodyStandsAbove}
 use Rattle.calm_election.specs.Votes.{Stands}
 use Rattle.calm_election.specs.Waits.{HasTermLeft}
 use Rattle.calm_election.proofs.OpenedMembers.{AllAsOpened, later, plain_after, row_comes}
-use Rattle.calm_election.proofs.PlainFrames.{AllHold, IsPlainOfGroup}
+use Rattle.calm_leader.proofs.FramesFly.{Fly}
+use Rattle.calm_election.proofs.PlainFrames.{IsPlainOfGroup}
 use Rattle.cluster_spec.specs.Cluster.{Cluster, after_row, after_rows}
 use Rattle.cluster_spec.specs.Members.MemberStatus.{Up}
 
@@ -78,7 +79,7 @@ module _ (laws : CalmLaws) (frames_leave : FramesLeaveFollowers)
   module _ (m due : ℕ) (over : WaitIsOver clocks m due began) (in_m : In (OfMember m) group) (began_so : (s : AllocatorState) × ((began.member m).status ≡ Up s)) where
     -- row by row, until a member stands
     pub find : (list : List Timed) (traffic : Traffic) (w : Cluster) → AreCalm group clocks pace traffic w list → AreWell group w → AllAreSo traffic.at w
-        → ((party : Party) → AllHold group (IsPlainOfGroup group) w.frames (traffic.to party)) → Throughout (HasTermLeft m) w list
+        → ((party : Party) → Fly (IsPlainOfGroup group) w.frames (traffic.to party)) → Throughout (HasTermLeft m) w list
         → traffic.at ≤ due + pace.period → traffic.ticked (OfMember m) ≤ due → due + pace.period < end_of traffic.at list
         → IsFound group clocks (due + pace.period) began w list
     find [] traffic w calm are all flies left soon at_last long = absurd (omega (arith, soon, long))

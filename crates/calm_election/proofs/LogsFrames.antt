@@ -1,6 +1,6 @@
 -- No append request is on its way in a calm, where none waits when it begins, and nobody leads.
-use Rattle.std.proofs.Common.{◌≡◌, ◌≢◌, ℕ, ◌≤◌, Bool, true, false, not, List, [], ◌∷◌, ◌++◌, refl, sym, ◌∙◌, ap, subst, inl, inr, arith, Option, None, Some}
-use Rattle.std.specs.Prelude.{◌⊎◌, ◌==◌, ◌&&◌, ◌||◌, drop, is_some, nat_eq, if◌then◌else◌}
+use Rattle.std.proofs.Common.{◌≡◌, ◌≢◌, ℕ, ◌≤◌, Bool, true, List, [], ◌∷◌, sym, ◌∙◌, ap, subst, inl, inr, arith, Some}
+use Rattle.std.specs.Prelude.{◌⊎◌, if◌then◌else◌}
 use Rattle.std.proofs.lemmas.Bool.Decides.{eqb_tells}
 use Rattle.can_frame.specs.declared.identifier.Ident.{Ident}
 use Rattle.can_frame.specs.declared.identifier.Kind.TheVariants.{Request as RequestKind}
@@ -10,10 +10,8 @@ use Rattle.can_frame.specs.Kinds.{is_service}
 use Rattle.raft_model.specs.Lists.{In}
 use Rattle.raft_model.specs.Server.Role.{Leader}
 use Rattle.replay_text.specs.declared.row.Row.{Row}
-use Rattle.replay_text.specs.declared.row.Row.TheVariants.{AEnd, AOpen, ARx, ASend, ATick, Crash, Ext, Fault, Open, Rx, Send, Tick}
 use Rattle.transfer_rx.specs.Acceptance.{is_for}
 use Rattle.transfer_rx.specs.Reassembly.{Arrival, Delivery, Gives, answer}
-use Rattle.transfer_rx.specs.Sound.{IsDelivered}
 use Rattle.transfer_tx.specs.Queue.{Queued}
 use Rattle.transfer_tx.specs.Run.{of_identifier}
 use Rattle.allocatee.specs.Given.{IsAnonymous}
@@ -23,21 +21,20 @@ use Rattle.alloc_spec.specs.Step.{Event, step}
 use Rattle.alloc_spec.specs.Transfers.{ident_of}
 use Rattle.alloc_spec_laws.specs.Sound.{IsOnTheBus}
 use Rattle.alloc_spec_laws.specs.Waiting.{all_frames_put}
-use Rattle.alloc_spec_laws.proofs.Choices.{and_right, eq_false, not_true}
 use Rattle.cluster_agreement.specs.LawsBelow.{FrameLaws}
-use Rattle.cluster_agreement.proofs.Idents.{ident_ok, service_is, wanted_is}
+use Rattle.cluster_agreement.proofs.Idents.{IsWanted, ident_ok, service_is}
+use Rattle.calm_leader.proofs.HeardIdents.{is_wanted, not_own}
 use Rattle.cluster_agreement.proofs.Lists.{in_append}
 use Rattle.cluster_agreement.proofs.MadeTransfers.{frame_put, made_by}
 use Rattle.cluster_agreement.proofs.TakenMessages.{is_append_request}
-use Rattle.cluster_recovery.specs.Calm.{IsNext, OnItsWay, Pace, next_on_bus}
-use Rattle.cluster_calm.specs.Calm.{Device as OfDevice, IsCalmRow, Member as OfMember, Party, Traffic, on_way_after}
+use Rattle.cluster_recovery.specs.Calm.{OnItsWay, Pace}
+use Rattle.cluster_calm.specs.Calm.{IsCalmRow, Member as OfMember, Party, Traffic, on_way_after}
 use Rattle.cluster_calm.proofs.Frames.{has_its_id}
 use Rattle.cluster_calm.proofs.Group.{AreWell, CalmLaws, IsOf, IsServer, sent_anonymous, sent_own}
 use Rattle.cluster_calm.proofs.Others.{some_ident}
-use Rattle.cluster_calm.proofs.Ways.{Flying, flying_more, flying_other}
+use Rattle.calm_leader.proofs.FramesFly.{Fly, fly_after}
 use Rattle.calm_leader.specs.CallsAsk.{CallsAskNext}
-use Rattle.cluster_spec.specs.Allocatees.{next_from}
-use Rattle.cluster_spec.specs.Cluster.{Cluster, after_row, frame_at, in_list}
+use Rattle.cluster_spec.specs.Cluster.{Cluster, after_row}
 use Rattle.cluster_spec.specs.Members.{next_frame}
 
 -- ---- frames
@@ -71,27 +68,17 @@ none_has id frame frames none i e = absurd (subst (λ (l : List Queued). In fram
 
 -- ---- what a receiver hears
 
--- a receiver hears nothing of its own
-not_own : (me : ℕ) (ident : Ident) → 1 ≤ me → is_for me ident ≡ true → ident.source ≢ me
-not_own me ident low e = elim (eqb_tells me 0) [
-  | inl z ↦ absurd (omega (arith, z.1, low))
-  | inr z ↦
-      let other : (not (is_service ident.kind && not (nat_eq ident.dest me)) && not (nat_eq ident.source me)) ≡ true
-      = subst (λ (b : Bool). (b || (not (is_service ident.kind && not (nat_eq ident.dest me)) && not (nat_eq ident.source me))) ≡ true) z.0 e in
-      eq_false ident.source me (not_true (nat_eq ident.source me) (and_right (not (is_service ident.kind && not (nat_eq ident.dest me))) (not (nat_eq ident.source me)) other))
-]
-
 module _ (frame : FrameLaws) (group : List Party) (nodes : (p : ℕ) → In (OfMember p) group → (1 ≤ p) × (p ≤ 125)) (m : ℕ) (in_m : In (OfMember m) group)
     (t : AllocatorState) (me : t.me ≡ m) (f : Queued) (arrival : Arrival) (its_frame : arrival.id ≡ f.id) (d : Delivery)
     (gives : answer (setting_for t.me) t.sessions arrival ≡ Gives d) where
-  its : IsDelivered (setting_for t.me) t.sessions arrival d
-  its = frame.delivered (setting_for t.me) t.sessions arrival d gives
+  wants : IsWanted rows t.me arrival.id d.ident
+  wants = is_wanted frame t.me t.sessions arrival d gives
 
   reads : identifier_of f.id ≡ Some d.ident
-  reads = sym (ap identifier_of its_frame) ∙ ((wanted_is rows t.me arrival.id its.w its.accepted).read ∙ ap (λ (i : Ident). Some i) (sym its.ident))
+  reads = sym (ap identifier_of its_frame) ∙ wants.read
 
   for_me : is_for m d.ident ≡ true
-  for_me = subst (λ (n : ℕ). is_for n d.ident ≡ true) me (ap (is_for t.me) its.ident ∙ (wanted_is rows t.me arrival.id its.w its.accepted).for_me)
+  for_me = subst (λ (n : ℕ). is_for n d.ident ≡ true) me wants.for_me
 
   is_call : d.ident.kind ≡ RequestKind → d.ident.number ≡ 30 → ComesUncalled group f → ⊥
   is_call kind thirty (inl (p, i, is, no_call)) =
@@ -146,70 +133,14 @@ module _ (laws : CalmLaws) (asks : CallsAskNext) (group : List Party) (nodes : (
 
 module _ (group : List Party) where
   abbrev pub AreUncalled : List Queued → List OnItsWay → Type 0
-  AreUncalled frames ways = Flying (ComesUncalled group) 0 frames ways []
+  AreUncalled frames ways = Fly (ComesUncalled group) frames ways
 
-  drop_first : (frames : List Queued) (ways : List OnItsWay) → AreUncalled frames ways → AreUncalled frames (drop 1 ways)
-  drop_first frames [] h = h
-  drop_first frames (way ∷ ways) (low, high, inl o) = o.1
-  drop_first frames (way ∷ ways) (low, high, inr o) = absurd (cc (o.2))
-
-  -- the one that comes next
-  pub next_uncalled : (frames : List Queued) (k : ℕ) (ways : List OnItsWay) → IsNext k ways → AreUncalled frames ways → ComesUncalled group (frame_at frames k)
-  next_uncalled frames k [] is_next h = absurd is_next
-  next_uncalled frames k (way ∷ ways) is_next (low, high, inl o) = subst (λ (n : ℕ). ComesUncalled group (frame_at frames n)) (sym is_next) o.0
-  next_uncalled frames k (way ∷ ways) is_next (low, high, inr o) = absurd (cc (o.2))
-
-  module _ (laws : CalmLaws) (nodes : (p : ℕ) → In (OfMember p) group → (1 ≤ p) × (p ≤ 125)) (clocks : Party → ℕ) (pace : Pace) (traffic : Traffic)
-      (w : Cluster) (are : AreWell group w)
-      (sent_none : (p : ℕ) → In (OfMember p) group → (frame : Queued) → next_frame (w.member p).status ≡ Some frame → IsNoCall group p frame)
-      (flies : (party : Party) → AreUncalled w.frames (traffic.to party)) (moment : ℕ) where
-    -- such a frame comes to the bus: it is on its way to the party, or the party sent it
-    goes_out : (g : Queued) → ComesUncalled group g → (mine : Bool) (party : Party) → (o : Option Queued) → o ≡ Some g
-        → AreUncalled (w.frames ++ in_list o) (if not mine then traffic.to party ++ next_on_bus moment w ∷ [] else traffic.to party)
-    goes_out g is mine party o e = subst (λ (other : Option Queued). AreUncalled (w.frames ++ in_list other)
-        (if not mine then traffic.to party ++ next_on_bus moment w ∷ [] else traffic.to party))
-        (sym e) (by mine)
-      where
-        by : (b : Bool) → AreUncalled (w.frames ++ g ∷ []) (if not b then traffic.to party ++ next_on_bus moment w ∷ [] else traffic.to party)
-        by true = flying_more (ComesUncalled group) 0 w.frames g (traffic.to party) [] (flies party)
-        by false = flying_other (ComesUncalled group) 0 w.frames g moment (traffic.to party) [] is (flies party)
-
-    some_goes : (o : Option Queued) → is_some o ≡ true → (g : Queued) × (o ≡ Some g)
-    some_goes None e = absurd (cc (e))
-    some_goes (Some g) e = (g, refl)
-
-    comes : (mine : Bool) (party : Party) → AreUncalled w.frames (if mine then drop 1 (traffic.to party) else traffic.to party)
-    comes true party = drop_first w.frames (traffic.to party) (flies party)
-    comes false party = flies party
-
-    -- so it is after each calm row
-    pub uncalled_after : (row : Row) → IsCalmRow group clocks pace traffic w moment row → (party : Party)
-        → AreUncalled (after_row w row).frames (on_way_after moment w row party (traffic.to party))
-    uncalled_after (Tick n ms word) calm party = flies party
-    uncalled_after (Rx n k ms) calm (OfMember m) = comes (n == m) (OfMember m)
-    uncalled_after (Rx n k ms) calm (OfDevice b) = flies (OfDevice b)
-    uncalled_after (Send n) calm party =
-        let some = some_goes (next_frame (w.member n).status) calm.1 in
-        by some.0 some.1 (inl (n, calm.0, sent_own laws n (w.member n) some.0 (are.members n calm.0) some.1, sent_none n calm.0 some.0 some.1)) party
-      where
-        by : (g : Queued) → next_frame (w.member n).status ≡ Some g → ComesUncalled group g → (party : Party)
-            → AreUncalled (after_row w (Send n)).frames (on_way_after moment w (Send n) party (traffic.to party))
-        by g e is (OfMember m) = goes_out g is (n == m) (OfMember m) (next_frame (w.member n).status) e
-        by g e is (OfDevice b) = goes_out g is false (OfDevice b) (next_frame (w.member n).status) e
-    uncalled_after (ATick a ms word) calm party = flies party
-    uncalled_after (ARx a k ms word) calm (OfMember m) = flies (OfMember m)
-    uncalled_after (ARx a k ms word) calm (OfDevice b) = comes (a == b) (OfDevice b)
-    uncalled_after (ASend a) calm party =
-        let some = some_goes (next_from (w.allocatee a)) calm.1 in
-        by some.0 some.1 (inr (sent_anonymous laws group nodes w are a some.0 calm.0 some.1)) party
-      where
-        by : (g : Queued) → next_from (w.allocatee a) ≡ Some g → ComesUncalled group g → (party : Party)
-            → AreUncalled (after_row w (ASend a)).frames (on_way_after moment w (ASend a) party (traffic.to party))
-        by g e is (OfMember m) = goes_out g is false (OfMember m) (next_from (w.allocatee a)) e
-        by g e is (OfDevice b) = goes_out g is (a == b) (OfDevice b) (next_from (w.allocatee a)) e
-    uncalled_after (Open n told ms word) calm party = absurd calm
-    uncalled_after (Ext frame) calm party = absurd calm
-    uncalled_after (Crash n calls pattern) calm party = absurd calm
-    uncalled_after (Fault n call) calm party = absurd calm
-    uncalled_after (AOpen a uid pref ms word) calm party = absurd calm
-    uncalled_after (AEnd a) calm party = absurd calm
+  -- it is so after each calm row
+  pub uncalled_after : CalmLaws → ((p : ℕ) → In (OfMember p) group → (1 ≤ p) × (p ≤ 125)) → (clocks : Party → ℕ) (pace : Pace) (traffic : Traffic)
+      (w : Cluster) → AreWell group w
+      → ((p : ℕ) → In (OfMember p) group → (frame : Queued) → next_frame (w.member p).status ≡ Some frame → IsNoCall group p frame)
+      → ((party : Party) → AreUncalled w.frames (traffic.to party)) → (moment : ℕ) (row : Row) → IsCalmRow group clocks pace traffic w moment row → (party : Party)
+      → AreUncalled (after_row w row).frames (on_way_after moment w row party (traffic.to party))
+  uncalled_after laws nodes clocks pace traffic w are sent_none flies moment row calm = fly_after (ComesUncalled group) group clocks pace traffic w flies moment row calm
+      (λ n g i is e. inl (n, i, sent_own laws n (w.member n) g (are.members n i) e, sent_none n i g e))
+      (λ a g i is e. inr (sent_anonymous laws group nodes w are a g i e))

@@ -23,7 +23,8 @@ use Rattle.cluster_calm.specs.Comes.{Throughout}
 use Rattle.cluster_calm.proofs.Group.{AreWell, CalmLaws, IsServer, narrow_on_bus, well_after}
 use Rattle.calm_election.specs.Terms.{NoAppendWaits, NobodyLeads}
 use Rattle.calm_election.specs.Votes.{HearsAppend}
-use Rattle.calm_election.proofs.LogsFrames.{AreUncalled, HasNoCall, next_uncalled, no_call_comes, none_has, queue_stepped, uncalled_after}
+use Rattle.calm_leader.proofs.FramesFly.{next_is}
+use Rattle.calm_election.proofs.LogsFrames.{AreUncalled, HasNoCall, ComesUncalled, no_call_comes, none_has, queue_stepped, uncalled_after}
 use Rattle.calm_election.proofs.TermsMembers.{AllHold, all_after, all_hold, it_holds, one_server, up_then}
 use Rattle.calm_election.proofs.TermsMoves.{HasLog}
 use Rattle.calm_election.proofs.TermsSteps.{log_at_frame, log_at_tick}
@@ -57,7 +58,7 @@ module _ (laws : CalmLaws) (asks : CallsAskNext) (group : List Party) (nodes : (
       → d.ident.kind ≡ RequestKind → d.ident.number ≡ 30 → ⊥
   uncalled w whole goes p k ms i next t me d gives = no_call_comes laws.frame group nodes p i t me (frame_at w.frames k)
       (record (arrival_at (frame_at w.frames k) ms) { moment = moment_at t (arrival_at (frame_at w.frames k) ms) }) refl d gives
-      (next_uncalled group w.frames k (goes.traffic.to (OfMember p)) next (goes.flies (OfMember p)))
+      (next_is (ComesUncalled group) w.frames k (goes.traffic.to (OfMember p)) next (goes.flies (OfMember p)))
 
   -- behind one row, where nobody leads then
   one_on : (timed : Timed) (rest : List Timed) (w : Cluster) → GoesOn w (timed ∷ rest) → NobodyLeads group (after_row w timed.row) → GoesOn (after_row w timed.row) rest

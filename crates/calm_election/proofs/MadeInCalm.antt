@@ -32,7 +32,7 @@ use Rattle.cluster_calm.proofs.Group.{AreWell, CalmLaws, IsOf, sent_anonymous, s
 use Rattle.cluster_calm.proofs.Others.{some_ident}
 use Rattle.cluster_calm.proofs.Pair.{same_server}
 use Rattle.calm_election.specs.Waits.{GivesVote}
-use Rattle.calm_election.proofs.PlainFrames.{AllHold, hold_after, next_holds}
+use Rattle.calm_leader.proofs.FramesFly.{Fly, fly_after, next_is}
 use Rattle.calm_election.proofs.WaitsRows.{Takes, takes}
 use Rattle.cluster_spec.specs.Cluster.{Cluster, after_row, after_rows, arrival_at, frame_at, receipt_of, step_of, tick_of}
 use Rattle.cluster_spec.specs.Lawful.{DoNoHarm, DoesNoHarm, is_forged, is_forged_by}
@@ -158,7 +158,7 @@ module _ (laws : CalmLaws) (group : List Party) (nodes : (p : ℕ) → In (OfMem
     pub traffic : Traffic
     pub calm : AreCalm group clocks pace traffic w whole
     pub are : AreWell group w
-    pub flies : (party : Party) → AllHold group IsNewOfGroup w.frames (traffic.to party)
+    pub flies : (party : Party) → Fly IsNewOfGroup w.frames (traffic.to party)
     pub new : AreNew w
 
   stepped_new : (t : AllocatorState) (number : ℕ) (event : Event) → since < number → ((frame : Queued) → In frame t.queue → since < frame.mark.step)
@@ -199,10 +199,10 @@ module _ (laws : CalmLaws) (group : List Party) (nodes : (p : ℕ) → In (OfMem
     traffic = traffic_after r.traffic w timed;
     calm = r.calm.2;
     are = then_are;
-    flies = λ party. hold_after group IsNewOfGroup clocks pace r.traffic w r.flies timed.at
-        (λ n g i e. let well = r.are.members n i in
+    flies = fly_after IsNewOfGroup group clocks pace r.traffic w r.flies timed.at timed.row r.calm.1
+        (λ n g i is e. let well = r.are.members n i in
         inl (n, i, sent_own laws n (w.member n) g well e, r.new.queues n i well.server well.up.status g (out_of_queue well.server.queue g (sym (ap next_frame well.up.status) ∙ e))))
-        (λ a g i e. inr (sent_anonymous laws group nodes w r.are a g i e)) timed.row r.calm.1 party;
+        (λ a g i is e. inr (sent_anonymous laws group nodes w r.are a g i e));
     new = new_after w timed.row r.are then_are harm.0 r.new;
   }) harm.1
     where
@@ -225,7 +225,7 @@ module _ (laws : CalmLaws) (group : List Party) (nodes : (p : ℕ) → In (OfMem
     comes_new made run one harm = by frame_new
       where
         frame_new : IsNewOfGroup (frame_at w.frames gives.k)
-        frame_new = next_holds group IsNewOfGroup w.frames gives.k (r.traffic.to (OfMember f))
+        frame_new = next_is IsNewOfGroup w.frames gives.k (r.traffic.to (OfMember f))
             (subst (λ (row : Row). IsCalmRow group clocks pace r.traffic w timed.at row) gives.comes r.calm.1).2 (r.flies (OfMember f))
 
         arrival : Arrival

@@ -30,7 +30,8 @@ use Rattle.cluster_calm.proofs.Pair.{same_server}
 use Rattle.calm_election.specs.Elections.{WaitIsOver}
 use Rattle.calm_election.specs.Votes.{Stands}
 use Rattle.calm_election.specs.Waits.{HasTermLeft}
-use Rattle.calm_election.proofs.PlainFrames.{AllHold, IsPlain, IsPlainOfGroup, follower_asks_none, hold_after, next_holds, plain_delivery}
+use Rattle.calm_leader.proofs.FramesFly.{Fly, fly_after, next_is}
+use Rattle.calm_election.proofs.PlainFrames.{IsPlain, IsPlainOfGroup, follower_asks_none, plain_delivery}
 use Rattle.calm_election.proofs.WaitsFrames.{Left, Why, frame_leaves}
 use Rattle.calm_election.proofs.WaitsRows.{is_candidate_then, knows_then}
 use Rattle.calm_election.proofs.WaitsStand.{stands_now}
@@ -121,7 +122,7 @@ module _ (laws : CalmLaws) (frames_leave : FramesLeaveFollowers)
   }
 
   module _ (traffic : Traffic) (w : Cluster) (moved : ℕ) (are : AreWell group w) (all : AllAsOpened moved w)
-      (flies : (party : Party) → AllHold group (IsPlainOfGroup group) w.frames (traffic.to party)) where
+      (flies : (party : Party) → Fly (IsPlainOfGroup group) w.frames (traffic.to party)) where
     -- the server of a member is its own
     its_server : (p : ℕ) → (i : In (OfMember p) group) → IsServer p (all p i).server
     its_server p i = let well = are.members p i in
@@ -232,8 +233,8 @@ module _ (laws : CalmLaws) (frames_leave : FramesLeaveFollowers)
 
     -- so what is on its way is plain
     pub plain_after : (row : Row) → IsCalmRow group clocks pace traffic w moved row → (party : Party)
-        → AllHold group (IsPlainOfGroup group) (after_row w row).frames (on_way_after moved w row party (traffic.to party))
-    plain_after row calm party = hold_after group (IsPlainOfGroup group) clocks pace traffic w flies moved sent_plain sent_device row calm party
+        → Fly (IsPlainOfGroup group) (after_row w row).frames (on_way_after moved w row party (traffic.to party))
+    plain_after row calm = fly_after (IsPlainOfGroup group) group clocks pace traffic w flies moved row calm (λ n g i is e. sent_plain n g i e) (λ a g i is e. sent_device a g i e)
 
     module _ (m due : ℕ) (over : WaitIsOver clocks m due began) where
       -- A member of the group stood in the row, when its wait was over; or all are as they were, and this member has not
@@ -301,7 +302,7 @@ module _ (laws : CalmLaws) (frames_leave : FramesLeaveFollowers)
         pub row_comes : (ticked : ℕ) (row : Row) → IsCalmRow group clocks pace traffic w moved row → ticked ≤ due → Comes ticked row
         row_comes ticked (Tick p ms random) calm at_last = ticks p calm.0 ms random ticked calm.1 at_last
         row_comes ticked (Rx p k ms) calm at_last = receives p calm.0 k ms ticked calm.1
-            (next_holds group (IsPlainOfGroup group) w.frames k (traffic.to (OfMember p)) calm.2 (flies (OfMember p))) at_last
+            (next_is (IsPlainOfGroup group) w.frames k (traffic.to (OfMember p)) calm.2 (flies (OfMember p))) at_last
         row_comes ticked (Send p) calm at_last = inr (all_with p (record (w.member p) { status = after_sending (w.member p).status }) (at_send p calm.0), at_last)
         row_comes ticked (ATick a ms random) calm at_last = inr (all, at_last)
         row_comes ticked (ARx a k ms random) calm at_last = inr (all, at_last)

@@ -1,6 +1,6 @@
 -- Who follows asks nothing of Raft; and where nobody asks, no such request is on its way in a calm.
-use Rattle.std.proofs.Common.{◌≡◌, ℕ, ◌≤◌, arith, Bool, true, false, not, List, [], ◌∷◌, ◌++◌, drop, refl, sym, ◌∙◌, ap, subst, inl, inr, Option, None, Some}
-use Rattle.std.specs.Prelude.{◌⊎◌, ◌==◌, is_some, if◌then◌else◌}
+use Rattle.std.proofs.Common.{◌≡◌, ℕ, ◌≤◌, arith, List, [], ◌∷◌, drop, refl, sym, ◌∙◌, ap, subst, inl, inr, Option, None, Some}
+use Rattle.std.specs.Prelude.{◌⊎◌}
 use Rattle.can_frame.specs.declared.identifier.Ident.{Ident}
 use Rattle.can_frame.specs.declared.identifier.Kind.TheVariants.{Request as RequestKind}
 use Rattle.can_frame.specs.declared.step.What.{What}
@@ -11,13 +11,10 @@ use Rattle.raft_model.specs.Lists.{In}
 use Rattle.raft_model.specs.Messages.{Request}
 use Rattle.raft_model.specs.Server.{Role}
 use Rattle.raft_model.specs.Server.Role.{Follower}
-use Rattle.replay_text.specs.declared.row.Row.{Row}
-use Rattle.replay_text.specs.declared.row.Row.TheVariants.{AEnd, AOpen, ARx, ASend, ATick, Crash, Ext, Fault, Open, Rx, Send, Tick}
 use Rattle.transfer_rx.specs.Reassembly.{Delivery, Gives, answer}
-use Rattle.transfer_rx.specs.Sound.{IsDelivered}
 use Rattle.transfer_tx.specs.Queue.{Queued}
 use Rattle.allocatee.specs.Given.{IsAnonymous}
-use Rattle.alloc_spec.specs.Accepted.{rows, setting_for}
+use Rattle.alloc_spec.specs.Accepted.{setting_for}
 use Rattle.alloc_spec.specs.AllocatorState.{AllocatorState, members_of}
 use Rattle.alloc_spec.specs.Ending.{calls_all, calls_owed, calls_peer}
 use Rattle.alloc_spec.specs.Step.{Event, begin_phase, moment_of, step}
@@ -28,16 +25,13 @@ use Rattle.alloc_spec_laws.proofs.DistinctTransfers.{rank}
 use Rattle.alloc_spec_laws.proofs.EndOffers.{Told, tells}
 use Rattle.alloc_spec_laws.proofs.Transfers.{event_offers}
 use Rattle.cluster_agreement.specs.LawsBelow.{FrameLaws}
-use Rattle.cluster_agreement.proofs.Idents.{ident_ok, wanted_is}
-use Rattle.cluster_recovery.specs.Calm.{IsNext, OnItsWay, Pace, next_on_bus}
-use Rattle.cluster_calm.specs.Calm.{Device as OfDevice, IsCalmRow, Member as OfMember, Party, Traffic, on_way_after}
+use Rattle.cluster_agreement.proofs.Idents.{ident_ok}
+use Rattle.calm_leader.proofs.HeardIdents.{is_wanted}
+use Rattle.cluster_calm.specs.Calm.{Member as OfMember, Party}
 use Rattle.cluster_calm.proofs.CallsOffered.{same_after}
 use Rattle.cluster_calm.proofs.Group.{IsOf}
 use Rattle.cluster_calm.proofs.Others.{some_ident}
-use Rattle.cluster_calm.proofs.Ways.{Flying, flying_more, flying_other}
-use Rattle.cluster_spec.specs.Allocatees.{next_from}
-use Rattle.cluster_spec.specs.Cluster.{Cluster, after_row, arrival_at, frame_at, in_list}
-use Rattle.cluster_spec.specs.Members.{next_frame}
+use Rattle.cluster_spec.specs.Cluster.{arrival_at}
 
 -- ---- who follows calls nobody
 
@@ -95,11 +89,8 @@ pub plain_delivery : FrameLaws → (group : List Party) → ((p : ℕ) → In (O
     → d.ident.number ≡ 1
 plain_delivery laws group nodes me t frame moment d is gives kind = by is
   where
-    its : IsDelivered (setting_for me) t.sessions (arrival_at frame moment) d
-    its = laws.delivered (setting_for me) t.sessions (arrival_at frame moment) d gives
-
     reads : identifier_of frame.id ≡ Some d.ident
-    reads = (wanted_is rows me frame.id its.w its.accepted).read ∙ ap (λ (i : Ident). Some i) (sym its.ident)
+    reads = (is_wanted laws me t.sessions (arrival_at frame moment) d gives).read
 
     by : IsPlainOfGroup group frame → d.ident.number ≡ 1
     by (inl (p, i, plain)) =
@@ -110,71 +101,3 @@ plain_delivery laws group nodes me t frame moment d is gives kind = by is
         ap (λ (ident : Ident). ident.number) same
         ∙ low_request plain.own.what plain.low (sym (ap (λ (ident : Ident). ident.kind) same) ∙ kind)
     by (inr none) = absurd (cc (sym (ap (λ (ident : Ident). ident.kind) (some_ident d.ident none.ident (sym reads ∙ none.read)) ∙ none.kind) ∙ kind))
-
--- ---- on their way
-
--- what holds of each frame that a party of the group sends holds of those on their way
-module _ (group : List Party) (Holds : Queued → Type 0) where
-  abbrev pub AllHold : List Queued → List OnItsWay → Type 0
-  AllHold frames ways = Flying Holds 0 frames ways []
-
-  drop_first : (frames : List Queued) (ways : List OnItsWay) → AllHold frames ways → AllHold frames (drop 1 ways)
-  drop_first frames [] h = h
-  drop_first frames (way ∷ ways) (low, high, inl o) = o.1
-  drop_first frames (way ∷ ways) (low, high, inr o) = absurd (cc (o.2))
-
-  -- it holds of the one that comes next
-  pub next_holds : (frames : List Queued) (k : ℕ) (ways : List OnItsWay) → IsNext k ways → AllHold frames ways → Holds (frame_at frames k)
-  next_holds frames k [] is_next h = absurd is_next
-  next_holds frames k (way ∷ ways) is_next (low, high, inl o) = subst (λ (n : ℕ). Holds (frame_at frames n)) (sym is_next) o.0
-  next_holds frames k (way ∷ ways) is_next (low, high, inr o) = absurd (cc (o.2))
-
-  module _ (clocks : Party → ℕ) (pace : Pace) (traffic : Traffic) (w : Cluster) (flies : (party : Party) → AllHold w.frames (traffic.to party)) (moment : ℕ)
-      (from_member : (n : ℕ) (g : Queued) → In (OfMember n) group → next_frame (w.member n).status ≡ Some g → Holds g)
-      (from_device : (a : ℕ) (g : Queued) → In (OfDevice a) group → next_from (w.allocatee a) ≡ Some g → Holds g) where
-    goes_out : (g : Queued) → Holds g → (mine : Bool) (party : Party) → (o : Option Queued) → o ≡ Some g
-        → AllHold (w.frames ++ in_list o) (if not mine then traffic.to party ++ next_on_bus moment w ∷ [] else traffic.to party)
-    goes_out g is mine party o e = subst (λ (other : Option Queued). AllHold (w.frames ++ in_list other)
-        (if not mine then traffic.to party ++ next_on_bus moment w ∷ [] else traffic.to party)) (sym e) (by mine)
-      where
-        by : (b : Bool) → AllHold (w.frames ++ g ∷ []) (if not b then traffic.to party ++ next_on_bus moment w ∷ [] else traffic.to party)
-        by true = flying_more Holds 0 w.frames g (traffic.to party) [] (flies party)
-        by false = flying_other Holds 0 w.frames g moment (traffic.to party) [] is (flies party)
-
-    some_goes : (o : Option Queued) → is_some o ≡ true → (g : Queued) × (o ≡ Some g)
-    some_goes None e = absurd (cc (e))
-    some_goes (Some g) e = (g, refl)
-
-    comes : (mine : Bool) (party : Party) → AllHold w.frames (if mine then drop 1 (traffic.to party) else traffic.to party)
-    comes true party = drop_first w.frames (traffic.to party) (flies party)
-    comes false party = flies party
-
-    -- so it is after each calm row
-    pub hold_after : (row : Row) → IsCalmRow group clocks pace traffic w moment row → (party : Party)
-        → AllHold (after_row w row).frames (on_way_after moment w row party (traffic.to party))
-    hold_after (Tick n ms word) calm party = flies party
-    hold_after (Rx n k ms) calm (OfMember m) = comes (n == m) (OfMember m)
-    hold_after (Rx n k ms) calm (OfDevice b) = flies (OfDevice b)
-    hold_after (Send n) calm party =
-        let some = some_goes (next_frame (w.member n).status) calm.1 in by some.0 some.1 (from_member n some.0 calm.0 some.1) party
-      where
-        by : (g : Queued) → next_frame (w.member n).status ≡ Some g → Holds g → (party : Party)
-            → AllHold (after_row w (Send n)).frames (on_way_after moment w (Send n) party (traffic.to party))
-        by g e is (OfMember m) = goes_out g is (n == m) (OfMember m) (next_frame (w.member n).status) e
-        by g e is (OfDevice b) = goes_out g is false (OfDevice b) (next_frame (w.member n).status) e
-    hold_after (ATick a ms word) calm party = flies party
-    hold_after (ARx a k ms word) calm (OfMember m) = flies (OfMember m)
-    hold_after (ARx a k ms word) calm (OfDevice b) = comes (a == b) (OfDevice b)
-    hold_after (ASend a) calm party =
-        let some = some_goes (next_from (w.allocatee a)) calm.1 in by some.0 some.1 (from_device a some.0 calm.0 some.1) party
-      where
-        by : (g : Queued) → next_from (w.allocatee a) ≡ Some g → Holds g → (party : Party)
-            → AllHold (after_row w (ASend a)).frames (on_way_after moment w (ASend a) party (traffic.to party))
-        by g e is (OfMember m) = goes_out g is false (OfMember m) (next_from (w.allocatee a)) e
-        by g e is (OfDevice b) = goes_out g is (a == b) (OfDevice b) (next_from (w.allocatee a)) e
-    hold_after (Open n told ms word) calm party = absurd calm
-    hold_after (Ext frame) calm party = absurd calm
-    hold_after (Crash n calls pattern) calm party = absurd calm
-    hold_after (Fault n call) calm party = absurd calm
-    hold_after (AOpen a uid pref ms word) calm party = absurd calm
-    hold_after (AEnd a) calm party = absurd calm

@@ -1,32 +1,30 @@
 -- Who stands for election asks each peer on its list for its vote, in the same step.
-use Rattle.std.proofs.Common.{◌≡◌, ◌≢◌, ℕ, ◌+◌, arith, Bool, true, false, List, [], ◌∷◌, refl, sym, ◌∙◌, ap, subst, inl, inr, max, drop, Option, None, Some}
+use Rattle.std.proofs.Common.{◌≡◌, ◌≢◌, ℕ, ◌+◌, arith, Bool, true, false, List, [], ◌∷◌, refl, sym, ◌∙◌, ap, subst, inl, inr, max, drop, None, Some}
 use Rattle.std.specs.Prelude.{◌⊎◌, if◌then◌else◌}
 use Rattle.std.proofs.lemmas.Bool.Decides.{eqb_tells}
 use Rattle.can_frame.specs.declared.step.What.TheVariants.{VoteQ}
-use Rattle.raft_core.specs.Calls.{due, due_unless}
-use Rattle.raft_core.specs.Times.{Times, given_call, given_tick, overdue, stand, times_after, win}
+use Rattle.raft_core.specs.Times.{Times, given_tick, overdue, stand, times_after, win}
 use Rattle.raft_model.specs.Handlers.{server_after}
 use Rattle.raft_model.specs.Lists.{In, at_here, at_other}
 use Rattle.raft_model.specs.Messages.{Request}
 use Rattle.raft_model.specs.Messages.Message.{Requests}
-use Rattle.raft_model.specs.Moves.{Move}
 use Rattle.raft_model.specs.Moves.Elections.{has_quorum, own_vote, stand_memory, stand_puts, win_memory}
 use Rattle.raft_model.specs.Moves.Leading.{vote_request}
-use Rattle.raft_model.specs.Moves.Move.{CallForVote, TimeOut}
+use Rattle.raft_model.specs.Moves.Move.{TimeOut}
 use Rattle.raft_model.specs.Server.{RaftServer, Role, Store, put_all}
 use Rattle.raft_model.specs.Server.Role.{Candidate, Leader}
 use Rattle.alloc_spec.specs.AllocatorState.{AllocatorState, members_of, start_of}
-use Rattle.alloc_spec.specs.Ending.{calls_all, calls_owed, calls_peer, vote_call_bytes}
+use Rattle.alloc_spec.specs.Ending.{calls_all, calls_peer}
 use Rattle.alloc_spec.specs.Step.{all_nodes, at_moment, begin_phase, step}
 use Rattle.alloc_spec.specs.Step.Event.{Tick}
-use Rattle.alloc_spec.specs.StepState.{StepState, with_moves, with_transfer}
+use Rattle.alloc_spec.specs.StepState.{StepState}
 use Rattle.alloc_spec.specs.Tick.{clock_phase}
-use Rattle.alloc_spec.specs.Transfers.{Offer, has_room, id_of}
+use Rattle.alloc_spec.specs.Transfers.{Offer, id_of}
 use Rattle.alloc_spec_laws.specs.Phases.{when_told}
-use Rattle.alloc_spec_laws.proofs.Choices.{either}
 use Rattle.alloc_spec_laws.proofs.Lists.{in_back, in_front}
 use Rattle.alloc_spec_laws.proofs.Peers.{members_list}
 use Rattle.cluster_progress.proofs.Begins.{expired}
+use Rattle.calm_leader.proofs.VoteCalls.{candidate_calls, vote_asked, vote_called, vote_offer, vote_offered}
 use Rattle.calm_leader.proofs.RaftPhases.{Ends, EndsQuietly, Grows, Keeps, OfRole, OfServer, all_called, at_tick, role_ends, until_calls, when_ticked}
 use Rattle.cluster_calm.proofs.CallsOffered.{same_after}
 
@@ -175,64 +173,30 @@ module _ (t : AllocatorState) (number now word : ℕ) where
 
     -- the call to a peer q
     module _ (q : ℕ) (g : StepState) where
-      abbrev own_request : Request
-      own_request = vote_request g.allocator.me number g.allocator.raft_server.store q
-
-      abbrev offered_it : StepState
-      offered_it = with_transfer number VoteQ q (vote_call_bytes own_request) (Some (Requests own_request)) g
-
-      abbrev called : StepState
-      called = with_moves number (given_call g.allocator.now (id_of g.allocator.ids VoteQ q)) (CallForVote q ∷ []) offered_it
-
-      abbrev own : Offer
-      own = record {
-        what = VoteQ;
-        to = q;
-        id = id_of g.allocator.ids VoteQ q;
-        payload = vote_call_bytes own_request;
-        re = 0;
-        says = Some (Requests own_request);
-        fitted = has_room g.allocator.queue (vote_call_bytes own_request);
-      }
-
       -- the request to the peer is the one that is said
-      asked_is : m ≡ q → Keeps Core g → own_request ≡ asked
+      asked_is : m ≡ q → Keeps Core g → vote_asked number q g ≡ asked
       asked_is e core = λ i. vote_request (core.0 i) number (core.2 i) (sym e i)
 
-      -- a candidate calls the peer, unless a call is pending or it has answered
-      calls : (P : StepState → Type 0) → ((r : Request) → g.allocator.raft_server.memory.pending q ≡ Some r → P g) → (g.allocator.times.answered q ≡ true → P g)
-          → (has_room g.allocator.queue (vote_call_bytes own_request) ≡ true → P called) → (has_room g.allocator.queue (vote_call_bytes own_request) ≡ false → P offered_it)
-          → g.allocator.raft_server.memory.role ≡ Candidate → P (calls_peer number q g)
-      calls P some answered fits none role = subst (λ (r : Role). P (calls_owed number
-          (due_unless (g.allocator.raft_server.memory.pending q) (due r g.allocator.raft_server g.allocator.times q g.allocator.now)) g))
-          (sym role) (go (g.allocator.raft_server.memory.pending q) refl)
-        where
-          go : (p : Option Request) → g.allocator.raft_server.memory.pending q ≡ p
-              → P (calls_owed number (due_unless p (due Candidate g.allocator.raft_server g.allocator.times q g.allocator.now)) g)
-          go (Some r) e = some r e
-          go None e = either (λ (call : Option Move). P (calls_owed number call g)) (g.allocator.times.answered q) None (Some (CallForVote q)) answered
-              (λ a. either P (has_room g.allocator.queue (vote_call_bytes own_request)) called offered_it fits none)
-
       -- a call that found room asks the peer, and is pending
-      asked_called : m ≡ q → Keeps Core g → HasAsked called
+      asked_called : m ≡ q → Keeps Core g → HasAsked (vote_called number q g)
       asked_called e core = record {
-        offer = own;
-        offered = in_back own g.offers (own ∷ []) (inl refl);
+        offer = vote_offer number q g;
+        offered = in_back (vote_offer number q g) g.offers (vote_offer number q g ∷ []) (inl refl);
         what = refl;
         to = sym e;
         says = ap (λ (r : Request). Some (Requests r)) (asked_is e core);
         waits = λ f. (
-          at_here g.allocator.raft_server.memory.pending q m (Some own_request) e ∙ ap (λ (r : Request). Some r) (asked_is e core),
-          at_here g.allocator.times.sending q m (Some (record { id = own.id; moment = g.allocator.now })) e
-              ∙ ap (λ (k : ℕ). Some (record { id = own.id; moment = k })) core.5,
+          at_here g.allocator.raft_server.memory.pending q m (Some (vote_asked number q g)) e ∙ ap (λ (r : Request). Some r) (asked_is e core),
+          at_here g.allocator.times.sending q m (Some (record { id = id_of g.allocator.ids VoteQ q; moment = g.allocator.now })) e
+              ∙ ap (λ (k : ℕ). Some (record { id = id_of g.allocator.ids VoteQ q; moment = k })) core.5,
         );
       }
 
       -- one that found no room is offered
-      asked_offered : m ≡ q → Keeps Core g → has_room g.allocator.queue (vote_call_bytes own_request) ≡ false → HasAsked offered_it
+      asked_offered : m ≡ q → Keeps Core g → (vote_offer number q g).fitted ≡ false → HasAsked (vote_offered number q g)
       asked_offered e core none = record {
-        offer = own;
-        offered = in_back own g.offers (own ∷ []) (inl refl);
+        offer = vote_offer number q g;
+        offered = in_back (vote_offer number q g) g.offers (vote_offer number q g ∷ []) (inl refl);
         what = refl;
         to = sym e;
         says = ap (λ (r : Request). Some (Requests r)) (asked_is e core);
@@ -240,24 +204,24 @@ module _ (t : AllocatorState) (number now word : ℕ) where
       }
 
       -- a call to another peer leaves it
-      still_called : m ≢ q → HasAsked g → HasAsked called
+      still_called : m ≢ q → HasAsked g → HasAsked (vote_called number q g)
       still_called differs h = record {
         offer = h.offer;
-        offered = in_front h.offer g.offers (own ∷ []) h.offered;
+        offered = in_front h.offer g.offers (vote_offer number q g ∷ []) h.offered;
         what = h.what;
         to = h.to;
         says = h.says;
         waits = λ f. (
-          at_other g.allocator.raft_server.memory.pending q m (Some own_request) differs ∙ (h.waits f).0,
-          at_other g.allocator.times.sending q m (Some (record { id = own.id; moment = g.allocator.now })) differs ∙ (h.waits f).1,
+          at_other g.allocator.raft_server.memory.pending q m (Some (vote_asked number q g)) differs ∙ (h.waits f).0,
+          at_other g.allocator.times.sending q m (Some (record { id = id_of g.allocator.ids VoteQ q; moment = g.allocator.now })) differs ∙ (h.waits f).1,
         );
       }
 
       -- and so does one that found no room
-      still_offered : HasAsked g → HasAsked offered_it
+      still_offered : HasAsked g → HasAsked (vote_offered number q g)
       still_offered h = record {
         offer = h.offer;
-        offered = in_front h.offer g.offers (own ∷ []) h.offered;
+        offered = in_front h.offer g.offers (vote_offer number q g ∷ []) h.offered;
         what = h.what;
         to = h.to;
         says = h.says;
@@ -266,21 +230,21 @@ module _ (t : AllocatorState) (number now word : ℕ) where
 
       -- who is to be asked is asked when its turn is there
       todo_here : m ≡ q → Todo g → Done (calls_peer number q g)
-      todo_here e h = calls Done
+      todo_here e h = candidate_calls number q g Done
           (λ r p. absurd (cc (sym h.2 ∙ (ap g.allocator.raft_server.memory.pending e ∙ p))))
           (λ a. absurd (cc (sym h.1 ∙ (ap g.allocator.times.answered e ∙ a))))
           (λ f. (h.0, h.1, asked_called e h.0)) (λ f. (h.0, h.1, asked_offered e h.0 f)) h.0.1
 
       -- and not before
       todo_other : m ≢ q → Todo g → Todo (calls_peer number q g)
-      todo_other differs h = calls Todo (λ r p. h) (λ a. h)
-          (λ f. (h.0, h.1, at_other g.allocator.raft_server.memory.pending q m (Some own_request) differs ∙ h.2)) (λ f. h) h.0.1
+      todo_other differs h = candidate_calls number q g Todo (λ r p. h) (λ a. h)
+          (λ f. (h.0, h.1, at_other g.allocator.raft_server.memory.pending q m (Some (vote_asked number q g)) differs ∙ h.2)) (λ f. h) h.0.1
 
       -- who is asked stays asked
       done : Done g → Done (calls_peer number q g)
       done h = elim (eqb_tells m q) [
-        | inl z ↦ calls Done (λ r p. h) (λ a. h) (λ f. (h.0, h.1, asked_called z.1 h.0)) (λ f. (h.0, h.1, asked_offered z.1 h.0 f)) h.0.1
-        | inr z ↦ calls Done (λ r p. h) (λ a. h) (λ f. (h.0, h.1, still_called z.1 h.2)) (λ f. (h.0, h.1, still_offered h.2)) h.0.1
+        | inl z ↦ candidate_calls number q g Done (λ r p. h) (λ a. h) (λ f. (h.0, h.1, asked_called z.1 h.0)) (λ f. (h.0, h.1, asked_offered z.1 h.0 f)) h.0.1
+        | inr z ↦ candidate_calls number q g Done (λ r p. h) (λ a. h) (λ f. (h.0, h.1, still_called z.1 h.2)) (λ f. (h.0, h.1, still_offered h.2)) h.0.1
       ]
 
     -- through all calls

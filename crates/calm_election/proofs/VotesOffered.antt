@@ -19,8 +19,7 @@ use Rattle.raft_model.specs.Server.{Memory, RaftServer, Store, put_all}
 use Rattle.raft_model.specs.Server.Put.{PutTerm, PutVote}
 use Rattle.raft_model.specs.Server.Role.{Follower}
 use Rattle.replay_text.specs.declared.row.Row.{Row}
-use Rattle.transfer_rx.specs.Reassembly.{Arrival, Delivery, Gives, answer}
-use Rattle.alloc_spec.specs.Accepted.{setting_for}
+use Rattle.transfer_rx.specs.Reassembly.{Arrival, Delivery}
 use Rattle.alloc_spec.specs.AllocatorState.{AllocatorState, members_of}
 use Rattle.alloc_spec.specs.Delivered.{StepResult, by_kind, delivery_phase, reads, took}
 use Rattle.alloc_spec.specs.Services.{answers_vote_request, is_listed, takes_vote_request}
@@ -32,12 +31,12 @@ use Rattle.alloc_spec_laws.specs.Saying.{vote_bytes}
 use Rattle.alloc_spec_laws.proofs.Choices.{and_left, and_right, eq_true, lt_tells}
 use Rattle.alloc_spec_laws.proofs.Lists.{in_back}
 use Rattle.cluster_progress.proofs.Begins.{IsAsBefore}
-use Rattle.cluster_progress.proofs.FollowUps.{begun, when_come}
+use Rattle.cluster_progress.proofs.FollowUps.{begun}
 use Rattle.calm_election.specs.Votes.{AnswersVote, HasVoted, vote_asked_by, vote_by}
 use Rattle.calm_leader.proofs.RaftPhases.{Ends, Keeps, OfServer, at_end}
 use Rattle.cluster_calm.specs.Comes.{Delivers, delivery_of}
 use Rattle.cluster_calm.proofs.Calls.{on_list}
-use Rattle.calm_leader.proofs.Deliveries.{still_offered, takes_delivery}
+use Rattle.calm_leader.proofs.Deliveries.{come, step_taken, still_offered}
 use Rattle.cluster_spec.specs.Cluster.{Cluster, arrival_at, frame_at}
 
 -- ---- what the puts leave
@@ -165,13 +164,11 @@ module _ (m : ℕ) (x : SentTransfer) (request : VoteRequest) (w : Cluster) (row
 
   -- as the request comes
   abbrev g : StepState
-  g = when_come t number arrival
+  g = come m x w row delivers
 
   -- the step answers the request, and ends
   step_is : step t number (Rx arrival) ≡ with_end_phase number (took (answers_vote_request number (delivery_of x) request g))
-  step_is = takes_delivery t number arrival (delivery_of x)
-      (subst (λ (k : ℕ). answer (setting_for k) t.sessions (arrival_at (frame_at w.frames delivers.k) (max t.now delivers.ms)) ≡ Gives (delivery_of x)) (sym me) delivers.gives)
-      ∙ ap (λ (s : StepResult). with_end_phase number s)
+  step_is = step_taken m x w row delivers me ∙ ap (λ (s : StepResult). with_end_phase number s)
       (vote_request_taken number (delivery_of x) request g (ap kind_of what) (ap number_of what) says (on_list (members_of t) x.by listed))
 
   before : IsAsBefore t.raft_server g.allocator.raft_server

@@ -1,13 +1,11 @@
 -- A vote answer that comes in time to its request is taken by the candidate.
-use Rattle.std.proofs.Common.{◌≡◌, ℕ, ◌+◌, ◌<◌, ◌≤◌, arith, Bool, true, false, List, [], ◌∷◌, refl, sym, ◌∙◌, ap, subst, inl, inr, Option, None, Some}
-use Rattle.std.specs.Prelude.{◌==◌, ◌&&◌, max, not, if◌then◌else◌}
-use Rattle.can_frame.specs.declared.identifier.Kind.{Kind}
-use Rattle.can_frame.specs.declared.identifier.Kind.TheVariants.{Response}
+use Rattle.std.proofs.Common.{◌≡◌, ℕ, ◌+◌, ◌<◌, ◌≤◌, arith, Bool, true, false, List, [], ◌∷◌, refl, sym, ◌∙◌, ap, inl, inr, None, Some}
+use Rattle.std.specs.Prelude.{◌==◌, ◌&&◌, max, if◌then◌else◌}
 use Rattle.can_frame.specs.declared.step.What.TheVariants.{Vote}
 use Rattle.dsdl_codec.specs.declared.vote_answer.VoteAnswer.{VoteAnswer}
 use Rattle.dsdl_codec.specs.VoteAnswer.{vote_answer_of}
 use Rattle.raft_core.specs.Handled.{answer_of, moves_of_expire}
-use Rattle.raft_core.specs.Times.{Sending, awaits, given_at, is_awaited, is_overdue, overdue}
+use Rattle.raft_core.specs.Times.{given_at, overdue}
 use Rattle.raft_model.specs.Handlers.{server_after, server_after_all}
 use Rattle.raft_model.specs.Lists.{at}
 use Rattle.raft_model.specs.Messages.{Answer, Request}
@@ -17,25 +15,22 @@ use Rattle.raft_model.specs.Server.{Memory, RaftServer, Role, Store, put_all}
 use Rattle.raft_model.specs.Server.Put.{PutTerm, PutVote}
 use Rattle.raft_model.specs.Server.Role.{Candidate, Follower, Leader}
 use Rattle.replay_text.specs.declared.row.Row.{Row}
-use Rattle.transfer_rx.specs.Reassembly.{Arrival, Delivery, Gives, answer}
-use Rattle.alloc_spec.specs.Accepted.{setting_for}
+use Rattle.transfer_rx.specs.Reassembly.{Arrival}
 use Rattle.alloc_spec.specs.AllocatorState.{AllocatorState, members_of}
-use Rattle.alloc_spec.specs.Delivered.{StepResult, by_kind, delivery_phase, reads, took}
-use Rattle.alloc_spec.specs.Services.{answers_call, ends_vote_call, is_listed, takes_vote_answer, vote_answered}
+use Rattle.alloc_spec.specs.Delivered.{StepResult, took}
+use Rattle.alloc_spec.specs.Services.{answers_call, vote_answered}
 use Rattle.alloc_spec.specs.Step.{all_nodes, at_moment, step, with_end_phase}
 use Rattle.alloc_spec.specs.Step.Event.{Rx}
 use Rattle.alloc_spec.specs.StepState.{StepState, with_moves}
-use Rattle.alloc_spec.specs.Transfers.{SentTransfer, kind_of, number_of}
-use Rattle.alloc_spec.proofs.Blanks.{move_with_blank}
+use Rattle.alloc_spec.specs.Transfers.{SentTransfer}
 use Rattle.alloc_spec_laws.proofs.Choices.{lt_tells}
 use Rattle.cluster_progress.proofs.Begins.{IsAsBefore}
-use Rattle.cluster_progress.proofs.FollowUps.{begun, same_number, when_come}
+use Rattle.cluster_progress.proofs.FollowUps.{begun, same_number}
 use Rattle.calm_election.specs.Votes.{TakesVote, WaitsForVote}
-use Rattle.calm_leader.proofs.RaftPhases.{Keeps, OfRole, at_end, role_ends}
+use Rattle.calm_leader.proofs.RaftPhases.{Keeps, OfRole}
 use Rattle.cluster_calm.specs.Comes.{Delivers, delivery_of}
-use Rattle.cluster_calm.proofs.Calls.{on_list}
-use Rattle.calm_leader.proofs.AnswersTaken.{Keeps as KeepsCall, is_young, kept_call, not_given_up}
-use Rattle.calm_leader.proofs.Deliveries.{takes_delivery}
+use Rattle.calm_leader.proofs.AnswersAwaited.{IsAwaited, comes_awaited, to_end, vote_ends}
+use Rattle.calm_leader.proofs.Deliveries.{come, step_taken}
 use Rattle.cluster_spec.specs.Cluster.{Cluster, arrival_at, frame_at}
 
 -- ---- a higher term, and the same one
@@ -62,15 +57,6 @@ votes_kept list me number (node ∷ nodes) server = votes_kept list me number no
 
 -- ---- the step
 
--- the answer of a node on the list ends the call that waits for it
-pub vote_answer_taken : (number : ℕ) (d : Delivery) (says : VoteAnswer) (g : StepState) → d.ident.kind ≡ Response → d.ident.number ≡ 31
-    → vote_answer_of d.payload ≡ Some says → is_listed d g.allocator ≡ true
-    → delivery_phase number d g ≡ took (ends_vote_call number d says g)
-unfolding delivery_phase
-vote_answer_taken number d says g kind number_is read listed = ap (λ (k : Kind). by_kind number d k g) kind
-    ∙ rw (number_is) (ap (λ (r : Option VoteAnswer). reads (takes_vote_answer number d) r g) read
-    ∙ ap (λ (b : Bool). took (if b then ends_vote_call number d says g else g)) listed)
-
 module _ (n moment : ℕ) (y : SentTransfer) (request : Request) (says : VoteAnswer) (w : Cluster) (row : Row) (delivers : Delivers n y w row)
     (me : delivers.server.me ≡ n) (what : y.offer.what ≡ Vote) (read : vote_answer_of y.offer.payload ≡ Some says)
     (waits : WaitsForVote y.by y.offer.id moment request delivers.server) (soon : max delivers.server.now delivers.ms < moment + 1000) where
@@ -88,7 +74,7 @@ module _ (n moment : ℕ) (y : SentTransfer) (request : Request) (says : VoteAns
 
   -- as the answer comes
   abbrev g : StepState
-  g = when_come t number arrival
+  g = come n y w row delivers
 
   abbrev taken : Answer
   taken = answer_of y.step m request says.term says.granted
@@ -99,30 +85,12 @@ module _ (n moment : ℕ) (y : SentTransfer) (request : Request) (says : VoteAns
   votes : g.allocator.raft_server.memory.votes ≡ t.raft_server.memory.votes
   votes = votes_kept (members_of (at_moment arrival.moment t)) t.me number (overdue t.times (max t.now delivers.ms) all_nodes) t.raft_server
 
-  -- the call is not overdue, and so it is pending still
-  young : is_overdue (t.times.sending m) (max t.now delivers.ms) ≡ false
-  young = ap (λ (s : Option Sending). is_overdue s (max t.now delivers.ms)) waits.kept ∙ is_young (record { id = y.offer.id; moment = moment }) (max t.now delivers.ms) soon
-
-  keeps : KeepsCall m t.raft_server g.allocator.raft_server t.times g.allocator.times
-  keeps = kept_call m (members_of (at_moment arrival.moment t)) t.me number (given_at (max t.now delivers.ms)) (overdue t.times (max t.now delivers.ms) all_nodes)
-      (not_given_up t.times (max t.now delivers.ms) m young all_nodes) t.raft_server t.times
-
-  pending : g.allocator.raft_server.memory.pending m ≡ Some request
-  pending = keeps.pending ∙ waits.pending
-
-  -- the answer is the one that is awaited
-  awaited : is_awaited g.allocator.raft_server g.allocator.times m false y.offer.id ≡ true
-  awaited = (λ i. awaits (pending i) ((keeps.sending ∙ waits.kept) i) false y.offer.id)
-      ∙ (ap (λ (b : Bool). not b && (y.offer.id == y.offer.id)) waits.vote ∙ same_number y.offer.id)
+  its : IsAwaited y request t g
+  its = comes_awaited n moment y request w row delivers waits.listed waits.pending waits.kept soon
 
   -- the step takes the answer, and ends
   step_is : step t number (Rx arrival) ≡ with_end_phase number (took (answers_call number (vote_answered (delivery_of y) says) (Some request) g))
-  step_is = takes_delivery t number arrival (delivery_of y)
-      (subst (λ (k : ℕ). answer (setting_for k) t.sessions (arrival_at (frame_at w.frames delivers.k) (max t.now delivers.ms)) ≡ Gives (delivery_of y)) (sym me) delivers.gives)
-      ∙ (ap (λ (s : StepResult). with_end_phase number s)
-      (vote_answer_taken number (delivery_of y) says g (ap kind_of what) (ap number_of what) read (on_list (members_of t) m waits.listed))
-      ∙ (ap (λ (b : Bool). with_end_phase number (took (if b then answers_call number (vote_answered (delivery_of y) says) (g.allocator.raft_server.memory.pending m) g else g))) awaited
-      ∙ ap (λ (p : Option Request). with_end_phase number (took (answers_call number (vote_answered (delivery_of y) says) p g))) pending))
+  step_is = step_taken n y w row delivers me ∙ ap (λ (s : StepResult). with_end_phase number s) (vote_ends number y request t g its says what read waits.vote)
 
   abbrev server : RaftServer
   server = g.allocator.raft_server
@@ -135,10 +103,8 @@ module _ (n moment : ℕ) (y : SentTransfer) (request : Request) (says : VoteAns
   moved = with_moves number (given_at g.allocator.now) (TakeVoteAnswer taken ∷ []) g
 
   -- what the move leaves of role, term and votes, the step leaves
-  to_end : (P : Role → ℕ → (ℕ → Bool) → Type 0) → Keeps (OfRole P) moved → Keeps (OfRole P) (step t number (Rx arrival)).step_state
-  to_end P h = subst (λ (s : StepResult). Keeps (OfRole P) s.step_state) (sym step_is)
-      (at_end number (OfRole P) (role_ends number P) (answers_call number (vote_answered (delivery_of y) says) (Some request) g)
-      (move_with_blank (Keeps (OfRole P)) number (given_at g.allocator.now) (TakeVoteAnswer taken) g h (λ blank. h)))
+  at_its_end : (P : Role → ℕ → (ℕ → Bool) → Type 0) → Keeps (OfRole P) moved → Keeps (OfRole P) (step t number (Rx arrival)).step_state
+  at_its_end P h = to_end P (vote_answered (delivery_of y) says) request t number (Rx arrival) g step_is h
 
   own_term : server.store.term ≡ t.raft_server.store.term
   own_term = ap (λ (s : Store). s.term) before.store
@@ -193,9 +159,9 @@ module _ (n moment : ℕ) (y : SentTransfer) (request : Request) (says : VoteAns
   -- what the answer leaves
   pub takes : TakesVote taken t (step t number (Rx arrival)).step_state.allocator
   takes = record {
-    raised = λ less. to_end (λ role term given. (role ≡ Follower) × (term ≡ says.term)) (down less);
-    kept = λ low. to_end (λ role term given. term ≡ t.raft_server.store.term) (same_term server.store says.term (omega (arith, low, own_term)) ∙ own_term);
-    wins = λ stands equal given quorum. to_end (λ role term votes. role ≡ Leader) (won stands equal given quorum);
-    counts = λ stands equal given quorum. to_end (λ role term votes. (role ≡ Candidate) × (votes ≡ votes_with t.raft_server.memory taken))
+    raised = λ less. at_its_end (λ role term given. (role ≡ Follower) × (term ≡ says.term)) (down less);
+    kept = λ low. at_its_end (λ role term given. term ≡ t.raft_server.store.term) (same_term server.store says.term (omega (arith, low, own_term)) ∙ own_term);
+    wins = λ stands equal given quorum. at_its_end (λ role term votes. role ≡ Leader) (won stands equal given quorum);
+    counts = λ stands equal given quorum. at_its_end (λ role term votes. (role ≡ Candidate) × (votes ≡ votes_with t.raft_server.memory taken))
         (not_yet stands equal given quorum);
   }

@@ -1,6 +1,5 @@
 -- Who is called offers its answer, by its verdict on the request.
 use Rattle.std.proofs.Common.{◌≡◌, ℕ, ◌+◌, ◌<◌, arith, true, List, [], ◌∷◌, length, refl, sym, ◌∙◌, ap, subst, inl, Some}
-use Rattle.std.specs.Prelude.{max}
 use Rattle.std.proofs.lemmas.Bool.{le-leb}
 use Rattle.can_frame.specs.declared.step.What.TheVariants.{App, AppQ}
 use Rattle.dsdl_codec.specs.declared.append_request.AppendRequest.{AppendRequest}
@@ -14,9 +13,8 @@ use Rattle.raft_model.specs.Moves.Elections.{with_term}
 use Rattle.raft_model.specs.Moves.Leading.{answer_to}
 use Rattle.raft_model.specs.Server.{RaftServer}
 use Rattle.replay_text.specs.declared.row.Row.{Row}
-use Rattle.transfer_rx.specs.Reassembly.{Arrival, Gives, answer}
+use Rattle.transfer_rx.specs.Reassembly.{Arrival}
 use Rattle.transfer_tx.specs.Queue.{Queued}
-use Rattle.alloc_spec.specs.Accepted.{setting_for}
 use Rattle.alloc_spec.specs.AllocatorState.{AllocatorState, members_of}
 use Rattle.alloc_spec.specs.Delivered.{StepResult, took}
 use Rattle.alloc_spec.specs.Services.{answers_append_request}
@@ -27,11 +25,11 @@ use Rattle.alloc_spec.specs.Transfers.{Offer, SentTransfer, has_room, kind_of, n
 use Rattle.alloc_spec_laws.specs.Saying.{append_bytes}
 use Rattle.alloc_spec_laws.proofs.Lists.{in_back}
 use Rattle.cluster_progress.proofs.Begins.{IsAsBefore}
-use Rattle.cluster_progress.proofs.FollowUps.{begun, when_come}
+use Rattle.cluster_progress.proofs.FollowUps.{begun}
 use Rattle.calm_leader.specs.Answers.{AnswersCall, answer_by, asked_by}
 use Rattle.cluster_calm.specs.Comes.{Delivers, Sends, delivery_of}
 use Rattle.cluster_calm.proofs.Calls.{on_list}
-use Rattle.calm_leader.proofs.Deliveries.{request_taken, still_offered, takes_delivery}
+use Rattle.calm_leader.proofs.Deliveries.{come, request_taken, step_taken, still_offered}
 use Rattle.cluster_spec.specs.Cluster.{Cluster, arrival_at, frame_at, receipt_of, step_of}
 
 -- the verdict is one on what is stored, and on the role
@@ -57,12 +55,10 @@ module _ (m : ℕ) (x : SentTransfer) (request : AppendRequest) (w : Cluster) (r
 
   -- as the call comes
   abbrev g : StepState
-  g = when_come t number arrival
+  g = come m x w row delivers
 
   step_is : step t number (Rx arrival) ≡ with_end_phase number (took (answers_append_request number (delivery_of x) request g))
-  step_is = takes_delivery t number arrival (delivery_of x)
-      (subst (λ (k : ℕ). answer (setting_for k) t.sessions (arrival_at (frame_at w.frames delivers.k) (max t.now delivers.ms)) ≡ Gives (delivery_of x)) (sym me) delivers.gives)
-      ∙ ap (λ (s : StepResult). with_end_phase number s)
+  step_is = step_taken m x w row delivers me ∙ ap (λ (s : StepResult). with_end_phase number s)
       (request_taken number (delivery_of x) request g (ap kind_of what) (ap number_of what) says (on_list (members_of t) x.by listed))
 
   before : IsAsBefore t.raft_server g.allocator.raft_server

@@ -5,7 +5,7 @@ use Rattle.std.specs.Prelude.{◌⊎◌, ◌&&◌, ◌==◌, nat_lt, not, if◌t
 use Rattle.std.proofs.lemmas.Bool.Decides.{eqb_tells}
 use Rattle.can_frame.specs.declared.identifier.Kind.TheVariants.{Response}
 use Rattle.raft_core.specs.Handled.{answer_of, append_request_of, vote_request_of}
-use Rattle.raft_core.specs.Times.{Sending, Times, awaits, begin_wait, end_call, end_vote_call, given_at, is_awaited, is_overdue, overdue, raise, step_down, win}
+use Rattle.raft_core.specs.Times.{Sending, Times, awaits, begin_wait, end_call, end_vote_call, given_at, is_awaited, overdue, raise, step_down, win}
 use Rattle.raft_model.specs.Decisions.{grants, verdict_on}
 use Rattle.raft_model.specs.Lists.{at, at_other}
 use Rattle.raft_model.specs.Messages.{Answer, Request}
@@ -25,7 +25,7 @@ use Rattle.alloc_spec_laws.proofs.Choices.{and_left, and_right, either, eq_true,
 use Rattle.cluster_progress.specs.Requests.{moment_at}
 use Rattle.cluster_progress.proofs.Begins.{expired}
 use Rattle.cluster_progress.proofs.FollowUps.{when_come}
-use Rattle.calm_leader.proofs.AnswersTaken.{is_young, kept_call, not_given_up}
+use Rattle.calm_leader.proofs.AnswersAwaited.{young_kept}
 use Rattle.calm_leader.proofs.RaftPhases.{Ends, Grows, Keeps, OfServer, Takes, at_frame}
 
 -- ---- what is kept with a call as a move changes other things
@@ -208,9 +208,7 @@ module _ (t : AllocatorState) (number m : ℕ) (Keep : Role → Type 0) (New : R
   -- as a step begins, before the call timeout
   pub begins : (now : ℕ) → max t.now now < sending.moment + 1000 → Keeps (Pends number m Keep New request sending) (begin_phase number now t)
   begins now soon =
-      let young = ap (λ (s : Option Sending). is_overdue s (max t.now now)) sent ∙ is_young sending (max t.now now) soon in
-      let keeps = kept_call m (members_of (at_moment now t)) t.me number (given_at (max t.now now)) (overdue t.times (max t.now now) all_nodes)
-      (not_given_up t.times (max t.now now) m young all_nodes) t.raft_server t.times in
+      let keeps = young_kept t number m now sending sent soon in
       let before = expired (members_of (at_moment now t)) t.me number (overdue t.times (max t.now now) all_nodes) t.raft_server in
       (subst Keep (sym before.role) role, keeps.pending ∙ pending, keeps.sending ∙ sent)
 

@@ -5,7 +5,9 @@ pub mod RaftPhases
 pub mod TermsKept
 pub mod TermsRoles
 pub mod TermsSteps
+pub mod HeardIdents
 pub mod TermsHeard
+pub mod FramesFly
 pub mod LeadsOnWays
 pub mod LeadsOn
 pub mod CallsPast
@@ -17,10 +19,13 @@ pub mod NoElection
 pub mod NoElectionBegins
 pub mod Deliveries
 pub mod AnswersOffered
+pub mod AnswersAwaited
 pub mod AnswersTaken
 pub mod AnswersRead
 pub mod CallStays
 pub mod PendingStays
+pub mod SentPends
+pub mod VoteCalls
 pub mod CallsPend
 pub mod RowsOfOne
 pub mod EntriesSteps

@@ -18,10 +18,9 @@ use Rattle.raft_model.specs.Runs as raft
 use Rattle.raft_model.specs.Server.{RaftServer}
 use Rattle.replay_text.specs.declared.row.Row.TheVariants.{Rx}
 use Rattle.transfer_rx.specs.Reassembly.{Delivery, Gives, answer}
-use Rattle.transfer_rx.specs.Sound.{IsDelivered}
 use Rattle.transfer_tx.specs.Queue.{Queued}
 use Rattle.allocatee.specs.Given.{IsAnonymous}
-use Rattle.alloc_spec.specs.Accepted.{is_of_members, rows, setting_for}
+use Rattle.alloc_spec.specs.Accepted.{is_of_members, setting_for}
 use Rattle.alloc_spec.specs.AllocatorState.{AllocatorState}
 use Rattle.alloc_spec.specs.Step.{at_moment, at_step}
 use Rattle.alloc_spec.specs.Transfers.{SentTransfer, ident_of, kind_of, message_by}
@@ -30,7 +29,8 @@ use Rattle.alloc_spec_laws.specs.Saying.{IsSaid, SaysAnswer, append_bytes, vote_
 use Rattle.cluster_agreement.specs.LawsBelow.{CodecLaws, FrameLaws}
 use Rattle.cluster_agreement.specs.Safe.{IsDeliveredTo, IsOneTransfer}
 use Rattle.cluster_agreement.specs.Shows.{HoldsOfMade, Shows, ShowsMember, ShowsUp}
-use Rattle.cluster_agreement.proofs.Idents.{ident_ok, wanted_is}
+use Rattle.cluster_agreement.proofs.Idents.{ident_ok}
+use Rattle.calm_leader.proofs.HeardIdents.{is_wanted}
 use Rattle.cluster_agreement.proofs.Lists.{is_any}
 use Rattle.cluster_agreement.proofs.TakenMessages.{is_append, is_vote, requests_from}
 use Rattle.cluster_calm.specs.Calm.{Member as OfMember, Party}
@@ -150,12 +150,9 @@ module _ (frame : FrameLaws) (codec : CodecLaws) (w : Cluster) (shown : IsOfRun 
 
   module _ (m k ms : ℕ) (server : AllocatorState) (runs : (w.member m).status ≡ Up server) (harm : DoesNoHarm w (Rx m k ms)) (d : Delivery)
       (gives : answer (setting_for server.me) server.sessions (at_step (at_moment ms server) (arrival_at (frame_at w.frames k) ms)) ≡ Gives d) where
-    its : IsDelivered (setting_for server.me) server.sessions (at_step (at_moment ms server) (arrival_at (frame_at w.frames k) ms)) d
-    its = frame.delivered (setting_for server.me) server.sessions (at_step (at_moment ms server) (arrival_at (frame_at w.frames k) ms)) d gives
-
     -- the frame has the identifier of what is delivered
     reads : identifier_of (frame_at w.frames k).id ≡ Some d.ident
-    reads = (wanted_is rows server.me (frame_at w.frames k).id its.w its.accepted).read ∙ ap (λ (i : Ident). Some i) (sym its.ident)
+    reads = (is_wanted frame server.me server.sessions (at_step (at_moment ms server) (arrival_at (frame_at w.frames k) ms)) d gives).read
 
     of_member : (p : ℕ) → In (OfMember p) group → d.ident.source ≡ p → is_forged w.ids (Some d.ident) ≡ true → TellsWithin top d
     of_member p i source forged = transfer_within codec w.ids shown.made shown.run shown.shows.holds shown.within m top d

@@ -81,7 +81,7 @@ pub record IsBackBy (group : List Party) (clocks : Party → ℕ) (pace : Pace) 
 abbrev pub settled_in : Pace → (longest : ℕ) → ℕ
 settled_in pace longest = heard_within pace + pace.period + 2 * pace.delay + settled_within pace longest
 
--- and so long from the beginning of the calm on, in a cluster of so many members
+-- In milliseconds, so long it takes at most from the beginning of the calm on, in a cluster of so many members.
 abbrev pub back_within : Pace → (size longest : ℕ) → ℕ
 back_within pace size longest = led_within pace size + settled_in pace longest
 

@@ -1,13 +1,13 @@
 -- A step that is delivered the vote answer for which a server waits: the peer has answered, or, where the bytes read as
 -- no answer, the call is pending still when the step makes its calls.
 use Rattle.std.proofs.Common.{◌≡◌, ℕ, ◌+◌, ◌<◌, Bool, true, false, [], ◌∷◌, refl, sym, ◌∙◌, ap, subst, Option, None, Some}
-use Rattle.std.specs.Prelude.{◌==◌, ◌&&◌, max, not, nat_lt, if◌then◌else◌}
+use Rattle.std.specs.Prelude.{◌&&◌, max, nat_lt, if◌then◌else◌}
 use Rattle.can_frame.specs.declared.identifier.Kind.{Kind}
 use Rattle.can_frame.specs.declared.step.What.TheVariants.{Vote}
 use Rattle.dsdl_codec.specs.declared.vote_answer.VoteAnswer.{VoteAnswer}
 use Rattle.dsdl_codec.specs.VoteAnswer.{vote_answer_of}
 use Rattle.raft_core.specs.Handled.{answer_of}
-use Rattle.raft_core.specs.Times.{Sending, Times, awaits, end_vote_call, given_at, is_awaited, is_overdue, overdue, step_down, win}
+use Rattle.raft_core.specs.Times.{Times, end_vote_call, given_at, step_down, win}
 use Rattle.raft_model.specs.Lists.{at_here}
 use Rattle.raft_model.specs.Messages.{Answer, Request}
 use Rattle.raft_model.specs.Moves.Elections.{counts, has_quorum, votes_with}
@@ -15,24 +15,21 @@ use Rattle.raft_model.specs.Moves.Move.{TakeVoteAnswer}
 use Rattle.raft_model.specs.Server.{Role}
 use Rattle.raft_model.specs.Server.Role.{Candidate, Follower, Leader}
 use Rattle.replay_text.specs.declared.row.Row.{Row}
-use Rattle.transfer_rx.specs.Reassembly.{Answer as Received, Arrival, Gives, answer}
-use Rattle.alloc_spec.specs.Accepted.{setting_for}
+use Rattle.transfer_rx.specs.Reassembly.{Answer as Received, Arrival}
 use Rattle.alloc_spec.specs.AllocatorState.{AllocatorState, members_of}
 use Rattle.alloc_spec.specs.Delivered.{StepResult, by_kind, delivery_phase, reads}
 use Rattle.alloc_spec.specs.Services.{answers_call, takes_vote_answer, vote_answered}
-use Rattle.alloc_spec.specs.Step.{all_nodes, at_moment, with_answer}
+use Rattle.alloc_spec.specs.Step.{with_answer}
 use Rattle.alloc_spec.specs.Step.Event.{Rx}
 use Rattle.alloc_spec.specs.StepState.{StepState, with_moves}
 use Rattle.alloc_spec.specs.Transfers.{SentTransfer, kind_of, number_of}
 use Rattle.alloc_spec.proofs.Blanks.{move_with_blank}
 use Rattle.alloc_spec_laws.specs.Phases.{when_seen, when_told}
-use Rattle.cluster_progress.proofs.FollowUps.{same_number, when_come}
 use Rattle.calm_election.specs.Votes.{WaitsForVote}
 use Rattle.calm_leader.proofs.RaftPhases.{EndsQuietly, Keeps, OfServer, until_calls}
-use Rattle.calm_election.proofs.VotesTaken.{vote_answer_taken}
 use Rattle.cluster_calm.specs.Comes.{Delivers, delivery_of}
-use Rattle.cluster_calm.proofs.Calls.{on_list}
-use Rattle.calm_leader.proofs.AnswersTaken.{Keeps as KeepsCall, is_young, kept_call, not_given_up}
+use Rattle.calm_leader.proofs.AnswersAwaited.{IsAwaited, comes_awaited, vote_ends}
+use Rattle.calm_leader.proofs.Deliveries.{come, given}
 use Rattle.cluster_spec.specs.Cluster.{Cluster, arrival_at, frame_at}
 
 -- what reads as no vote answer changes nothing
@@ -65,28 +62,14 @@ module _ (n moment : ℕ) (y : SentTransfer) (request : Request) (w : Cluster) (
 
   -- as the answer comes
   abbrev g : StepState
-  g = when_come t number arrival
+  g = come n y w row delivers
 
-  -- the call is not overdue, and so it is pending still
-  young : is_overdue (t.times.sending m) (max t.now delivers.ms) ≡ false
-  young = ap (λ (s : Option Sending). is_overdue s (max t.now delivers.ms)) waits.kept ∙ is_young (record { id = y.offer.id; moment = moment }) (max t.now delivers.ms) soon
-
-  keeps : KeepsCall m t.raft_server g.allocator.raft_server t.times g.allocator.times
-  keeps = kept_call m (members_of (at_moment arrival.moment t)) t.me number (given_at (max t.now delivers.ms)) (overdue t.times (max t.now delivers.ms) all_nodes)
-      (not_given_up t.times (max t.now delivers.ms) m young all_nodes) t.raft_server t.times
-
-  pending : g.allocator.raft_server.memory.pending m ≡ Some request
-  pending = keeps.pending ∙ waits.pending
-
-  -- the answer is the one that is awaited
-  awaited : is_awaited g.allocator.raft_server g.allocator.times m false y.offer.id ≡ true
-  awaited = (λ i. awaits (pending i) ((keeps.sending ∙ waits.kept) i) false y.offer.id)
-      ∙ (ap (λ (b : Bool). not b && (y.offer.id == y.offer.id)) waits.vote ∙ same_number y.offer.id)
+  its : IsAwaited y request t g
+  its = comes_awaited n moment y request w row delivers waits.listed waits.pending waits.kept soon
 
   -- what the step has seen by then
   seen : when_seen t number (Rx arrival) ≡ (delivery_phase number (delivery_of y) g).step_state
-  seen = ap (λ (a : Received). (with_answer number a g).step_state)
-      (subst (λ (k : ℕ). answer (setting_for k) t.sessions (arrival_at (frame_at w.frames delivers.k) (max t.now delivers.ms)) ≡ Gives (delivery_of y)) (sym me) delivers.gives)
+  seen = ap (λ (a : Received). (with_answer number a g).step_state) (given n y w row delivers me)
 
   -- ---- it reads as no answer
 
@@ -98,7 +81,7 @@ module _ (n moment : ℕ) (y : SentTransfer) (request : Request) (w : Cluster) (
 
   pub pending_told : vote_answer_of y.offer.payload ≡ None → Keeps IsPending (when_told t number (Rx arrival))
   pending_told read = until_calls number IsPending pending_quietly (when_seen t number (Rx arrival))
-      (subst (Keeps IsPending) (sym (seen ∙ no_answer number y g what read)) (pending, keeps.sending ∙ waits.kept))
+      (subst (Keeps IsPending) (sym (seen ∙ no_answer number y g what read)) (its.pending, its.keeps.sending ∙ waits.kept))
 
   -- ---- it reads as an answer
 
@@ -113,10 +96,7 @@ module _ (n moment : ℕ) (y : SentTransfer) (request : Request) (w : Cluster) (
     taken = answer_of y.step m request says.term says.granted
 
     taken_is : (delivery_phase number (delivery_of y) g).step_state ≡ answers_call number (vote_answered (delivery_of y) says) (Some request) g
-    taken_is = ap (λ (s : StepResult). s.step_state)
-        (vote_answer_taken number (delivery_of y) says g (ap kind_of what) (ap number_of what) read (on_list (members_of t) m waits.listed))
-        ∙ (ap (λ (b : Bool). if b then answers_call number (vote_answered (delivery_of y) says) (g.allocator.raft_server.memory.pending m) g else g) awaited
-        ∙ ap (λ (p : Option Request). answers_call number (vote_answered (delivery_of y) says) p g) pending)
+    taken_is = ap (λ (s : StepResult). s.step_state) (vote_ends number y request t g its says what read waits.vote)
 
     abbrev moved : StepState
     moved = with_moves number (given_at g.allocator.now) (TakeVoteAnswer taken ∷ []) g

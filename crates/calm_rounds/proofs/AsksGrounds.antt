@@ -34,7 +34,8 @@ use Rattle.calm_leader.specs.CallsComeBack.{LeadsNotIfUp}
 use Rattle.calm_leader.proofs.Stretches.{harmless_both, world_both}
 use Rattle.calm_rounds.specs.Running.{IsCalmOf, quiet_within}
 use Rattle.calm_rounds.specs.Sent.{HasAsked}
-use Rattle.calm_rounds.proofs.AsksFrames.{Flies, flies_on, from_group}
+use Rattle.calm_leader.proofs.LeadsOnWays.{IsCalmOn, calm_on}
+use Rattle.calm_rounds.proofs.AsksFrames.{from_group}
 use Rattle.calm_rounds.proofs.AsksKept.{past_in}
 use Rattle.calm_rounds.proofs.AsksLaw.{asks_not_itself, stands_then}
 use Rattle.calm_rounds.proofs.AsksScene.{Asker, here, laws_at, listed, the_calm}
@@ -142,8 +143,8 @@ module _ (below : Below) (ids : List ℕ) (members : AreMembers ids) (rows : Lis
     are : AreWell group v
     are = well_in ids (choice rows harmless) (made rows harmless) v (run rows harmless) (shows rows harmless) (places_in ids rows) group there calm.running
 
-    flies : Flies laws group nodes clocks pace (here s front) (timed ∷ rest)
-    flies = flies_on laws group nodes clocks pace front (timed ∷ rest) v
+    flies : IsCalmOn group clocks pace (here s front) (timed ∷ rest)
+    flies = calm_on group laws nodes clocks pace front (timed ∷ rest) v
         (record { traffic = no_traffic start; calm = calm.calm; are = are; flies = λ party. refl })
 
     -- ---- the member from which the vote comes

@@ -11,19 +11,17 @@ use Rattle.replay_text.specs.declared.row.Row.{Row}
 use Rattle.alloc_spec.specs.AllocatorState.{AllocatorState}
 use Rattle.alloc_spec.specs.Step.{step}
 use Rattle.cluster_agreement.proofs.TakenMessages.{is_append_request}
-use Rattle.alloc_spec.specs.Transfers.{Offer}
 use Rattle.cluster_recovery.specs.Calm.{Pace, Timed, rows_in}
 use Rattle.cluster_calm.specs.Calls.{CallsReadAsSaid, ReadsAsSaid}
-use Rattle.cluster_calm.specs.Calm.{IsRunning, Member as OfMember, Party}
-use Rattle.cluster_calm.specs.Comes.{Sends, sent_by}
+use Rattle.cluster_calm.specs.Calm.{Member as OfMember, Party}
+use Rattle.cluster_calm.specs.Comes.{sent_by}
 use Rattle.calm_leader.specs.CallsAsk.{AsksNext, CallsAskNext, next_request}
-use Rattle.calm_leader.proofs.RowsOfOne.{stepped_up}
 use Rattle.calm_election.specs.Votes.{HearsAppend}
 use Rattle.calm_rounds.specs.Running.{IsCalmOf}
 use Rattle.calm_rounds.specs.Sent.{HasCalled}
-use Rattle.calm_rounds.proofs.HeardMade.{HeardLaws, WasSent, by_law, harm_then, running_then, up_before, was_sent}
+use Rattle.calm_rounds.proofs.HeardMade.{HeardLaws, WasSent, reads_so, up_then, was_sent}
 use Rattle.cluster_spec.specs.Cluster.{Cluster, after_rows, cluster, world_of}
-use Rattle.cluster_spec.specs.Lawful.{DoNoHarm, DoesNoHarm}
+use Rattle.cluster_spec.specs.Lawful.{DoNoHarm}
 
 one_request : (a b : AppendRequest) → ◌≡◌ {A = Option AppendRequest} (Some a) (Some b) → a ≡ b
 one_request a b e = cc e
@@ -48,12 +46,8 @@ module _ (ids : List ℕ) (laws : HeardLaws ids) (reads_said : (list : List Row)
 
   -- the call reads as it says
   said : ReadsAsSaid (sent_by its.n before its.offer)
-  said = by_law ids laws rows harmless group clocks pace start (front ++ timed ∷ rest) calm front rest timed refl (2 * pace.delay) m AppQ hears.delivery timed.at its
-      (λ v. (n : ℕ) (row : Row) (offer : Offer) → DoesNoHarm v row → IsRunning n v → Sends n v row offer → offer.what ≡ AppQ → ReadsAsSaid (sent_by n v offer))
-      reads_said its.n its.timed.row its.offer
-      (harm_then ids laws rows harmless group clocks pace start (front ++ timed ∷ rest) calm front rest timed refl (2 * pace.delay) m AppQ hears.delivery timed.at its)
-      (running_then ids laws rows harmless group clocks pace start (front ++ timed ∷ rest) calm front rest timed refl (2 * pace.delay) m AppQ hears.delivery timed.at its)
-      its.sends its.what_is
+  said = reads_so ids laws rows harmless group clocks pace start (front ++ timed ∷ rest) calm front rest timed refl (2 * pace.delay) m AppQ hears.delivery timed.at its
+      ReadsAsSaid reads_said
 
   same_request : said.request ≡ hears.request
   same_request = one_request said.request hears.request (sym said.read ∙ (ap append_request_of its.payload ∙ hears.hears.read))
@@ -90,9 +84,7 @@ module _ (ids : List ℕ) (laws : HeardLaws ids) (reads_said : (list : List Row)
       };
       leads = record {
         server = after;
-        runs = (stepped_up before its.n its.sends.server
-            (up_before ids laws rows harmless group clocks pace start (front ++ timed ∷ rest) calm front rest timed refl (2 * pace.delay) m AppQ hears.delivery timed.at its)
-            its.timed.row its.sends.event its.sends.in_step).status;
+        runs = (up_then ids laws rows harmless group clocks pace start (front ++ timed ∷ rest) calm front rest timed refl (2 * pace.delay) m AppQ hears.delivery timed.at its).status;
         leads = next.leads;
         its_term = same_term ∙ ap (λ (r : AppendRequest). r.term) same_request;
       };

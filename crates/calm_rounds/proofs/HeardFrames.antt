@@ -1,15 +1,15 @@
 -- Frames on their way to a party in a calm, with what holds of each and of the moment since when it is on the bus.
-use Rattle.std.proofs.Common.{◌≡◌, ℕ, ◌+◌, ◌≤◌, arith, Bool, true, false, not, List, [], ◌∷◌, ◌++◌, drop, length, length-append, refl, sym, subst, Option, None, Some}
-use Rattle.std.specs.Prelude.{⊤, ◌-◌, ◌==◌, is_some, if◌then◌else◌}
+use Rattle.std.proofs.Common.{◌≡◌, ℕ, ◌+◌, ◌≤◌, arith, List, [], ◌∷◌, ◌++◌, drop, length, length-append, sym, subst, Some}
+use Rattle.std.specs.Prelude.{⊤, ◌-◌}
 use Rattle.std.proofs.lemmas.List.{get_or_append_left, get_or_at}
 use Rattle.raft_model.specs.Lists.{In}
 use Rattle.replay_text.specs.declared.row.Row.{Row}
-use Rattle.replay_text.specs.declared.row.Row.TheVariants.{AEnd, AOpen, ARx, ASend, ATick, Crash, Ext, Fault, Open, Rx, Send, Tick}
 use Rattle.transfer_tx.specs.Queue.{Queued}
-use Rattle.cluster_recovery.specs.Calm.{IsNext, NoneIsLate, OnItsWay, Pace, next_on_bus}
+use Rattle.calm_leader.proofs.FramesFly.{so_after}
+use Rattle.cluster_recovery.specs.Calm.{IsNext, NoneIsLate, OnItsWay, Pace}
 use Rattle.cluster_calm.specs.Calm.{Device as OfDevice, IsCalmRow, Member as OfMember, Party, Traffic, on_way_after}
 use Rattle.cluster_spec.specs.Allocatees.{next_from}
-use Rattle.cluster_spec.specs.Cluster.{Cluster, after_row, frame_at, in_list, no_frame}
+use Rattle.cluster_spec.specs.Cluster.{Cluster, after_row, frame_at, no_frame}
 use Rattle.cluster_spec.specs.Members.{next_frame}
 
 -- ---- the frames of the bus
@@ -68,49 +68,8 @@ module _ (Holds : ℕ → Queued → Type 0) where
   module _ (group : List Party) (clocks : Party → ℕ) (pace : Pace) (traffic : Traffic) (w : Cluster) (flies : (party : Party) → AreOnWay w.frames (traffic.to party))
       (moment : ℕ) (from_member : (n : ℕ) (g : Queued) → In (OfMember n) group → next_frame (w.member n).status ≡ Some g → Holds moment g)
       (from_device : (a : ℕ) (g : Queued) → In (OfDevice a) group → next_from (w.allocatee a) ≡ Some g → Holds moment g) where
-    goes_out : (g : Queued) → Holds moment g → (mine : Bool) (party : Party) → (o : Option Queued) → o ≡ Some g
-        → AreOnWay (w.frames ++ in_list o) (if not mine then traffic.to party ++ next_on_bus moment w ∷ [] else traffic.to party)
-    goes_out g is mine party o e = subst (λ (other : Option Queued). AreOnWay (w.frames ++ in_list other)
-        (if not mine then traffic.to party ++ next_on_bus moment w ∷ [] else traffic.to party)) (sym e) (by mine)
-      where
-        by : (b : Bool) → AreOnWay (w.frames ++ g ∷ []) (if not b then traffic.to party ++ next_on_bus moment w ∷ [] else traffic.to party)
-        by true = on_more w.frames g (traffic.to party) (flies party)
-        by false = on_one w.frames g moment (traffic.to party) is (flies party)
-
-    some_goes : (o : Option Queued) → is_some o ≡ true → (g : Queued) × (o ≡ Some g)
-    some_goes None e = absurd (cc (e))
-    some_goes (Some g) e = (g, refl)
-
-    comes : (mine : Bool) (party : Party) → AreOnWay w.frames (if mine then drop 1 (traffic.to party) else traffic.to party)
-    comes true party = drop_first w.frames (traffic.to party) (flies party)
-    comes false party = flies party
-
     -- so it is after each calm row
     pub on_way_then : (row : Row) → IsCalmRow group clocks pace traffic w moment row → (party : Party)
         → AreOnWay (after_row w row).frames (on_way_after moment w row party (traffic.to party))
-    on_way_then (Tick n ms word) calm party = flies party
-    on_way_then (Rx n k ms) calm (OfMember m) = comes (n == m) (OfMember m)
-    on_way_then (Rx n k ms) calm (OfDevice b) = flies (OfDevice b)
-    on_way_then (Send n) calm party =
-        let some = some_goes (next_frame (w.member n).status) calm.1 in by some.0 some.1 (from_member n some.0 calm.0 some.1) party
-      where
-        by : (g : Queued) → next_frame (w.member n).status ≡ Some g → Holds moment g → (party : Party)
-            → AreOnWay (after_row w (Send n)).frames (on_way_after moment w (Send n) party (traffic.to party))
-        by g e is (OfMember m) = goes_out g is (n == m) (OfMember m) (next_frame (w.member n).status) e
-        by g e is (OfDevice b) = goes_out g is false (OfDevice b) (next_frame (w.member n).status) e
-    on_way_then (ATick a ms word) calm party = flies party
-    on_way_then (ARx a k ms word) calm (OfMember m) = flies (OfMember m)
-    on_way_then (ARx a k ms word) calm (OfDevice b) = comes (a == b) (OfDevice b)
-    on_way_then (ASend a) calm party =
-        let some = some_goes (next_from (w.allocatee a)) calm.1 in by some.0 some.1 (from_device a some.0 calm.0 some.1) party
-      where
-        by : (g : Queued) → next_from (w.allocatee a) ≡ Some g → Holds moment g → (party : Party)
-            → AreOnWay (after_row w (ASend a)).frames (on_way_after moment w (ASend a) party (traffic.to party))
-        by g e is (OfMember m) = goes_out g is false (OfMember m) (next_from (w.allocatee a)) e
-        by g e is (OfDevice b) = goes_out g is (a == b) (OfDevice b) (next_from (w.allocatee a)) e
-    on_way_then (Open n told ms word) calm party = absurd calm
-    on_way_then (Ext frame) calm party = absurd calm
-    on_way_then (Crash n calls pattern) calm party = absurd calm
-    on_way_then (Fault n call) calm party = absurd calm
-    on_way_then (AOpen a uid pref ms word) calm party = absurd calm
-    on_way_then (AEnd a) calm party = absurd calm
+    on_way_then row calm = so_after AreOnWay (Holds moment) group clocks pace traffic w moment (drop_first w.frames) (on_more w.frames) (λ g. on_one w.frames g moment)
+        flies row calm (λ n g i is e. from_member n g i e) (λ a g i is e. from_device a g i e)

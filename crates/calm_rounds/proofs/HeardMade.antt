@@ -1,7 +1,5 @@
 -- What is delivered of Raft's messages in a calm was made in it by another member of the group, two delays before at most.
-use Rattle.std.proofs.Common.{◌≡◌, ◌≢◌, ℕ, ◌+◌, ◌*◌, ◌<◌, ◌≤◌, arith, Bool, true, false, not, List, [], ◌∷◌, ◌++◌, max, refl, sym, ◌∙◌, ap, subst, inl, inr, Some}
-use Rattle.std.specs.Prelude.{◌&&◌, ◌||◌, nat_eq}
-use Rattle.std.proofs.lemmas.Bool.Decides.{eqb_tells}
+use Rattle.std.proofs.Common.{◌≡◌, ◌≢◌, ℕ, ◌+◌, ◌*◌, ◌<◌, ◌≤◌, arith, Bool, true, false, List, [], ◌∷◌, ◌++◌, max, refl, sym, ◌∙◌, ap, subst, inl, inr, Some}
 use Rattle.std.proofs.lemmas.List.{append_assoc}
 use Rattle.can_frame.specs.declared.identifier.Ident.{Ident}
 use Rattle.can_frame.specs.declared.step.What.{What}
@@ -18,29 +16,31 @@ use Rattle.transfer_rx.specs.Sound.{IsDelivered}
 use Rattle.transfer_tx.specs.Run.{of_identifier}
 use Rattle.alloc_spec.specs.Accepted.{rows as accepted_rows, setting_for}
 use Rattle.alloc_spec.specs.AllocatorState.{AllocatorState}
+use Rattle.alloc_spec.specs.Step.{step}
 use Rattle.alloc_spec.specs.Transfers.{Offer, SentTransfer, ident_of, kind_of, number_of}
-use Rattle.alloc_spec_laws.proofs.Choices.{and_right, eq_false, not_true}
 use Rattle.cluster_agreement.specs.Safe.{IsDeliveredTo, IsOneTransfer}
 use Rattle.cluster_agreement.specs.Shows.{Shows}
 use Rattle.cluster_agreement.proofs.Concatenations.{first_harmless, row_harmless}
-use Rattle.cluster_agreement.proofs.Idents.{ident_ok, service_is, wanted_is}
+use Rattle.cluster_agreement.proofs.Idents.{IsWanted, ident_ok, service_is}
+use Rattle.calm_leader.proofs.HeardIdents.{is_wanted, not_own}
 use Rattle.cluster_agreement.proofs.WholeTransfers.{members_own}
 use Rattle.cluster_recovery.specs.Calm.{Pace, Timed, rows_in}
 use Rattle.cluster_recovery.proofs.Goes.{after_both}
 use Rattle.cluster_recovery.proofs.Members.{IsUp}
 use Rattle.cluster_calm.specs.Calm.{AreCalm, IsCalmRow, IsRunning, Member as OfMember, Party, no_traffic}
-use Rattle.cluster_calm.specs.Comes.{Sends}
+use Rattle.cluster_calm.specs.Comes.{Sends, sent_by}
 use Rattle.cluster_calm.proofs.Group.{AreWell, CalmLaws, IsOf}
 use Rattle.cluster_calm.proofs.Others.{some_ident}
 use Rattle.cluster_calm.proofs.Pair.{same_server}
 use Rattle.cluster_calm.proofs.Start.{places_in, well_in}
 use Rattle.calm_leader.proofs.LeadsOn.{DeliversOne}
+use Rattle.calm_leader.proofs.RowsOfOne.{stepped_up}
 use Rattle.calm_leader.proofs.Stretches.{GoesOnFrom, calm_first, harmless_both, rows_both, world_both}
 use Rattle.calm_election.proofs.MadeInCalm.{IsMadeIn, made_later}
 use Rattle.calm_rounds.specs.Running.{IsCalmOf}
 use Rattle.calm_rounds.proofs.HeardFrames.{next_comes}
 use Rattle.calm_rounds.proofs.HeardRows.{AreCounted, FliesSo, GoesOn, Halves, IsOfRaft, begins, counted_so, further, halves}
-use Rattle.cluster_spec.specs.Cluster.{AreMembers, Cluster, after_rows, arrival_at, cluster, frame_at, world_of}
+use Rattle.cluster_spec.specs.Cluster.{AreMembers, Cluster, after_row, after_rows, arrival_at, cluster, frame_at, world_of}
 use Rattle.cluster_spec.specs.Lawful.{DoNoHarm, DoesNoHarm, is_forged}
 use Rattle.cluster_spec.specs.Members.MemberStatus.{Up}
 use Rattle.cluster_spec.specs.Refinement.{transfers_of_rows}
@@ -86,16 +86,6 @@ of_node what (inl (inl e)) = ap (λ (x : What). is_anonymous (kind_of x)) e
 of_node what (inl (inr e)) = ap (λ (x : What). is_anonymous (kind_of x)) e
 of_node what (inr (inl e)) = ap (λ (x : What). is_anonymous (kind_of x)) e
 of_node what (inr (inr e)) = ap (λ (x : What). is_anonymous (kind_of x)) e
-
--- a receiver hears nothing of its own
-not_own : (me : ℕ) (ident : Ident) → 1 ≤ me → is_for me ident ≡ true → ident.source ≢ me
-not_own me ident low e = elim (eqb_tells me 0) [
-  | inl z ↦ absurd (omega (arith, z.1, low))
-  | inr z ↦
-      let other : (not (is_service ident.kind && not (nat_eq ident.dest me)) && not (nat_eq ident.source me)) ≡ true
-      = subst (λ (b : Bool). (b || (not (is_service ident.kind && not (nat_eq ident.dest me)) && not (nat_eq ident.source me))) ≡ true) z.0 e in
-      eq_false ident.source me (not_true (nat_eq ident.source me) (and_right (not (is_service ident.kind && not (nat_eq ident.dest me))) (not (nat_eq ident.source me)) other))
-]
 
 module _ (ids : List ℕ) (laws : HeardLaws ids) (rows : List Row) (harmless : DoNoHarm (cluster ids) rows) (group : List Party) (clocks : Party → ℕ) (pace : Pace)
     (start : ℕ) (whole : List Timed) (calm : IsCalmOf ids rows group clocks pace start whole) where
@@ -199,12 +189,11 @@ module _ (ids : List ℕ) (laws : HeardLaws ids) (rows : List Row) (harmless : D
       its : IsDelivered (setting_for t.me) t.sessions (arrival_at (frame_at (there front).frames k) (max t.now ms)) d
       its = laws.calm.frame.delivered (setting_for t.me) t.sessions (arrival_at (frame_at (there front).frames k) (max t.now ms)) d gives
 
-      reads : identifier_of (frame_at (there front).frames k).id ≡ Some d.ident
-      reads = (wanted_is accepted_rows t.me (frame_at (there front).frames k).id its.w its.accepted).read ∙ ap (λ (i : Ident). Some i) (sym its.ident)
+      wants : IsWanted accepted_rows t.me (frame_at (there front).frames k).id d.ident
+      wants = is_wanted laws.calm.frame t.me t.sessions (arrival_at (frame_at (there front).frames k) (max t.now ms)) d gives
 
       for_me : is_for m d.ident ≡ true
-      for_me = subst (λ (n : ℕ). is_for n d.ident ≡ true) me
-          (ap (is_for t.me) its.ident ∙ (wanted_is accepted_rows t.me (frame_at (there front).frames k).id its.w its.accepted).for_me)
+      for_me = subst (λ (n : ℕ). is_for n d.ident ≡ true) me wants.for_me
 
       service : is_service d.ident.kind ≡ true
       service = sym (ap is_service kind) ∙ of_service what is_raft
@@ -222,7 +211,7 @@ module _ (ids : List ℕ) (laws : HeardLaws ids) (rows : List Row) (harmless : D
         same : d.ident ≡ ident_of p own.what own.to
         same = let node = nodes p in_p in
             some_ident d.ident (ident_of p own.what own.to)
-            (sym reads ∙ (ap identifier_of own.id ∙ laws.calm.frame.ident_read (ident_of p own.what own.to) (ident_ok p own.what own.to node.0 node.1 own.dest)))
+            (sym wants.read ∙ (ap identifier_of own.id ∙ laws.calm.frame.ident_read (ident_of p own.what own.to) (ident_ok p own.what own.to node.0 node.1 own.dest)))
 
         source_is : d.ident.source ≡ p
         source_is = ap (λ (j : Ident). j.source) same
@@ -328,7 +317,7 @@ module _ (ids : List ℕ) (laws : HeardLaws ids) (rows : List Row) (harmless : D
           | inr (inr early) ↦ (let soon = coming.1 in absurd (omega (arith, early, soon)))
         ]
         | inr none ↦ absurd (cc (
-            sym (ap (λ (j : Ident). is_anonymous j.kind) (some_ident d.ident none.ident (sym reads ∙ none.read)) ∙ ap is_anonymous none.kind) ∙ known))
+            sym (ap (λ (j : Ident). is_anonymous j.kind) (some_ident d.ident none.ident (sym wants.read ∙ none.read)) ∙ ap is_anonymous none.kind) ∙ known))
       ]
 
   -- ---- who sent it
@@ -338,16 +327,23 @@ module _ (ids : List ℕ) (laws : HeardLaws ids) (rows : List Row) (harmless : D
     pub cut_before : whole ≡ its.first ++ its.timed ∷ (its.more ++ timed ∷ rest)
     cut_before = cut ∙ (ap (λ (l : List Timed). l ++ timed ∷ rest) its.split ∙ append_assoc its.first (its.timed ∷ its.more) (timed ∷ rest))
 
-    pub harm_then : DoesNoHarm (there its.first) its.timed.row
-    harm_then = harm_row its.first (its.more ++ timed ∷ rest) its.timed cut_before
+    abbrev before : Cluster
+    before = there its.first
 
-    pub running_then : IsRunning its.n (there its.first)
+    running_then : IsRunning its.n before
     running_then = running_there its.first (its.more ++ timed ∷ rest) its.timed cut_before its.n its.member
 
-    pub up_before : IsUp its.sends.server ((there its.first).member its.n)
-    up_before = record { status = its.sends.runs; quiet = record { faults = running_then.faults; calls = running_then.disk } }
+    -- it runs behind its row
+    pub up_then : IsUp (step its.sends.server (before.rows + 1) its.sends.event).step_state.allocator ((after_row before its.timed.row).member its.n)
+    up_then = stepped_up before its.n its.sends.server (record { status = its.sends.runs; quiet = record { faults = running_then.faults; calls = running_then.disk } })
+        its.timed.row its.sends.event its.sends.in_step
 
-    -- what holds of each world that rows reach which do no harm holds of the one before its row
-    pub by_law : (Law : Cluster → Type 0) → ((list : List Row) → DoNoHarm (cluster ids) list → Law (world_of ids list)) → Law (there its.first)
-    by_law Law law = subst Law (reached its.first (its.more ++ timed ∷ rest) its.timed cut_before)
-        (law (rows ++ rows_in its.first) (harm_there its.first (its.more ++ timed ∷ rest) its.timed cut_before))
+    -- what is read of each such transfer is read of this one
+    pub reads_so : (Reads : SentTransfer → Type 0)
+        → ((list : List Row) → DoNoHarm (cluster ids) list → (n : ℕ) (row : Row) (offer : Offer) → DoesNoHarm (world_of ids list) row
+        → IsRunning n (world_of ids list) → Sends n (world_of ids list) row offer → offer.what ≡ what → Reads (sent_by n (world_of ids list) offer))
+        → Reads (sent_by its.n before its.offer)
+    reads_so Reads law = subst (λ (v : Cluster). (n : ℕ) (row : Row) (offer : Offer) → DoesNoHarm v row → IsRunning n v → Sends n v row offer → offer.what ≡ what
+        → Reads (sent_by n v offer)) (reached its.first (its.more ++ timed ∷ rest) its.timed cut_before)
+        (law (rows ++ rows_in its.first) (harm_there its.first (its.more ++ timed ∷ rest) its.timed cut_before)) its.n its.timed.row its.offer
+        (harm_row its.first (its.more ++ timed ∷ rest) its.timed cut_before) running_then its.sends its.what_is

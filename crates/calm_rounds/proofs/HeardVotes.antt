@@ -10,20 +10,18 @@ use Rattle.transfer_rx.specs.Reassembly.{Gives, answer}
 use Rattle.alloc_spec.specs.Accepted.{setting_for}
 use Rattle.alloc_spec.specs.AllocatorState.{AllocatorState}
 use Rattle.alloc_spec.specs.Step.{step}
-use Rattle.alloc_spec.specs.Transfers.{Offer}
 use Rattle.cluster_agreement.proofs.TakenMessages.{is_vote_request}
 use Rattle.cluster_recovery.specs.Calm.{Pace, Timed, rows_in}
-use Rattle.cluster_calm.specs.Calm.{IsRunning, Member as OfMember, Party}
-use Rattle.cluster_calm.specs.Comes.{Sends, sent_by}
-use Rattle.calm_leader.proofs.RowsOfOne.{stepped_up}
+use Rattle.cluster_calm.specs.Calm.{Member as OfMember, Party}
+use Rattle.cluster_calm.specs.Comes.{sent_by}
 use Rattle.calm_election.specs.Votes.{VoteReadsAsSaid, VoteRequestsReadAsSaid}
 use Rattle.calm_election.specs.Waits.{GivesVote}
 use Rattle.calm_election.proofs.VotesSaid.{SaysStore, candidates_ask, says_its_store}
 use Rattle.calm_rounds.specs.Running.{IsCalmOf}
 use Rattle.calm_rounds.specs.Sent.{HasAskedFor}
-use Rattle.calm_rounds.proofs.HeardMade.{HeardLaws, WasSent, by_law, harm_then, me_there, running_then, up_before, was_sent}
+use Rattle.calm_rounds.proofs.HeardMade.{HeardLaws, WasSent, me_there, reads_so, up_then, was_sent}
 use Rattle.cluster_spec.specs.Cluster.{Cluster, after_rows, arrival_at, cluster, frame_at, world_of}
-use Rattle.cluster_spec.specs.Lawful.{DoNoHarm, DoesNoHarm}
+use Rattle.cluster_spec.specs.Lawful.{DoNoHarm}
 
 one_request : (a b : VoteRequest) → ◌≡◌ {A = Option VoteRequest} (Some a) (Some b) → a ≡ b
 one_request a b e = cc e
@@ -53,12 +51,8 @@ module _ (ids : List ℕ) (laws : HeardLaws ids) (reads_said : (list : List Row)
 
   -- the request reads as it says
   said : VoteReadsAsSaid (sent_by its.n before its.offer)
-  said = by_law ids laws rows harmless group clocks pace start (front ++ timed ∷ rest) calm front rest timed refl (2 * pace.delay) m VoteQ gives.delivery timed.at its
-      (λ v. (n : ℕ) (row : Row) (offer : Offer) → DoesNoHarm v row → IsRunning n v → Sends n v row offer → offer.what ≡ VoteQ → VoteReadsAsSaid (sent_by n v offer))
-      reads_said its.n its.timed.row its.offer
-      (harm_then ids laws rows harmless group clocks pace start (front ++ timed ∷ rest) calm front rest timed refl (2 * pace.delay) m VoteQ gives.delivery timed.at its)
-      (running_then ids laws rows harmless group clocks pace start (front ++ timed ∷ rest) calm front rest timed refl (2 * pace.delay) m VoteQ gives.delivery timed.at its)
-      its.sends its.what_is
+  said = reads_so ids laws rows harmless group clocks pace start (front ++ timed ∷ rest) calm front rest timed refl (2 * pace.delay) m VoteQ gives.delivery timed.at its
+      VoteReadsAsSaid reads_said
 
   same_request : said.request ≡ gives.request
   same_request = one_request said.request gives.request (sym said.read ∙ (ap vote_request_of its.payload ∙ gives.read))
@@ -92,9 +86,7 @@ module _ (ids : List ℕ) (laws : HeardLaws ids) (reads_said : (list : List Row)
         to = its.to;
       };
       server = after;
-      runs = (stepped_up before its.n its.sends.server
-          (up_before ids laws rows harmless group clocks pace start (front ++ timed ∷ rest) calm front rest timed refl (2 * pace.delay) m VoteQ gives.delivery timed.at its)
-          its.timed.row its.sends.event its.sends.in_step).status;
+      runs = (up_then ids laws rows harmless group clocks pace start (front ++ timed ∷ rest) calm front rest timed refl (2 * pace.delay) m VoteQ gives.delivery timed.at its).status;
       stands = candidates_ask its.sends.server (before.rows + 1) its.sends.event its.offer its.sends.offered its.what_is;
       its_term = sym (ap (λ (r : VoteRequest). r.term) same_request) ∙ says.term;
       its_last_term = sym (ap (λ (r : VoteRequest). r.last_term) same_request) ∙ says.last_term_is;

@@ -79,7 +79,6 @@ pub mod AskingServed
 pub mod KnownTold
 pub mod TidySteps
 pub mod TidyServers
-pub mod TidyWays
 pub mod TidyRows
 pub mod TidyCalm
 pub mod TidyMembers

@@ -29,14 +29,15 @@ use Rattle.calm_service.proofs.DialogFrames.{HasSource, has_source}
 use Rattle.calm_service.proofs.RequestsRows.{AllHearParts, HearsParts, sends_part, tells_then}
 use Rattle.calm_service.proofs.RequestsSteps.{accepted_on}
 use Rattle.calm_service.proofs.RequestsTell.{begin_behind, whole_is}
-use Rattle.calm_service.proofs.SettledAsked.{is_request, is_wanted}
+use Rattle.calm_service.proofs.SettledAsked.{is_request}
 use Rattle.calm_service.proofs.TidyCalm.{comes_with}
 use Rattle.calm_service.proofs.TidyRows.{Does, does}
 use Rattle.calm_service.proofs.TidyRows.Does.{Hears, Sends, Stays, Ticks}
-use Rattle.calm_service.proofs.TidyWays.{AllAre, all_after, next_is}
 use Rattle.calm_service.specs.ServiceBelow.{ServiceGrounds}
 use Rattle.calm_service.proofs.RequestsHeard.{all_hear}
 use Rattle.calm_service.proofs.ServiceGrounds.{calm_laws, well}
+use Rattle.calm_leader.proofs.FramesFly.{Fly, fly_after, next_is}
+use Rattle.calm_leader.proofs.HeardIdents.{is_wanted}
 use Rattle.cluster_spec.specs.Allocatees.{next_from}
 use Rattle.cluster_spec.specs.Cluster.{AreMembers, Cluster, after_row, after_rows, arrival_at, cluster, frame_at, receipt_of, tick_of, world_of}
 use Rattle.cluster_spec.specs.Lawful.{DoNoHarm}
@@ -66,7 +67,7 @@ module _ (laws : CalmLaws) (requests : RequestsAreRequests) (group : List Party)
   -- all frames on their way are so, and each member has accepted a beginning
   record AreTelling (traffic : Traffic) (w : Cluster) : Type 0 where
     pub well : AreWell group w
-    pub flies : (party : Party) → AllAre IsTelling w.frames (traffic.to party)
+    pub flies : (party : Party) → Fly IsTelling w.frames (traffic.to party)
     pub begins : (p : ℕ) → In (OfMember p) group → HasAcceptedBeginning uid p w
     pub device : TellsAt a uid w
 
@@ -124,14 +125,9 @@ module _ (laws : CalmLaws) (requests : RequestsAreRequests) (group : List Party)
     telling_after : AreTelling (traffic_after traffic w timed) (after_row w timed.row)
     telling_after = record {
       well = well_after laws group nodes w s.well clocks pace traffic timed.at timed.row calm;
-      flies = all_after IsTelling group clocks pace traffic w s.flies timed.at timed.row calm
-          (λ n g is next.
-          let i : In (OfMember n) group = (subst (IsCalmRow group clocks pace traffic w timed.at) is calm).0 in
-          inl (has_source laws.frame n g (nodes n i) (sent_own laws n (w.member n) g (s.well.members n i) next)))
-          (λ b g is next.
-          let i : In (OfDevice b) group = (subst (IsCalmRow group clocks pace traffic w timed.at) is calm).0 in
-          let own : b ≡ a = alone b i in
-          inr (sends_part requests uid whole a w s.device g (subst (λ (c : ℕ). next_from (w.allocatee c) ≡ Some g) own next)));
+      flies = fly_after IsTelling group clocks pace traffic w s.flies timed.at timed.row calm
+          (λ n g i is next. inl (has_source laws.frame n g (nodes n i) (sent_own laws n (w.member n) g (s.well.members n i) next)))
+          (λ b g i is next. inr (sends_part requests uid whole a w s.device g (subst (λ (c : ℕ). next_from (w.allocatee c) ≡ Some g) (alone b i) next)));
       begins = λ p i. begins_then p i;
       device = tells_then requests uid whole a group clocks pace traffic w timed.at timed.row s.device calm hears;
     }

@@ -40,7 +40,8 @@ use Rattle.alloc_spec.specs.StepState.{StepState}
 use Rattle.alloc_spec.specs.Tick.{proposes}
 use Rattle.alloc_spec_laws.proofs.Choices.{and_left, and_right, either, eq_true, not_true, tell}
 use Rattle.cluster_agreement.specs.LawsBelow.{FrameLaws}
-use Rattle.cluster_agreement.proofs.Idents.{IsWanted, wanted_is}
+use Rattle.cluster_agreement.proofs.Idents.{IsWanted}
+use Rattle.calm_leader.proofs.HeardIdents.{is_wanted}
 use Rattle.cluster_progress.specs.Requests.{IsRequest, moment_at}
 use Rattle.cluster_progress.specs.Serving.{MayRecord}
 use Rattle.cluster_progress.proofs.Begins.{IsAsBefore}
@@ -112,8 +113,8 @@ module _ (frame : FrameLaws) (me : ℕ) (sessions : List Session) (arrival : Arr
   its = frame.delivered (setting_for me) sessions arrival d gives
 
   -- the frame has the identifier of what is delivered, and is wanted
-  pub is_wanted : IsWanted rows me arrival.id d.ident
-  is_wanted = subst (IsWanted rows me arrival.id) (sym its.ident) (wanted_is rows me arrival.id its.w its.accepted)
+  wants : IsWanted rows me arrival.id d.ident
+  wants = is_wanted frame me sessions arrival d gives
 
   module _ (kind : d.ident.kind ≡ Anonymous) where
     is_alone : alone its.w.ident (piece_in arrival) arrival.mark ≡ Gives d
@@ -139,11 +140,11 @@ module _ (frame : FrameLaws) (me : ℕ) (sessions : List Session) (arrival : Arr
     pub is_request : (message : Allocation) → allocation_of d.payload ≡ Some message → IsRequest arrival message
     is_request message says = record {
       ident = d.ident;
-      read = is_wanted.read;
+      read = wants.read;
       kind = kind;
-      number = requests_alone d.ident.number is_wanted.signature.0
-          (ap (λ (k : Kind). first_signature rows k d.ident.number) (sym kind) ∙ is_wanted.signature.1);
-      source = has_no_id arrival.id d.ident is_wanted.read kind;
+      number = requests_alone d.ident.number wants.signature.0
+          (ap (λ (k : Kind). first_signature rows k d.ident.number) (sym kind) ∙ wants.signature.1);
+      source = has_no_id arrival.id d.ident wants.read kind;
       first = tells.0;
       last = tells.1;
       toggle = tells.2;

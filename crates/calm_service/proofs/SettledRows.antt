@@ -36,10 +36,11 @@ use Rattle.cluster_calm.specs.Calm.{IsCalmRow, Member as OfMember, Party, Traffi
 use Rattle.cluster_calm.specs.Calls.{Lists}
 use Rattle.calm_service.specs.Settled.{IsAsked, IsDelivered, IsNotAsked, MissesNobody}
 use Rattle.cluster_calm.proofs.Calls.{on_list}
+use Rattle.calm_leader.proofs.HeardIdents.{is_wanted, not_own}
 use Rattle.calm_leader.proofs.LeadsOnWays.{AreOfGroup, next_of_group}
 use Rattle.cluster_calm.proofs.Others.{some_ident}
 use Rattle.cluster_calm.proofs.Pair.{same_server}
-use Rattle.calm_service.proofs.SettledAsked.{a_discovery, asked_leaves, is_request, is_wanted, unasked_leaves}
+use Rattle.calm_service.proofs.SettledAsked.{a_discovery, asked_leaves, is_request, unasked_leaves}
 use Rattle.calm_service.proofs.SettledFrames.{Proposes}
 use Rattle.calm_service.proofs.SettledSteps.{Keeps, begins, rests_at_tick}
 use Rattle.calm_leader.proofs.TermsHeard.{IsOfGroup}
@@ -52,7 +53,7 @@ use Rattle.alloc_spec.specs.Step.{with_end_phase}
 use Rattle.alloc_spec.specs.Tick.{proposes}
 use Rattle.calm_service.proofs.SettledAsked.{Grown}
 use Rattle.calm_service.proofs.SettledRaft.{IsOffice}
-use Rattle.calm_service.proofs.SettledServers.{Settles, after_ends, later_on, not_own, rested}
+use Rattle.calm_service.proofs.SettledServers.{Settles, after_ends, later_on, rested}
 
 -- whoever waits with its blank goes on to wait as it gives up calls
 pub begins_waiting : (members : List ℕ) (me number : ℕ) (given : HandedIn) (nodes : List ℕ) (server : RaftServer) (times : Times)

@@ -1,15 +1,11 @@
 -- A member in office, by its server: between the steps, and later.
-use Rattle.std.proofs.Common.{◌≡◌, ◌≢◌, ℕ, ◌≤◌, Bool, true, false, List, [], refl, sym, ◌∙◌, subst, arith, inl, inr}
-use Rattle.std.specs.Prelude.{◌&&◌, nat_eq, not}
-use Rattle.std.proofs.lemmas.Bool.Decides.{eqb_tells}
+use Rattle.std.proofs.Common.{◌≡◌, ℕ, ◌≤◌, Bool, false, List, [], sym, subst, arith}
+use Rattle.std.specs.Prelude.{◌&&◌}
 use Rattle.alloc_exchange.specs.Exchange.{Accepted, after, answer, last_moment, after_message, has_length, is_expected, is_whole, left_over, recent_requests}
 use Rattle.alloc_exchange.specs.Exchange as exchange
 use Rattle.can_frame.specs.declared.entry.Entry.{Entry}
-use Rattle.can_frame.specs.declared.identifier.Ident.{Ident}
-use Rattle.can_frame.specs.Kinds.{is_service}
 use Rattle.cluster_discovery.specs.Members.{owes}
 use Rattle.dsdl_codec.specs.declared.allocation.Allocation.{Allocation}
-use Rattle.transfer_rx.specs.Acceptance.{is_for}
 use Rattle.alloc_spec.specs.AllocatorState.{AllocatorState, members_of, start_of}
 use Rattle.alloc_spec_laws.proofs.Choices.{either}
 use Rattle.cluster_recovery.proofs.Members.{IsUp}
@@ -82,22 +78,3 @@ later_on Holds log accepted now later x y t after_it same h = record {
   offline = h.offline;
   discovery = h.discovery;
 }
-
--- ---- whose frame it is
-
--- a receiver hears nothing of its own
-pub not_own : (me : ℕ) (ident : Ident) → 1 ≤ me → is_for me ident ≡ true → ident.source ≢ me
-not_own me ident low e same = elim (eqb_tells me 0) [
-  | inl z ↦ absurd (omega (arith, z.1, low))
-  | inr z ↦ elim (eqb_tells ident.source me) [
-    | inl y ↦ absurd (cc (sym e ∙ refused z.0 y.0))
-    | inr y ↦ y.1 same
-  ]
-]
-  where
-    both_false : (b : Bool) → (b && false) ≡ false
-    both_false true = refl
-    both_false false = refl
-
-    refused : nat_eq me 0 ≡ false → nat_eq ident.source me ≡ true → is_for me ident ≡ false
-    refused z y = rw (z) (rw (y) (both_false (not (is_service ident.kind && not (nat_eq ident.dest me)))))

@@ -9,14 +9,14 @@ use Rattle.alloc_spec.specs.Step.{after_pop, step}
 use Rattle.alloc_spec.specs.Step as server
 use Rattle.alloc_spec_laws.proofs.Choices.{eq_false}
 use Rattle.cluster_recovery.specs.Calm.{Pace, Timed}
-use Rattle.cluster_calm.specs.Calm.{AreCalm, Device as OfDevice, IsCalmRow, Member as OfMember, Party, Traffic, traffic_after}
+use Rattle.cluster_calm.specs.Calm.{AreCalm, IsCalmRow, Member as OfMember, Party, Traffic, traffic_after}
 use Rattle.cluster_calm.proofs.Group.{AreWell, CalmLaws, narrow_on_bus, sent_anonymous, well_after}
 use Rattle.calm_service.specs.Settled.{MissesNobody, NobodyIsMissed}
 use Rattle.calm_service.proofs.AllocationsOffered.{comes_to}
 use Rattle.calm_service.proofs.TidyRows.{Does, IsPlain, IsQuiet, does, none_delivered, none_numbered, quiet_same, quiet_sent, quiet_stepped, sends_plain}
 use Rattle.calm_service.proofs.TidyRows.Does.{Hears, Sends, Stays, Ticks}
 use Rattle.calm_service.proofs.TidyServers.{NoneComes}
-use Rattle.calm_service.proofs.TidyWays.{AllAre, all_after, next_is}
+use Rattle.calm_leader.proofs.FramesFly.{Fly, fly_after, next_is}
 use Rattle.cluster_spec.specs.Cluster.{Cluster, after_row, arrival_at, frame_at, receipt_of, tick_of}
 
 one_arrival : (x y : Arrival) → server.Rx x ≡ server.Rx y → x ≡ y
@@ -33,7 +33,7 @@ module _ (laws : CalmLaws) (group : List Party) (nodes : (p : ℕ) → In (OfMem
   -- each member needs no Discovery, and none waits or is on its way
   pub record IsSteady (traffic : Traffic) (w : Cluster) : Type 0 where
     pub well : AreWell group w
-    pub flies : (party : Party) → AllAre (IsPlain group) w.frames (traffic.to party)
+    pub flies : (party : Party) → Fly (IsPlain group) w.frames (traffic.to party)
     pub quiet : (p : ℕ) → In (OfMember p) group → (t : AllocatorState) × IsQuiet p t w
 
   module _ (traffic : Traffic) (w : Cluster) (timed : Timed) (calm : IsCalmRow group clocks pace traffic w timed.at timed.row) (s : IsSteady traffic w) where
@@ -80,13 +80,9 @@ module _ (laws : CalmLaws) (group : List Party) (nodes : (p : ℕ) → In (OfMem
     pub steady_after : IsSteady (traffic_after traffic w timed) (after_row w timed.row)
     steady_after = record {
       well = well_after laws group nodes w s.well clocks pace traffic timed.at timed.row calm;
-      flies = all_after (IsPlain group) group clocks pace traffic w s.flies timed.at timed.row calm
-          (λ n g is next.
-          let i : In (OfMember n) group = (subst (IsCalmRow group clocks pace traffic w timed.at) is calm).0 in
-          sends_plain laws n (nodes n i) group i (s.quiet n i).0 w (s.quiet n i).1 g next)
-          (λ a g is next.
-          let i : In (OfDevice a) group = (subst (IsCalmRow group clocks pace traffic w timed.at) is calm).0 in
-          inr (a, i, sent_anonymous laws group nodes w s.well a g i next));
+      flies = fly_after (IsPlain group) group clocks pace traffic w s.flies timed.at timed.row calm
+          (λ n g i is next. sends_plain laws n (nodes n i) group i (s.quiet n i).0 w (s.quiet n i).1 g next)
+          (λ a g i is next. inr (a, i, sent_anonymous laws group nodes w s.well a g i next));
       quiet = quiet_then;
     }
 

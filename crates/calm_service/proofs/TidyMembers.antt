@@ -18,13 +18,13 @@ use Rattle.cluster_calm.proofs.Calls.{on_list}
 use Rattle.cluster_calm.proofs.Group.{AreWell, CalmLaws, narrow_on_bus}
 use Rattle.calm_service.proofs.AllocationsOffered.{comes_to}
 use Rattle.calm_service.proofs.DialogFrames.{has_source}
-use Rattle.calm_service.proofs.SettledServers.{not_own}
+use Rattle.calm_leader.proofs.HeardIdents.{not_own}
 use Rattle.calm_service.proofs.SettledSteps.{NoStranger}
 use Rattle.calm_service.proofs.TidyCalm.{IsSteady, comes_with, none_comes, plain_comes, steady_after}
 use Rattle.calm_service.proofs.TidyRows.{Does, IsPlain, IsQuiet, does, of_member, quiet_same, quiet_sent, quiet_stepped, wanted_here}
 use Rattle.calm_service.proofs.TidyRows.Does.{Hears, Sends, Stays, Ticks}
 use Rattle.calm_service.proofs.TidyServers.{NoneComes, Rests, rests_on, same_list}
-use Rattle.calm_service.proofs.TidyWays.{AllAre}
+use Rattle.calm_leader.proofs.FramesFly.{Fly}
 use Rattle.cluster_spec.specs.Cluster.{Cluster, after_row, after_rows, frame_at, receipt_of, tick_of}
 use Rattle.cluster_spec.specs.Members.{member_after_step}
 
@@ -51,7 +51,7 @@ module _ (laws : CalmLaws) (group : List Party) (nodes : (p : ℕ) → In (OfMem
   -- each is so, and no Discovery is on its way
   pub record AreRested (traffic : Traffic) (w : Cluster) : Type 0 where
     pub well : AreWell group w
-    pub flies : (party : Party) → AllAre (IsPlain group) w.frames (traffic.to party)
+    pub flies : (party : Party) → Fly (IsPlain group) w.frames (traffic.to party)
     pub rested : (p : ℕ) → In (OfMember p) group → (t : AllocatorState) × IsRested p (traffic.at + clocks (OfMember p)) t w
 
   steady : (traffic : Traffic) (w : Cluster) → AreRested traffic w → IsSteady laws group nodes clocks pace traffic w

@@ -30,7 +30,8 @@ use Rattle.cluster_calm.specs.Calm.{Device as OfDevice, IsCalmRow, Member as OfM
 use Rattle.cluster_calm.proofs.Group.{CalmLaws, IsOf, IsServer, server_sent, server_stepped, up_sent}
 use Rattle.cluster_calm.proofs.Others.{some_ident}
 use Rattle.calm_service.proofs.FramesPut.{waited_or_offered}
-use Rattle.calm_service.proofs.SettledAsked.{a_discovery, is_wanted}
+use Rattle.calm_leader.proofs.HeardIdents.{is_wanted}
+use Rattle.calm_service.proofs.SettledAsked.{a_discovery}
 use Rattle.calm_service.proofs.TidyServers.{IsSilent, NoneComes, stays_silent, still_complete, still_owing}
 use Rattle.cluster_spec.specs.Cluster.{Cluster, after_row, arrival_at, receipt_of, tick_of}
 use Rattle.cluster_spec.specs.Members.{after_sending, member_after_step, next_frame}
