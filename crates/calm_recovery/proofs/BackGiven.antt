@@ -1,5 +1,5 @@
 -- What the return of a cluster stands on, and a leader from which on no election comes.
-use Rattle.std.proofs.Common.{◌≡◌, ℕ, ◌+◌, ◌<◌, true, List, ◌++◌, length}
+use Rattle.std.proofs.Common.{◌≡◌, ℕ, ◌<◌, true, List, ◌++◌, length}
 use Rattle.std.specs.Prelude.{◌⊎◌}
 use Rattle.can_frame.specs.Log.{last_term, log_limit}
 use Rattle.raft_model.specs.Invariants.{SoundStore}
@@ -10,11 +10,10 @@ use Rattle.alloc_spec.specs.AllocatorState.{AllocatorState, knows_all, members_o
 use Rattle.cluster_recovery.specs.Calm.{Pace, Timed, end_of, rows_in}
 use Rattle.cluster_calm.specs.Calm.{Member as OfMember, Party}
 use Rattle.calm_leader.specs.NoElection.{NoElection}
-use Rattle.calm_recovery.specs.ComeBack.{IsCalmWhere}
+use Rattle.calm_recovery.specs.ComeBack.{IsCalmOfFit}
 use Rattle.calm_rounds.specs.Calling.{CallsReturnInRounds, LeadersGoOnCalling}
 use Rattle.calm_service.specs.Settles.{LeadersSettle, WaitsWithBlank}
-use Rattle.calm_service.specs.Tidy as fit
-use Rattle.calm_service.specs.Tidy.{DiscoveriesMissNobody, IsTidy, MembersStayFit, TidyMembersAreFit}
+use Rattle.calm_service.specs.Tidy.{DiscoveriesMissNobody, MembersStayFit}
 use Rattle.calm_service.proofs.SettlesLaw.{IsFitting}
 use Rattle.cluster_spec.specs.Cluster.{AreMembers, Cluster, after_rows, world_of}
 use Rattle.cluster_spec.specs.Lawful.{DoNoHarm}
@@ -65,7 +64,7 @@ pub record Scene : Type 0 where
   pub start : ℕ
   pub whole : List Timed
   pub longest : ℕ
-  pub calm : IsCalmWhere fit.IsFit ids rows group clocks pace start longest whole
+  pub calm : IsCalmOfFit ids rows group clocks pace start longest whole
   pub n : ℕ
   pub term : ℕ
   pub member : In (OfMember n) group
@@ -80,16 +79,3 @@ w0 g = world_of g.ids g.rows
 
 abbrev pub there : Scene → List Timed → Cluster
 there g a = after_rows (world_of g.ids g.rows) (rows_in a)
-
--- a calm of tidy members is one of members that are fit
-pub as_fit : TidyMembersAreFit → (ids : List ℕ) (rows : List Row) (group : List Party) (clocks : Party → ℕ) (pace : Pace) (start longest : ℕ)
-    (whole : List Timed) → IsCalmWhere IsTidy ids rows group clocks pace start longest whole
-    → IsCalmWhere fit.IsFit ids rows group clocks pace start longest whole
-as_fit are ids rows group clocks pace start longest whole k = record {
-  calm = k.calm;
-  are = λ m i. are m (start + clocks (OfMember m)) (world_of ids rows) (k.are m i);
-  none_waits = k.none_waits;
-  room = k.room;
-  blanks = k.blanks;
-  logs = k.logs;
-}

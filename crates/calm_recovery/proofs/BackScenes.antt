@@ -5,18 +5,17 @@ use Rattle.cluster_recovery.specs.Calm.{Pace, Timed, end_of}
 use Rattle.cluster_calm.specs.Calm.{Party}
 use Rattle.calm_leader.specs.NoElection.{heard_within}
 use Rattle.calm_leader.proofs.Stretches.{end_both}
-use Rattle.calm_recovery.specs.ComeBack.{IsCalmWhere}
+use Rattle.calm_recovery.specs.ComeBack.{IsCalmOfFit}
 use Rattle.calm_recovery.proofs.BackFronts.{FirstLater, first_later}
 use Rattle.calm_recovery.proofs.BackGiven.{BackGiven, Scene, there}
 use Rattle.calm_recovery.proofs.BackSettles.{goes_from}
 use Rattle.calm_rounds.specs.Rounds.{led_within}
 use Rattle.calm_rounds.specs.Running.{IsLedBy}
-use Rattle.calm_service.specs.Tidy.{IsFit}
 use Rattle.cluster_spec.specs.Cluster.{world_of}
 
 -- where a member leads and no election comes any more
 abbrev pub scene : (ids : List ℕ) (rows : List Row) → BackGiven ids rows → (group : List Party) (clocks : Party → ℕ) (pace : Pace) (start : ℕ)
-    (whole : List Timed) (longest : ℕ) → IsCalmWhere IsFit ids rows group clocks pace start longest whole
+    (whole : List Timed) (longest : ℕ) → IsCalmOfFit ids rows group clocks pace start longest whole
     → IsLedBy group clocks pace start (start + led_within pace (length ids)) (world_of ids rows) whole → Scene
 scene ids rows given group clocks pace start whole longest calm led = record {
   ids = ids;

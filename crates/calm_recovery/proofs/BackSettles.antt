@@ -53,10 +53,18 @@ module _ (g : Scene) where
   pub lists : (n m : ℕ) → In (OfMember n) g.group → In (OfMember m) g.group → n ≢ m → Lists n m (w0 g)
   lists n m i j differs = (c.ask n m i j differs).asks_it
 
+  -- each member owes no Discovery when the calm begins
+  pub none_due : (p : ℕ) → In (OfMember p) g.group → NeedsNoDiscovery p (w0 g)
+  none_due p j = let is = g.calm.fit p j in record {
+    running = record { server = is.server; runs = is.runs; faults = is.faults; disk = is.disk };
+    complete = is.complete;
+    discovery = is.discovery;
+  }
+
   -- each member is fit
   pub fit_at : (m : ℕ) → In (OfMember m) g.group → (a b : List Timed) → g.whole ≡ a ++ b → IsFit m (end_of g.start a + g.clocks (OfMember m)) (there g a)
   fit_at m i a b cut = g.given.fit g.group g.clocks g.pace g.start m a b c.listed (calm_cut a b cut)
-      g.calm.are lists g.calm.none_waits i
+      g.calm.fit lists g.calm.none_waits i
 
   pub fine_at : (m : ℕ) → In (OfMember m) g.group → (a b : List Timed) → g.whole ≡ a ++ b → (t : AllocatorState) → ((there g a).member m).status ≡ Up t → IsFine t
   fine_at m i a b cut t up = g.given.fine (rows_in a) m t (harmless_cut a b cut) (c.listed m i) up
@@ -98,14 +106,6 @@ module _ (g : Scene) where
       where
         no_more : g.whole ≡ g.whole ++ []
         no_more = sym (append-nil g.whole)
-
-        -- each member owes no Discovery
-        none_due : (p : ℕ) → In (OfMember p) g.group → NeedsNoDiscovery p (w0 g)
-        none_due p j = let is = g.calm.are p j in record {
-          running = record { server = is.server; runs = is.runs; faults = is.faults; disk = is.disk };
-          complete = is.complete;
-          discovery = is.discovery;
-        }
 
         none_missed : NobodyIsMissed g.n (w0 g) g.whole
         none_missed = g.given.missed g.group g.clocks g.pace g.start g.n g.whole [] c.listed (calm_cut g.whole [] no_more) none_due g.calm.none_waits

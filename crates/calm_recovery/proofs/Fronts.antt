@@ -10,7 +10,7 @@ use Rattle.cluster_calm.proofs.Calls.{Always}
 use Rattle.cluster_calm.proofs.CallsKept.{IsKept, further}
 use Rattle.calm_leader.specs.CallsComeBack.{LeadsIfUp, LeadsNotIfUp, LeadsOn}
 use Rattle.calm_service.specs.ServedTold.{HasRoomInSteps}
-use Rattle.calm_service.specs.Settled.{NobodyIsMissed}
+use Rattle.calm_service.specs.Settled.{NobodyAsks, NobodyIsMissed}
 use Rattle.cluster_spec.specs.Cluster.{Cluster, after_row, after_rows}
 use Rattle.cluster_spec.specs.Members.MemberStatus.{Up}
 
@@ -23,6 +23,10 @@ room_rest n (x ∷ front) rest w all = room_rest n front rest (after_row w x.row
 pub missed_rest : (n : ℕ) (front rest : List Timed) (w : Cluster) → NobodyIsMissed n w (front ++ rest) → NobodyIsMissed n (after_rows w (rows_in front)) rest
 missed_rest n [] rest w all = all
 missed_rest n (x ∷ front) rest w all = missed_rest n front rest (after_row w x.row) all.1
+
+pub asks_rest : (n : ℕ) (front rest : List Timed) (w : Cluster) → NobodyAsks n w (front ++ rest) → NobodyAsks n (after_rows w (rows_in front)) rest
+asks_rest n [] rest w all = all
+asks_rest n (x ∷ front) rest w all = asks_rest n front rest (after_row w x.row) all.1
 
 -- ---- the row in which it comes to lead
 

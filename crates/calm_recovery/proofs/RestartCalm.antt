@@ -20,11 +20,11 @@ use Rattle.calm_leader.specs.NoElection.{CallsFit, greatest_wait}
 use Rattle.calm_service.specs.Dialog.{HasRoomToTell}
 use Rattle.calm_service.specs.Served.{PairsFit}
 use Rattle.calm_service.specs.ServedTold.{HasRoomInSteps}
-use Rattle.calm_service.specs.Tidy.{IsReady, IsTidy, OpenedMembersAreReady}
+use Rattle.calm_service.specs.Tidy.{IsReady, OpenedMembersAreReady, TidyMembersAreFit}
 use Rattle.calm_service.proofs.CalmTested.{offered_is}
 use Rattle.calm_service.proofs.CalmTestedRows.{Worked, are_calm, behind, calls_fit, do_no_harm, has_room_in_steps, of_rows, pairs_fit, sends_short, throughout}
 use Rattle.calm_service.proofs.CalmTests.{all_pass, any_row}
-use Rattle.calm_recovery.specs.ComeBack.{HasRoomForBlank, IsCalmWhere, LogsStayWithin}
+use Rattle.calm_recovery.specs.ComeBack.{HasRoomForBlank, IsCalmOfFit, LogsStayWithin}
 use Rattle.calm_recovery.proofs.RestartMeets.{WorldMeets, world_is}
 use Rattle.calm_recovery.proofs.RestartTests.{world_test}
 use Rattle.calm_rounds.specs.Opened.{OpenedMembersGoOn}
@@ -172,11 +172,11 @@ module _ (x : Restarted) where
       ready m (x.start + clocks (Member m)) new.moment new.word new.faults new.store world (listed m i) new.runs new.disk new.clock
 
   -- a calm of members that are fit to serve
-  pub is_tidy : OpenedMembersGoOn two x.opening → OpenedMembersAreReady two → ((m : ℕ) → In (Member m) x.group → In m two)
-      → IsCalmWhere IsTidy two x.opening x.group clocks x.pace x.start x.longest x.rows
-  is_tidy go_on ready listed = record {
+  pub is_fit : OpenedMembersGoOn two x.opening → OpenedMembersAreReady two → TidyMembersAreFit → ((m : ℕ) → In (Member m) x.group → In m two)
+      → IsCalmOfFit two x.opening x.group clocks x.pace x.start x.longest x.rows
+  is_fit go_on ready are listed = record {
     calm = goes_on go_on listed;
-    are = λ m i. (are_ready ready listed m i).tidy;
+    fit = λ m i. are m (x.start + clocks (Member m)) world (are_ready ready listed m i).tidy;
     none_waits = λ m i. (are_ready ready listed m i).none_waits;
     room = all_have_room;
     blanks = λ m i. of_member HasRoomForBlank m i (λ w meets server up some. let short = (meets.members m i server up).short in let b = x.room in omega (arith, short, b));

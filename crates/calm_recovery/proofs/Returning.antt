@@ -38,7 +38,7 @@ use Rattle.calm_recovery.proofs.Elected as elected
 use Rattle.calm_recovery.proofs.Settling.{settles}
 use Rattle.calm_recovery.proofs.Winning.{frame_wins}
 use Rattle.calm_service.specs.Settles.{LeadersSettle}
-use Rattle.calm_service.specs.Tidy.{MembersStayTidy, TidyMembersMissNobody}
+use Rattle.calm_service.specs.Tidy.{MembersAskNobody, MembersStayTidy, TidyMembersMissNobody}
 use Rattle.cluster_spec.specs.Cluster.{AreMembers, Cluster, after_row, after_rows, arrival_at, frame_at, rules_of, world_of}
 use Rattle.cluster_spec.specs.Lawful.{DoNoHarm}
 use Rattle.cluster_spec.specs.Members.MemberStatus.{Up}
@@ -90,7 +90,7 @@ module _ (frames_leave : FramesLeaveFollowers) (ids : List ℕ) (members : AreMe
     (lists : (n m : ℕ) → In (OfMember n) group → In (OfMember m) group → Lists n m (world_of ids rows))
     (terms_rise : TermsDoNotFall ids rows) (no_election : NoElectionComes ids rows)
     (knows : (p : ℕ) (store : Store) (moment word : ℕ) → In (OfMember p) group → knows_all (opening_by p (rules_of ids true) store moment word) ≡ true)
-    (stay : MembersStayTidy ids rows) (none_missed : TidyMembersMissNobody ids rows) (logs_stay : LogsStay ids rows) (winners : WinnersCall ids rows)
+    (stay : MembersStayTidy ids rows) (none_missed : TidyMembersMissNobody ids rows) (nobody : MembersAskNobody ids rows) (logs_stay : LogsStay ids rows) (winners : WinnersCall ids rows)
     (return : CallsReturnToWhoLeadsOn ids rows) (settle : LeadersSettle ids rows)
     (last_low : (m : ℕ) (t : AllocatorState) → In (OfMember m) group → ((world_of ids rows).member m).status ≡ Up t
     → last_term t.raft_server.store.log ≤ t.raft_server.store.term) where
@@ -178,7 +178,7 @@ module _ (frames_leave : FramesLeaveFollowers) (ids : List ℕ) (members : AreMe
     stored = stored;
     runs = stored_up;
     settles = settles ids members rows group clocks pace start longest before x (few ++ rest) s_then
-        (λ p i. knows p (s_then.restart.opened p i).store (s_then.restart.opened p i).moment (s_then.restart.opened p i).word i) lists stay none_missed logs_stay winners
+        (λ p i. knows p (s_then.restart.opened p i).store (s_then.restart.opened p i).moment (s_then.restart.opened p i).word i) lists stay none_missed nobody logs_stay winners
         return settle c ends.term ends.member
         (elected.none_before frames_leave ids members rows group clocks pace start longest ended whole s ends follow long Sized sized sized_kept sized_first lists
         terms_rise no_election)

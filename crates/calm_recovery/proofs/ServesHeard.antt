@@ -33,7 +33,7 @@ use Rattle.calm_service.specs.Asking.{AskingDevicesAreHeardOut, HasIdBy, HasNoId
 use Rattle.calm_service.specs.AskingKnown.{HeardKnownDevicesAreTold, RecordedDevicesAreServed, WhoFollowsFallsSilent}
 use Rattle.calm_service.specs.AskingServed.{CanBeTold, CanCommitWith, HeardDevicesAreServed, serve_within}
 use Rattle.calm_service.specs.Dialog.{HasNothingToSay, HasRoomToTell, HearsWholeBy}
-use Rattle.calm_service.specs.Requests.{DevicesTellParts, IsTellingCalm, TellBeginning, TellsAt, TellsParts, WholeIsTheDevices}
+use Rattle.calm_service.specs.Requests.{DevicesTellParts, IsTellingCalm, TellsAt, TellsParts, WholeIsTheDevices}
 use Rattle.calm_service.specs.Served.{HasPlaceFor, ListsAll, PairsFit}
 use Rattle.calm_service.specs.Settled.{IsAsked, IsCalmUnder}
 use Rattle.calm_service.specs.Tidy.{IsFit}

@@ -1,8 +1,6 @@
 -- Who has come to lead in a calm of members that were just opened, and leads on, settles in time.
-use Rattle.std.proofs.Common.{◌≡◌, ◌≢◌, ℕ, ◌+◌, ◌*◌, ◌<◌, ◌≤◌, arith, true, List, [], ◌∷◌, ◌++◌, length, append_assoc, refl, sym, ◌∙◌, ap, subst, inl, inr}
-use Rattle.std.specs.Prelude.{max}
-use Rattle.alloc_exchange.specs.Exchange.{Accepted, answer, last_moment}
-use Rattle.alloc_exchange.specs.declared.heard.Heard.TheVariants.{Whole}
+use Rattle.std.proofs.Common.{◌≡◌, ◌≢◌, ℕ, ◌+◌, ◌*◌, ◌<◌, ◌≤◌, arith, true, List, [], ◌∷◌, ◌++◌, length, append_assoc, append-nil, refl, sym, ◌∙◌, ap, subst, inl}
+use Rattle.alloc_exchange.specs.Exchange.{Accepted, last_moment}
 use Rattle.can_frame.specs.declared.entry.Entry.{Entry}
 use Rattle.can_frame.specs.Log.{last_term, log_limit}
 use Rattle.raft_model.specs.Lists.{In, how_many}
@@ -10,7 +8,6 @@ use Rattle.raft_model.specs.Server.{quorum}
 use Rattle.raft_model.specs.Server.Role.{Leader}
 use Rattle.replay_text.specs.declared.row.Row.{Row}
 use Rattle.alloc_spec.specs.AllocatorState.{AllocatorState, is_recorded, knows_all, members_of}
-use Rattle.alloc_spec.specs.Exchange.{may_follow}
 use Rattle.alloc_spec_laws.specs.Blanks.{IsHeard}
 use Rattle.alloc_spec_laws.proofs.LeadersBlanks.{goes_on_to_wait}
 use Rattle.alloc_spec_laws.proofs.Proposals.{or_false}
@@ -32,14 +29,15 @@ use Rattle.calm_leader.specs.NoElection.{CallsFit}
 use Rattle.calm_leader.specs.WinnersCall.{WinnersCall}
 use Rattle.calm_leader.proofs.Stretches.{throughout_by, throughout_more, throughout_so, world_both}
 use Rattle.calm_recovery.specs.Restart.{HasJustWon, IsStart, settled_within}
-use Rattle.calm_recovery.proofs.Fronts.{keeps_at, leads_on_by, missed_rest, room_rest}
+use Rattle.calm_recovery.proofs.Fronts.{asks_rest, keeps_at, leads_on_by, missed_rest, room_rest}
 use Rattle.calm_recovery.proofs.Others.{apart_in, as_many, at_most_one, knows_none, not_alone, others_in}
 use Rattle.calm_recovery.proofs.Started.{no_discovery, tidy, waits}
 use Rattle.calm_rounds.proofs.Opened as opened_members
-use Rattle.calm_service.specs.Settled.{IsCalmUnder, NobodyIsMissed}
-use Rattle.calm_service.specs.Settles.{GrowsBy, HasComeToLead, HasSettledBy, IsToSettle, LeadersSettle, settle_within}
-use Rattle.calm_service.specs.Tidy.{IsTidy, MembersStayTidy, TidyMembersMissNobody}
-use Rattle.calm_service.proofs.RecordedRows.{makes_none_whole}
+use Rattle.calm_service.specs.Settled.{IsCalmUnder, NobodyAsks, NobodyIsMissed}
+use Rattle.calm_service.specs.Settles.{HasComeToLead, HasSettledBy, IsToSettle, LeadersSettle, settle_within}
+use Rattle.calm_service.specs.Tidy.{IsTidy, MembersAskNobody, MembersStayTidy, TidyMembersMissNobody}
+use Rattle.calm_service.proofs.SettlesLaw.{settles_unasked}
+use Rattle.calm_service.proofs.TidyLaw.{fit_needs_none, tidy_is_fit}
 use Rattle.cluster_spec.specs.Cluster.{AreMembers, Cluster, after_row, after_rows, world_of}
 use Rattle.cluster_spec.specs.Members.MemberStatus.{Up}
 
@@ -58,7 +56,7 @@ module _ (ids : List ℕ) (members : AreMembers ids) (rows : List Row) (group : 
     (before : List Timed) (x : Timed) (later : List Timed) (s : IsStart ids rows group clocks pace start longest ((before ++ x ∷ []) ++ later))
     (knows : (p : ℕ) (i : In (OfMember p) group) → knows_all (opened ids rows group clocks pace start ((before ++ x ∷ []) ++ later) s.restart p i) ≡ true)
     (lists : (n m : ℕ) → In (OfMember n) group → In (OfMember m) group → Lists n m (world_of ids rows))
-    (stay : MembersStayTidy ids rows) (none_missed : TidyMembersMissNobody ids rows) (logs_stay : LogsStay ids rows) (winners : WinnersCall ids rows)
+    (stay : MembersStayTidy ids rows) (none_missed : TidyMembersMissNobody ids rows) (nobody : MembersAskNobody ids rows) (logs_stay : LogsStay ids rows) (winners : WinnersCall ids rows)
     (return : CallsReturnToWhoLeadsOn ids rows) (settle : LeadersSettle ids rows) where
   abbrev w : Cluster
   w = world_of ids rows
@@ -282,24 +280,16 @@ module _ (ids : List ℕ) (members : AreMembers ids) (rows : List Row) (group : 
       abbrev ends : ℕ
       ends = end_of start first + settle_within pace (2 * longest) longest
 
-      -- no request makes the log grow
-      none_grows : GrowsBy c term log (clocks (OfMember c)) (end_of start first) ends led_from later → ⊥
-      none_grows g =
-          let cut : whole ≡ (first ++ g.front) ++ (g.timed ∷ g.rest)
-          = ap (λ (l : List Timed). first ++ l) g.split ∙ sym (append_assoc first g.front (g.timed ∷ g.rest)) in
-          let is = tidy_at c member (first ++ g.front) (g.timed ∷ g.rest) cut in
-          let same : is.server ≡ g.asked.comes.server
-          = same_server is.server g.asked.comes.server (sym (subst (λ (v : Cluster). (v.member c).status ≡ Up is.server) (world_both w first g.front) is.runs) ∙ g.asked.comes.runs) in
-          let empty : g.asked.comes.server.accepted ≡ [] = ap (λ (a : AllocatorState). a.accepted) (sym same) ∙ is.requests in
-          makes_none_whole g.message (max g.asked.comes.server.now g.asked.comes.ms) (may_follow g.asked.comes.server) g.grows.uid g.grows.preferred
-          (subst (λ (l : List Accepted). answer l g.message (max g.asked.comes.server.now g.asked.comes.ms) (may_follow g.asked.comes.server)
-          ≡ Whole g.grows.uid g.grows.preferred) empty g.grows.whole)
+      -- in the later rows nobody asks it
+      none_asks : NobodyAsks c led_from later
+      none_asks = asks_rest c first later w (nobody group clocks pace start c whole [] r.listed s.only
+          (subst (AreCalm group clocks pace (no_traffic start) w) (sym (append-nil whole)) r.calm)
+          (λ p j. fit_needs_none p (start + clocks (OfMember p)) w (tidy_is_fit p (start + clocks (OfMember p)) w (tidy ids rows group clocks pace start whole r knows p j)))
+          (no_discovery ids rows group clocks pace start whole r))
 
       settles_by : HasSettledBy c term log (clocks (OfMember c)) (end_of start first) ends led_from later
-      settles_by = elim (settle group clocks pace start c term log (2 * longest) longest one next first later to_settle) [
-        | inl by ↦ by
-        | inr g ↦ absurd (none_grows g)
-      ]
+      settles_by = settles_unasked c term log (clocks (OfMember c)) (end_of start first) ends led_from later none_asks
+          (settle group clocks pace start c term log (2 * longest) longest one next first later to_settle)
 
       settles_with : HasSettledBy c term log (clocks (OfMember c)) (end_of start first) last led_from later
       settles_with = let by = settles_by in record {

@@ -17,7 +17,7 @@ use Rattle.calm_service.specs.Requests.{HasAcceptedBeginning}
 use Rattle.calm_service.specs.Served.{HasPlaceFor, PairsFit}
 use Rattle.calm_service.specs.ServedTold.{HasRoomInSteps}
 use Rattle.calm_recovery.specs.Restart.{settled_within}
-use Rattle.calm_service.specs.Tidy.{AreMembersOnly, IsFit, IsTidy, NoDiscoveryWaits}
+use Rattle.calm_service.specs.Tidy.{AreMembersOnly, IsFit, NoDiscoveryWaits}
 use Rattle.cluster_calm.specs.Calm.{Device as OfDevice, Member, Party}
 use Rattle.cluster_calm.specs.Comes.{Throughout}
 use Rattle.cluster_spec.specs.Cluster.{Cluster, after_rows, world_of}
@@ -44,14 +44,13 @@ LogsStayWithinTheirLimit ids rows = (group : List Party) (whole : List Timed) �
     ((m : ℕ) → In (Member m) group → In m ids) → DoNoHarm (world_of ids rows) (rows_in whole) →
     LogsStayWithin group log_limit (world_of ids rows) whole
 
--- A calm as elections ask for it (`IsCalmOf`), in which each member is as `Is` says by its clock when it begins: tidy,
--- say, or fit. No frame of a Discovery waits. Each member has room in each of its steps for the frames of the next pair,
--- and room for a blank where it needs one. No log has more entries than `longest`. Which roles, terms and logs they have
--- is not asked.
-pub record IsCalmWhere (Is : (n now : ℕ) → Cluster → Type 0) (ids : List ℕ) (rows : List Row) (group : List Party)
-    (clocks : Party → ℕ) (pace : Pace) (start longest : ℕ) (whole : List Timed) : Type 0 where
+-- A calm as elections ask for it (`IsCalmOf`), in which each member is fit when it begins, and no frame of a Discovery
+-- waits. Each member has room in each of its steps for the frames of the next pair, and room for a blank where it needs
+-- one. No log has more entries than `longest`. Which roles, terms and logs they have is not asked.
+pub record IsCalmOfFit (ids : List ℕ) (rows : List Row) (group : List Party) (clocks : Party → ℕ) (pace : Pace)
+    (start longest : ℕ) (whole : List Timed) : Type 0 where
   pub calm : IsCalmOf ids rows group clocks pace start whole
-  pub are : (m : ℕ) → In (Member m) group → Is m (start + clocks (Member m)) (world_of ids rows)
+  pub fit : (m : ℕ) → In (Member m) group → IsFit m (start + clocks (Member m)) (world_of ids rows)
   pub none_waits : NoDiscoveryWaits group (world_of ids rows)
   pub room : (m : ℕ) → In (Member m) group → HasRoomInSteps m (world_of ids rows) whole
   pub blanks : (m : ℕ) → In (Member m) group → Throughout (HasRoomForBlank m) (world_of ids rows) whole
@@ -85,23 +84,22 @@ settled_in pace longest = heard_within pace + pace.period + 2 * pace.delay + set
 abbrev pub back_within : Pace → (size longest : ℕ) → ℕ
 back_within pace size longest = led_within pace size + settled_in pace longest
 
--- In each such calm of members only, which are tidy when it begins: the cluster comes back in that time, or the calm is
--- over by then.
+-- In each such calm of members only: the cluster comes back in that time, or the calm is over by then.
 abbrev pub ClustersComeBack : List ℕ → List Row → Type 0
 ClustersComeBack ids rows = (group : List Party) (clocks : Party → ℕ) (pace : Pace) (start longest : ℕ)
-    (whole : List Timed) → IsCalmWhere IsTidy ids rows group clocks pace start longest whole → AreMembersOnly group →
+    (whole : List Timed) → IsCalmOfFit ids rows group clocks pace start longest whole → AreMembersOnly group →
     let last = start + back_within pace (length ids) longest in last < end_of start whole →
     IsBackBy group clocks pace start (start + led_within pace (length ids)) last (world_of ids rows) whole
 
 -- ---- it serves a device
 
--- In such a calm, of members that are fit when it begins, device a of the group asks, the only one: from its beginning
--- on, or since before. What the members have accepted by then is a beginning of its unique ID, if they have accepted
--- anything. It can be told by each member, and each has room to tell it. Its unique ID is not all zero. Whichever log a
--- member comes to have, it has the device's unique ID, or a place for it.
+-- In such a calm device a of the group asks, the only one: from its beginning on, or since before. What the members have
+-- accepted when it begins is a beginning of its unique ID, if they have accepted anything. It can be told by each
+-- member, and each has room to tell it. Its unique ID is not all zero. Whichever log a member comes to have, it has the
+-- device's unique ID, or a place for it.
 pub record IsCalmOfDevice (ids : List ℕ) (rows : List Row) (group : List Party) (clocks : Party → ℕ) (pace : Pace)
     (start longest a : ℕ) (uid : List ℕ) (preferred : ℕ) (whole : List Timed) : Type 0 where
-  pub calm : IsCalmWhere IsFit ids rows group clocks pace start longest whole
+  pub calm : IsCalmOfFit ids rows group clocks pace start longest whole
   pub begun : (m : ℕ) → In (Member m) group → HasAcceptedBeginning uid m (world_of ids rows)
   pub asks : IsAsking group a uid preferred (start + clocks (OfDevice a)) (world_of ids rows)
   pub some : uid ≢ zeros

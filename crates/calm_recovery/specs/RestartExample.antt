@@ -8,11 +8,11 @@ use Rattle.cluster_recovery.specs.Calm.{Pace, Timed, end_of}
 use Rattle.cluster_calm.specs.Calm.{Member, Party}
 use Rattle.cluster_calm.specs.CalmExample.{clocks, two}
 use Rattle.calm_election.specs.Elections.{IsAhead, election_within}
-use Rattle.calm_recovery.specs.ComeBack.{IsCalmWhere, back_within}
+use Rattle.calm_recovery.specs.ComeBack.{IsCalmOfFit, back_within}
 use Rattle.calm_recovery.specs.Restart.{IsStart, settled_within}
 use Rattle.calm_rounds.specs.Rounds.{led_within}
 use Rattle.calm_rounds.specs.Running.{IsCalmOf}
-use Rattle.calm_service.specs.Tidy.{AreMembersOnly, IsTidy}
+use Rattle.calm_service.specs.Tidy.{AreMembersOnly}
 use Rattle.cluster_spec.specs.Cluster.{AreMembers, Cluster, cluster, world_of}
 use Rattle.cluster_spec.specs.Lawful.{DoNoHarm}
 
@@ -101,6 +101,6 @@ pub record ClusterMayStart : Type 0 where
       < end_of opened_at restart_rows
   pub rounds : IsCalmOf two opening_rows members_only clocks restart_pace opened_at restart_rows
   pub long_to_be_led : opened_at + led_within restart_pace (length two) < end_of opened_at restart_rows
-  pub tidy : IsCalmWhere IsTidy two opening_rows members_only clocks restart_pace opened_at no_entries restart_rows
+  pub fit : IsCalmOfFit two opening_rows members_only clocks restart_pace opened_at no_entries restart_rows
   pub only : AreMembersOnly members_only
   pub long_to_be_back : opened_at + back_within restart_pace (length two) no_entries < end_of opened_at restart_rows

@@ -155,6 +155,7 @@ pub fn clusters_may_start()
     calm_can_be();
     clusters_come_back();
     clusters_in_step_settle();
+    members_stay_tidy();
     opened_members_are_tidy();
     opened_members_go_on_calmly();
 }

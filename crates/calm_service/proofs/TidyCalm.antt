@@ -1,5 +1,5 @@
 -- A calm in which no Discovery is due, row by row: no Discovery is on its way, and what comes misses nobody.
-use Rattle.std.proofs.Common.{◌≡◌, ℕ, ◌+◌, ◌≤◌, List, [], ◌∷◌, ◌++◌, max, ◌∙◌, subst, inr}
+use Rattle.std.proofs.Common.{◌≡◌, ℕ, ◌+◌, ◌≤◌, List, [], ◌∷◌, ◌++◌, max, ◌∙◌, subst, inl, inr}
 use Rattle.raft_model.specs.Lists.{In}
 use Rattle.replay_text.specs.declared.row.Row.TheVariants.{Rx}
 use Rattle.transfer_rx.specs.Reassembly.{Arrival, Delivery, Gives, answer as received}
@@ -11,8 +11,10 @@ use Rattle.alloc_spec_laws.proofs.Choices.{eq_false}
 use Rattle.cluster_recovery.specs.Calm.{Pace, Timed}
 use Rattle.cluster_calm.specs.Calm.{AreCalm, IsCalmRow, Member as OfMember, Party, Traffic, traffic_after}
 use Rattle.cluster_calm.proofs.Group.{AreWell, CalmLaws, narrow_on_bus, sent_anonymous, well_after}
-use Rattle.calm_service.specs.Settled.{MissesNobody, NobodyIsMissed}
+use Rattle.calm_service.specs.Settled.{IsAsked, IsNotAsked, MissesNobody, NobodyAsks, NobodyIsMissed}
+use Rattle.calm_service.specs.Tidy.{AreMembersOnly}
 use Rattle.calm_service.proofs.AllocationsOffered.{comes_to}
+use Rattle.calm_service.proofs.DialogFrames.{has_source, not_asked}
 use Rattle.calm_service.proofs.TidyRows.{Does, IsPlain, IsQuiet, does, none_delivered, none_numbered, quiet_same, quiet_sent, quiet_stepped, sends_plain}
 use Rattle.calm_service.proofs.TidyRows.Does.{Hears, Sends, Stays, Ticks}
 use Rattle.calm_service.proofs.TidyServers.{NoneComes}
@@ -46,6 +48,15 @@ module _ (laws : CalmLaws) (group : List Party) (nodes : (p : ℕ) → In (OfMem
     pub misses_nobody : (m : ℕ) → MissesNobody m w timed.row
     misses_nobody m d message comes kind number reads = absurd (none_numbered laws.frame group nodes m comes.server.sessions (frame_at w.frames comes.k)
         (max comes.server.now comes.ms) (plain_comes m comes.k comes.ms comes.comes) d comes.gives kind number)
+
+    -- where the group has no device, no request comes
+    none_asks : AreMembersOnly group → (m : ℕ) → IsNotAsked m w timed.row
+    none_asks only m message asked = by (plain_comes m asked.comes.k asked.comes.ms asked.comes.comes)
+      where
+        by : IsPlain group (frame_at w.frames asked.comes.k) → ⊥
+        by (inl is) = not_asked laws.frame m w asked.comes.k asked.comes.ms (has_source laws.frame is.n (frame_at w.frames asked.comes.k) (nodes is.n is.member) is.is)
+            message (subst (IsAsked m message w) asked.comes.comes asked)
+        by (inr (a, i, anonymous)) = only a i
 
     -- no Discovery comes to a server in this row
     pub none_comes : (p : ℕ) (t : AllocatorState) (q : IsQuiet p t w) (k ms : ℕ) → timed.row ≡ Rx p k ms
@@ -93,4 +104,13 @@ module _ (laws : CalmLaws) (group : List Party) (nodes : (p : ℕ) → In (OfMem
   nobody_missed m (timed ∷ front) rest traffic w calm s = (
     misses_nobody traffic w timed calm.1 s m,
     nobody_missed m front rest (traffic_after traffic w timed) (after_row w timed.row) calm.2 (steady_after traffic w timed calm.1 s),
+  )
+
+  -- in none of them a request comes, where the group has no device
+  pub nobody_asks : AreMembersOnly group → (m : ℕ) (front rest : List Timed) (traffic : Traffic) (w : Cluster)
+      → AreCalm group clocks pace traffic w (front ++ rest) → IsSteady traffic w → NobodyAsks m w front
+  nobody_asks only m [] rest traffic w calm s = tt
+  nobody_asks only m (timed ∷ front) rest traffic w calm s = (
+    none_asks traffic w timed calm.1 s only m,
+    nobody_asks only m front rest (traffic_after traffic w timed) (after_row w timed.row) calm.2 (steady_after traffic w timed calm.1 s),
   )

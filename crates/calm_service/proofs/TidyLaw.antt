@@ -13,10 +13,10 @@ use Rattle.cluster_calm.specs.Calls.{Lists}
 use Rattle.cluster_recovery.proofs.Members.{IsUp}
 use Rattle.cluster_calm.proofs.Group.{AreWell, IsServer, IsWell}
 use Rattle.cluster_calm.proofs.Pair.{same_server}
-use Rattle.calm_service.specs.Tidy.{DiscoveriesMissNobody, IsFit, MembersStayFit, MembersStayTidy, NeedsNoDiscovery, NoDiscoveryWaits, TidyMembersAreFit, TidyMembersMissNobody}
+use Rattle.calm_service.specs.Tidy.{DiscoveriesMissNobody, IsFit, MembersAskNobody, MembersStayFit, MembersStayTidy, NeedsNoDiscovery, NoDiscoveryWaits, TidyMembersAreFit, TidyMembersMissNobody}
 use Rattle.calm_service.proofs.DialogOthers.{none_in}
 use Rattle.calm_service.proofs.SettledServers.{after_ends}
-use Rattle.calm_service.proofs.TidyCalm.{nobody_missed}
+use Rattle.calm_service.proofs.TidyCalm.{IsSteady, nobody_asks, nobody_missed}
 use Rattle.calm_service.proofs.TidyMembers.{AreKept, IsRested, rested_on}
 use Rattle.calm_service.proofs.TidyRows.{IsQuiet, number_from}
 use Rattle.calm_service.specs.ServiceBelow.{ServiceGrounds}
@@ -78,13 +78,21 @@ module _ (below : ServiceGrounds) (ids : List ℕ) (members : AreMembers ids) (r
         same : its.server ≡ (needs p i).running.server
         same = same_server its.server (needs p i).running.server (sym its.up.status ∙ (needs p i).running.runs)
 
+    -- so the calm is steady from there
+    begins_steady : (clocks : Party → ℕ) (pace : Pace) (start : ℕ) → IsSteady (calm_laws below) group nodes clocks pace (no_traffic start) w
+    begins_steady clocks pace start = record {
+      well = all_well;
+      flies = λ party. refl;
+      quiet = λ p i. ((needs p i).running.server, begins_quiet p i);
+    }
+
   pub miss_nobody : DiscoveriesMissNobody ids rows
-  miss_nobody group clocks pace start m front rest listed calm needs none =
-      nobody_missed (calm_laws below) group (nodes group listed needs none) clocks pace m front rest (no_traffic start) w calm (record {
-        well = all_well group listed needs none;
-        flies = λ party. refl;
-        quiet = λ p i. ((needs p i).running.server, begins_quiet group listed needs none p i);
-      })
+  miss_nobody group clocks pace start m front rest listed calm needs none = nobody_missed (calm_laws below) group (nodes group listed needs none) clocks pace m front rest
+      (no_traffic start) w calm (begins_steady group listed needs none clocks pace start)
+
+  pub ask_nobody : MembersAskNobody ids rows
+  ask_nobody group clocks pace start m front rest listed only calm needs none = nobody_asks (calm_laws below) group (nodes group listed needs none) clocks pace only m front rest
+      (no_traffic start) w calm (begins_steady group listed needs none clocks pace start)
 
   pub tidy_miss_nobody : TidyMembersMissNobody ids rows
   tidy_miss_nobody group clocks pace start m front rest listed calm tidy none =

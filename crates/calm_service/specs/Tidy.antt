@@ -22,7 +22,7 @@ use Rattle.cluster_recovery.specs.Calm.{Pace, Timed, end_of, rows_in}
 use Rattle.cluster_calm.specs.Calm.{AreCalm, Device, IsRunning, Member, Party, no_traffic}
 use Rattle.cluster_calm.specs.Calls.{Lists}
 use Rattle.calm_service.specs.Recorded.{LeadsWith}
-use Rattle.calm_service.specs.Settled.{NobodyIsMissed}
+use Rattle.calm_service.specs.Settled.{NobodyAsks, NobodyIsMissed}
 use Rattle.calm_service.specs.Settles.{HasComeToLead, WaitsWithBlank}
 use Rattle.cluster_spec.specs.Cluster.{Cluster, after_rows, rules_of, world_of}
 use Rattle.cluster_spec.specs.Lawful.{DoNoHarm}
@@ -77,6 +77,15 @@ pub record IsTidy (n now : ℕ) (w : Cluster) : Type 0 where
 -- the group has no device
 abbrev pub AreMembersOnly : List Party → Type 0
 AreMembersOnly group = (a : ℕ) → In (Device a) group → ⊥
+
+-- In each calm from the world of these rows on, of members only, in which each of them needs no Discovery when it
+-- begins, and no frame of one waits: no request comes to any member.
+abbrev pub MembersAskNobody : List ℕ → List Row → Type 0
+MembersAskNobody ids rows = (group : List Party) (clocks : Party → ℕ) (pace : Pace) (start m : ℕ)
+    (front rest : List Timed) → let w = world_of ids rows in
+    ((p : ℕ) → In (Member p) group → In p ids) → AreMembersOnly group →
+    AreCalm group clocks pace (no_traffic start) w (front ++ rest) →
+    ((p : ℕ) → In (Member p) group → NeedsNoDiscovery p w) → NoDiscoveryWaits group w → NobodyAsks m w front
 
 -- In each calm from the world of these rows on, of members only: where each member of the group is tidy when the calm
 -- begins, and lists each other one, and no frame of a Discovery waits, each stays tidy behind each front of the rows.

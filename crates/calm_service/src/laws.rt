@@ -19,7 +19,8 @@ ghost use Rattle.calm_service.specs.ServedTold.{HasSettledWithPairBy, NewPairsAr
 ghost use Rattle.calm_service.specs.ServiceBelow.{ServiceGrounds};
 ghost use Rattle.calm_service.specs.Settled.{AllRowsLeaveItSettled, EachRowLeavesItSettled};
 ghost use Rattle.calm_service.specs.Settles.{LeadersAddTheirBlanks, LeadersSettle, LeadersSettleUnasked};
-ghost use Rattle.calm_service.specs.Tidy.{DiscoveriesMissNobody, FitMembersLead, MembersStayFit, MembersStayTidy};
+ghost use Rattle.calm_service.specs.Tidy.{DiscoveriesMissNobody, FitMembersLead, MembersAskNobody, MembersStayFit};
+ghost use Rattle.calm_service.specs.Tidy.{MembersStayTidy};
 ghost use Rattle.calm_service.specs.Tidy.{OpenedMembersAreReady, TidyMembersAreFit, TidyMembersComeToLead};
 ghost use Rattle.calm_service.specs.Tidy.{TidyMembersLead, TidyMembersMissNobody, WhoLeadsHasComeToLead};
 ghost use Rattle.cluster_calm.specs.Calm.{Member};
@@ -229,12 +230,14 @@ pub fn opened_members_are_tidy()
 
 /// In a calm in which no Discovery is due, each that comes misses nobody, since none comes: where each member of the
 /// group knows all and owes none when the calm begins, and no frame of one waits. So it is with devices too (`any`),
-/// and where each member is tidy (`tidy`).
+/// and where each member is tidy (`tidy`). In such a calm of members only no request comes to any member (`unasked`).
 pub fn discoveries_miss_nobody()
     ensures any { (ids : List ℕ) (rows : List Row) → AreMembers ids → DoNoHarm (cluster ids) rows →
         DiscoveriesMissNobody ids rows }
     ensures tidy { (ids : List ℕ) (rows : List Row) → AreMembers ids → DoNoHarm (cluster ids) rows →
         TidyMembersMissNobody ids rows }
+    ensures unasked { (ids : List ℕ) (rows : List Row) → AreMembers ids → DoNoHarm (cluster ids) rows →
+        MembersAskNobody ids rows }
 {
     what_service_stands_on();
 }

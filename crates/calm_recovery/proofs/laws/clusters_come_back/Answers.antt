@@ -33,7 +33,7 @@ returns-clause-back c ids rows members harmless = clusters_come_back ids rows (r
   fit = c.members_stay_tidy.ensures.fit ids rows members harmless;
   missed = c.discoveries_miss_nobody.ensures.any ids rows members harmless;
   settle = c.leaders_settle_in_calm.ensures.settle ids rows members harmless;
-}) (c.leaders_come.ensures ids rows members harmless) c.members_stay_tidy.ensures.are (c.members_stay_tidy.ensures.tidy ids rows members harmless)
+}) (c.leaders_come.ensures ids rows members harmless) (c.discoveries_miss_nobody.ensures.unasked ids rows members harmless)
 
 pub returns-clause-limit : goal.returns-clause-limit
 returns-clause-limit c ids rows members harmless =

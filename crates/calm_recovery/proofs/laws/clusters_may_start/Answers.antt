@@ -5,12 +5,12 @@ use Rattle.raft_model.specs.Server.{Store}
 use Rattle.cluster_calm.specs.Calm.{Device, Member}
 use Rattle.cluster_calm.specs.CalmExample.{clocks, some_uid, two}
 use Rattle.calm_election.specs.Elections.{IsAhead}
-use Rattle.calm_service.specs.Tidy.{OpenedMembersAreReady}
+use Rattle.calm_service.specs.Tidy.{OpenedMembersAreReady, TidyMembersAreFit}
 use Rattle.calm_service.proofs.CalmTested.{number_in}
 use Rattle.calm_service.proofs.CalmTestedRows.{lawful_rows}
 use Rattle.calm_recovery.specs.Restart.{LogsAreAtMost}
 use Rattle.calm_recovery.specs.RestartExample.{ClusterMayStart, members_only, no_entries, opened_at, opened_world, opening_rows, restart_pace, restart_rows}
-use Rattle.calm_recovery.proofs.RestartCalm.{Restarted, all_calls_fit, all_have_room, goes_on, is_restart, is_tidy}
+use Rattle.calm_recovery.proofs.RestartCalm.{Restarted, all_calls_fit, all_have_room, goes_on, is_fit, is_restart}
 use Rattle.calm_recovery.proofs.RestartComputed.{lawful_before, opened, passed, stores_empty}
 use Rattle.calm_recovery.proofs.laws.clusters_may_start.Goals as goal
 use Rattle.calm_rounds.specs.Opened.{OpenedMembersGoOn}
@@ -73,8 +73,8 @@ ahead m i p server other j up other_up =
     (omega (arith, term), inr (ap (λ (s : Store). last_term s.log) (its ∙ sym mine), omega (arith, none)))
 
 -- the premises, from what `calm_can_be` says of the members
-premises : AreMembers two → OpenedMembersGoOn two opening_rows → OpenedMembersAreReady two → ClusterMayStart
-premises members go_on ready = record {
+premises : AreMembers two → OpenedMembersGoOn two opening_rows → OpenedMembersAreReady two → TidyMembersAreFit → ClusterMayStart
+premises members go_on ready are = record {
   members = members;
   before = before;
   begins = record {
@@ -90,7 +90,7 @@ premises members go_on ready = record {
   long = omega arith;
   rounds = goes_on worked go_on listed;
   long_to_be_led = omega arith;
-  tidy = is_tidy worked go_on ready listed;
+  fit = is_fit worked go_on ready are listed;
   only = no_device;
   long_to_be_back = omega arith;
 }
@@ -100,6 +100,7 @@ hold : goal.After-opened_members_go_on_calmly → ClusterMayStart
 hold c =
     let members = c.calm_can_be.ensures.members in
     premises members (c.opened_members_go_on_calmly.ensures two opening_rows members before) (c.opened_members_are_tidy.ensures.opened two members)
+    c.members_stay_tidy.ensures.are
 
 pub returns-clause-premises : goal.returns-clause-premises
 returns-clause-premises c = hold c
@@ -114,4 +115,4 @@ pub returns-clause-from_any_state : goal.returns-clause-from_any_state
 returns-clause-from_any_state c =
     let p = hold c in
     c.clusters_come_back.ensures.back two opening_rows p.members p.before members_only clocks restart_pace opened_at no_entries restart_rows
-    p.tidy p.only p.long_to_be_back
+    p.fit p.only p.long_to_be_back

@@ -1,7 +1,7 @@
-use Rattle.std.proofs.Common.{◌≡◌, ◌⊎◌, ℕ, arith, List, refl, ap, subst, sym, ◌∙◌, inl, inr, Some}
+use Rattle.std.proofs.Common.{◌≡◌, ◌⊎◌, ℕ, arith, List, refl, ap, subst, sym, ◌∙◌, inl, inr}
 use Rattle.can_frame.specs.declared.entry.Entry.{Entry}
 use Rattle.raft_model.specs.Lists.{In}
-use Rattle.allocatee.specs.Allocatee.{Device as AskingDevice, opening}
+use Rattle.allocatee.specs.Allocatee.{opening}
 use Rattle.cluster_calm.specs.Calm.{Member}
 use Rattle.alloc_spec.specs.AllocatorState.{AllocatorState}
 use Rattle.cluster_calm.proofs.Pair.{same_server}
@@ -14,8 +14,7 @@ use Rattle.calm_service.proofs.CalmTestedRows.{lawful_rows}
 use Rattle.calm_service.proofs.ServedComputed.{of_members, one_device, place}
 use Rattle.calm_recovery.specs.RestartExample.{opened_at}
 use Rattle.calm_recovery.specs.ServiceExample.{DevicesMayBeServedFromPowerOn, one_entry, power_on_calm, power_on_rows}
-use Rattle.calm_recovery.proofs.BackGiven.{as_fit}
-use Rattle.calm_recovery.proofs.RestartCalm.{Restarted, are_ready, device_has_memory, is_tidy, pairs_all_fit, rooms_to_tell, tells_short, world_behind}
+use Rattle.calm_recovery.proofs.RestartCalm.{Restarted, are_ready, device_has_memory, is_fit, pairs_all_fit, rooms_to_tell, tells_short, world_behind}
 use Rattle.calm_recovery.proofs.ServiceComputed.{can_tell, has_come, lawful_before, opened, passed}
 use Rattle.calm_recovery.proofs.laws.devices_may_be_served_from_power_on.Goals as goal
 use Rattle.calm_rounds.specs.Opened.{OpenedMembersGoOn}
@@ -54,13 +53,13 @@ before = lawful_rows power_on_rows (cluster two) lawful_before
 
 -- the premises, from what other laws say of members that were just opened
 premises : AreMembers two → OpenedMembersGoOn two power_on_rows → OpenedMembersAreReady two → TidyMembersAreFit → DevicesMayBeServedFromPowerOn
-premises members go_on ready are = let tidy = is_tidy worked go_on ready listed in record {
+premises members go_on ready are = record {
   members = members;
   before = before;
   calm = record {
-    calm = as_fit are two power_on_rows group clocks served_pace opened_at one_entry power_on_calm tidy;
+    calm = is_fit worked go_on ready are listed;
     begun = λ m i server up.
-        let is = tidy.are m i in
+        let is = (are_ready worked ready listed m i).tidy in
         let same = ap (λ (t : AllocatorState). t.accepted) (same_server server is.server (sym up ∙ is.runs)) ∙ is.requests in
         subst (TellBeginning some_uid) (sym same) (some_uid, refl);
     asks = record {

@@ -23,7 +23,8 @@ returns c = λ ids rows members harmless group clocks pace start longest ended w
     (λ m i. refl)
     (lists_in ids rows group clocks pace start whole r c.law_members.ensures.count knows c.members_of_a_step.ensures.opening)
     (c.terms_do_not_fall.ensures ids rows) (c.no_election_comes_in_calm.ensures ids rows members harmless) knows
-    (c.members_stay_tidy.ensures.tidy ids rows members harmless) (c.discoveries_miss_nobody.ensures.tidy ids rows members harmless) (c.logs_stay_in_calm.ensures ids rows members harmless)
+    (c.members_stay_tidy.ensures.tidy ids rows members harmless) (c.discoveries_miss_nobody.ensures.tidy ids rows members harmless)
+    (c.discoveries_miss_nobody.ensures.unasked ids rows members harmless) (c.logs_stay_in_calm.ensures ids rows members harmless)
     (c.winners_call.ensures ids rows members harmless) (c.calls_return_to_who_leads_on.ensures ids rows members harmless) (c.leaders_settle_in_calm.ensures.settle ids rows members harmless)
     (λ m t i up. low_terms chosen.0 (transfers_of_rows (cluster ids) rows []) (world_of ids rows) (run (initial_world ids) (events chosen.0 (cluster ids) rows)) shown.shows
     (c.law_every_run.ensures.invariants ids (events chosen.0 (cluster ids) rows) shown.lawful) m t
