@@ -1,6 +1,6 @@
 -- Terms stay in a calm, and members stay free to vote, until a member of the group stands for election.
 use Rattle.std.proofs.Common.{◌≡◌, ◌≢◌, ℕ, ◌+◌, ◌<◌, ◌≤◌, List, [], ◌∷◌, ◌++◌, length, refl, sym, ◌∙◌, ap, subst, inl, inr, arith}
-use Rattle.cluster_discovery.specs.Members.{Event as Discovered, IsMemberList, IsStart, Start, members}
+use Rattle.cluster_discovery.specs.Members.{IsStart}
 use Rattle.raft_model.specs.Lists.{In}
 use Rattle.replay_text.specs.declared.row.Row.{Row}
 use Rattle.replay_text.specs.declared.row.Row.TheVariants.{Rx, Tick}
@@ -8,19 +8,18 @@ use Rattle.transfer_rx.specs.Reassembly.{Delivery, Gives, answer}
 use Rattle.alloc_spec.specs.Accepted.{setting_for}
 use Rattle.alloc_spec.specs.AllocatorState.{AllocatorState, start_of}
 use Rattle.alloc_spec.specs.Step.{step}
-use Rattle.cluster_agreement.specs.LawsBelow.{CodecLaws}
 use Rattle.cluster_agreement.specs.Shows.{ShowsMember, ShowsUp}
 use Rattle.cluster_progress.specs.Requests.{moment_at}
 use Rattle.cluster_recovery.specs.Calm.{IsNext, Pace, Timed, rows_in}
 use Rattle.cluster_recovery.proofs.Members.{IsUp}
 use Rattle.cluster_calm.specs.Calm.{AreCalm, AreRunning, Member as OfMember, Party, no_traffic}
-use Rattle.cluster_calm.proofs.Group.{CalmLaws}
-use Rattle.cluster_calm.proofs.Start.{places_in, well_in}
+use Rattle.cluster_calm.specs.CalmBelow.{CalmGrounds}
+use Rattle.cluster_calm.proofs.Grounds.{calm_laws, invariants, well}
 use Rattle.calm_election.specs.Terms.{AreWithin, IsFreeFor, NobodyElseStands, NobodyStandsAbove}
 use Rattle.calm_election.specs.Votes.{Stands}
-use Rattle.calm_leader.proofs.LeadsOn.{DeliversOne}
 use Rattle.calm_leader.proofs.LeadsOnWays.{next_of_group}
 use Rattle.calm_leader.proofs.TermsHeard.{IsOfGroup, tells_within}
+use Rattle.calm_leader.proofs.TermsRun.{of_run}
 use Rattle.calm_leader.proofs.TermsKept.{TellsWithin}
 use Rattle.calm_election.proofs.TermsMembers.{AllHold, GoesOn, all_after, all_hold, further, it_holds, one_on, up_then}
 use Rattle.calm_election.proofs.TermsSteps.{AsksFor, HasStood, IsFree, free_as, free_at_frame, stands_or_stays, within_at_frame}
@@ -38,38 +37,27 @@ two_or_more (x ∷ []) m n (inr i) j apart = absurd i
 two_or_more (x ∷ []) m n (inl e) (inr j) apart = absurd j
 two_or_more (x ∷ y ∷ rest) m n i j apart = omega arith
 
--- what is said below, of a cluster of two members or more
-pub record TermLaws (ids : List ℕ) : Type 0 where
-  pub calm : CalmLaws
-  pub codec : CodecLaws
-  pub one_transfer : DeliversOne
-  pub listing : (start : Start) (events : List Discovered) → IsStart start → IsMemberList start.me start.size (members start events)
-  pub members : AreMembers ids
-  pub many : 2 ≤ length ids
-  pub of_run : (rows : List Row) → DoNoHarm (cluster ids) rows → IsOfSafeRun (world_of ids rows)
-  pub same : (rows : List Row) → (world_of ids rows).ids ≡ ids
-  pub grown : (rows : List Row) (row : Row) → world_of ids (rows ++ row ∷ []) ≡ after_row (world_of ids rows) row
-  pub harmless : (rows : List Row) (row : Row) → DoNoHarm (cluster ids) rows → DoesNoHarm (world_of ids rows) row → DoNoHarm (cluster ids)
-      (rows ++ row ∷ [])
-
-module _ (ids : List ℕ) (laws : TermLaws ids) (group : List Party) (listed : (p : ℕ) → In (OfMember p) group → In p ids) (clocks : Party → ℕ) (pace : Pace) where
+module _ (grounds : CalmGrounds) (ids : List ℕ) (members : AreMembers ids) (many : 2 ≤ length ids) (group : List Party) (listed : (p : ℕ) → In (OfMember p) group → In p ids) (clocks : Party → ℕ) (pace : Pace) where
   abbrev pub nodes : (p : ℕ) → In (OfMember p) group → (1 ≤ p) × (p ≤ 125)
-  nodes p i = laws.members.nodes p (listed p i)
+  nodes p i = members.nodes p (listed p i)
 
   -- the rest of a calm
   abbrev pub Rest : Cluster → List Timed → Type 0
-  Rest = GoesOn laws.calm group nodes clocks pace ids laws.grown laws.harmless
+  Rest = GoesOn (calm_laws grounds) group nodes clocks pace ids (grounds.grows (cluster ids)) (grounds.no_harm (cluster ids))
 
   module _ (w : Cluster) (whole : List Timed) (goes : Rest w whole) where
     -- the members of the cluster stay
     same_ids : w.ids ≡ ids
-    same_ids = sym (ap (λ (v : Cluster). v.ids) goes.reached) ∙ laws.same goes.rows
+    same_ids = sym (ap (λ (v : Cluster). v.ids) goes.reached) ∙ grounds.same (cluster ids) goes.rows
 
     there : (p : ℕ) → In (OfMember p) group → In p w.ids
     there p i = subst (λ (l : List ℕ). In p l) (sym same_ids) (listed p i)
 
     run_here : IsOfSafeRun w
-    run_here = subst IsOfSafeRun goes.reached (laws.of_run goes.rows goes.harmless)
+    run_here = subst IsOfSafeRun goes.reached (record {
+      heard = of_run grounds ids members goes.rows goes.harmless;
+      invariants = invariants grounds ids members goes.rows goes.harmless;
+    })
 
     -- what a server that runs is in the run of the Raft model
     shown_up : (p : ℕ) → In (OfMember p) group → (t : AllocatorState) → (w.member p).status ≡ Up t
@@ -86,7 +74,7 @@ module _ (ids : List ℕ) (laws : TermLaws ids) (group : List Party) (listed : (
         let up = (shown_up p i t runs).runs in
         let size = size_is p i t runs in
         let node = nodes p i in
-        let some = laws.members.some in
+        let some = members.some in
         record {
           numbered = omega (arith, up.me, node.0);
           device = omega (arith, up.me, node.1);
@@ -96,7 +84,7 @@ module _ (ids : List ℕ) (laws : TermLaws ids) (group : List Party) (listed : (
 
     -- its cluster has two members or more
     large : (p : ℕ) → In (OfMember p) group → (t : AllocatorState) → (w.member p).status ≡ Up t → 2 ≤ t.size
-    large p i t runs = let size = size_is p i t runs in let some = laws.many in omega (arith, size, some)
+    large p i t runs = let size = size_is p i t runs in let some = many in omega (arith, size, some)
 
     -- whoever stands for election is told so
     stands : (p ms word : ℕ) → In (OfMember p) group → (t : AllocatorState) → IsUp t (w.member p)
@@ -118,23 +106,20 @@ module _ (ids : List ℕ) (laws : TermLaws ids) (group : List Party) (listed : (
   -- where a calm begins
   pub begins : (start : ℕ) (rows : List Row) → DoNoHarm (cluster ids) rows → AreRunning group (world_of ids rows) → (whole : List Timed)
       → AreCalm group clocks pace (no_traffic start) (world_of ids rows) whole → Rest (world_of ids rows) whole
-  begins start rows harmless running whole calm =
-      let here = (laws.of_run rows harmless).heard in
-      record {
-        rows = rows;
-        reached = refl;
-        harmless = harmless;
-        traffic = no_traffic start;
-        calm = calm;
-        well = well_in ids here.choice here.made (world_of ids rows) here.run here.shows (places_in ids rows) group
-            (λ p i. subst (λ (l : List ℕ). In p l) (sym (laws.same rows)) (listed p i)) running;
-        flies = λ party. refl;
-      }
+  begins start rows harmless running whole calm = record {
+    rows = rows;
+    reached = refl;
+    harmless = harmless;
+    traffic = no_traffic start;
+    calm = calm;
+    well = well grounds ids members rows harmless group listed running;
+    flies = λ party. refl;
+  }
 
   -- behind some of its rows
   pub behind : (front rest more : List Timed) (w : Cluster) → Rest w (front ++ rest) → DoNoHarm w (rows_in (front ++ more))
       → Rest (after_rows w (rows_in front)) rest × DoNoHarm (after_rows w (rows_in front)) (rows_in more)
-  behind = further laws.calm group nodes clocks pace ids laws.grown laws.harmless
+  behind = further (calm_laws grounds) group nodes clocks pace ids (grounds.grows (cluster ids)) (grounds.no_harm (cluster ids))
 
   -- ---- what comes
 
@@ -147,22 +132,22 @@ module _ (ids : List ℕ) (laws : TermLaws ids) (group : List Party) (listed : (
     here = run_here w (timed ∷ rest) goes
 
     members_here : AreMembers w.ids
-    members_here = subst AreMembers (sym (same_ids w (timed ∷ rest) goes)) laws.members
+    members_here = subst AreMembers (sym (same_ids w (timed ∷ rest) goes)) members
 
     of_group : IsOfGroup group (frame_at w.frames k)
     of_group = next_of_group group w.frames k (goes.traffic.to (OfMember p)) next (goes.flies (OfMember p))
 
     -- it tells no term above this one
     told_within : TellsWithin top d
-    told_within = tells_within laws.calm.frame laws.codec w here.heard
-        (laws.one_transfer here.heard.choice here.heard.made w here.heard.run members_here here.heard.shows) group (there w (timed ∷ rest) goes) nodes top
+    told_within = tells_within grounds.frame grounds.codec w here.heard
+        (grounds.one_transfer here.heard.choice here.heard.made w here.heard.run members_here here.heard.shows) group (there w (timed ∷ rest) goes) nodes top
         low p k ms t runs (subst (DoesNoHarm w) is harm) d gives of_group
 
     -- and a vote request of this term is of c
     asked_for : (c : ℕ) → ((q : ℕ) → In (OfMember q) group → q ≢ c → (x : AllocatorState) → (w.member q).status ≡ Up x → IsFree c top x.raft_server)
         → AsksFor c top d
-    asked_for c free = asks_for laws.calm.frame laws.codec w here
-        (laws.one_transfer here.heard.choice here.heard.made w here.heard.run members_here here.heard.shows) group (there w (timed ∷ rest) goes) nodes c top
+    asked_for c free = asks_for grounds.frame grounds.codec w here
+        (grounds.one_transfer here.heard.choice here.heard.made w here.heard.run members_here here.heard.shows) group (there w (timed ∷ rest) goes) nodes c top
         low free p k ms t runs (subst (DoesNoHarm w) is harm) d gives of_group
 
   -- ---- terms
@@ -175,7 +160,7 @@ module _ (ids : List ℕ) (laws : TermLaws ids) (group : List Party) (listed : (
     within_row : (w : Cluster) (timed : Timed) (rest : List Timed) → Rest w (timed ∷ rest) → DoesNoHarm w timed.row
         → ((n term : ℕ) → In (OfMember n) group → Stands n term w timed.row → term ≤ top) → AllHold group Within w → AllHold group Within (after_row w timed.row)
     within_row w timed rest goes harm nobody all = all_after group Within clocks pace goes.traffic w timed.at timed.row goes.calm.1 (λ m t h. h)
-        (λ p ms word is i t up h. elim (stands_or_stays laws.calm.more.list (w.rows + 1) t ms word (is_start w (timed ∷ rest) goes p i t up.status)
+        (λ p ms word is i t up h. elim (stands_or_stays grounds.more.list (w.rows + 1) t ms word (is_start w (timed ∷ rest) goes p i t up.status)
         (large w (timed ∷ rest) goes p i t up.status)) [
           | inl same ↦ (let e = same.term in omega (arith, e, h))
           | inr stood ↦ (
@@ -193,7 +178,7 @@ module _ (ids : List ℕ) (laws : TermLaws ids) (group : List Party) (listed : (
         → AllHold group Within w → AllHold group Within (after_rows w (rows_in front))
     within_on [] rest w goes harm nobody all = all
     within_on (timed ∷ front) rest w goes harm nobody all =
-        within_on front rest (after_row w timed.row) (one_on laws.calm group nodes clocks pace ids laws.grown laws.harmless timed (front ++ rest) w goes harm.0) harm.1 nobody.1
+        within_on front rest (after_row w timed.row) (one_on (calm_laws grounds) group nodes clocks pace ids (grounds.grows (cluster ids)) (grounds.no_harm (cluster ids)) timed (front ++ rest) w goes harm.0) harm.1 nobody.1
         (within_row w timed (front ++ rest) goes harm.0 nobody.0 all)
 
     -- so the members of the group stay within a term
@@ -213,7 +198,7 @@ module _ (ids : List ℕ) (laws : TermLaws ids) (group : List Party) (listed : (
         → ((n term : ℕ) → In (OfMember n) group → Stands n term w timed.row → n ≡ c)
         → ((n term : ℕ) → In (OfMember n) group → Stands n term w timed.row → term ≤ top) → AllHold group Free w → AllHold group Free (after_row w timed.row)
     free_row w timed rest goes harm nobody_else nobody all = all_after group Free clocks pace goes.traffic w timed.at timed.row goes.calm.1 (λ m t h. h)
-        (λ p ms word is i t up h. elim (stands_or_stays laws.calm.more.list (w.rows + 1) t ms word (is_start w (timed ∷ rest) goes p i t up.status)
+        (λ p ms word is i t up h. elim (stands_or_stays grounds.more.list (w.rows + 1) t ms word (is_start w (timed ∷ rest) goes p i t up.status)
         (large w (timed ∷ rest) goes p i t up.status)) [
           | inl same ↦ (
               let e = same.term in
@@ -247,7 +232,7 @@ module _ (ids : List ℕ) (laws : TermLaws ids) (group : List Party) (listed : (
         → NobodyStandsAbove group top w front → AllHold group Free w → AllHold group Free (after_rows w (rows_in front))
     free_on [] rest w goes harm nobody_else nobody all = all
     free_on (timed ∷ front) rest w goes harm nobody_else nobody all =
-        free_on front rest (after_row w timed.row) (one_on laws.calm group nodes clocks pace ids laws.grown laws.harmless timed (front ++ rest) w goes harm.0) harm.1
+        free_on front rest (after_row w timed.row) (one_on (calm_laws grounds) group nodes clocks pace ids (grounds.grows (cluster ids)) (grounds.no_harm (cluster ids)) timed (front ++ rest) w goes harm.0) harm.1
         nobody_else.1 nobody.1 (free_row w timed (front ++ rest) goes harm.0 nobody_else.0 nobody.0 all)
 
     -- so they stay free to vote for c

@@ -14,7 +14,6 @@ use Rattle.raft_model.specs.Lists.{In, at, at_here, at_other, how_many}
 use Rattle.raft_model.specs.Members.{HasNoneTwice}
 use Rattle.raft_model.specs.Moves.Elections.{own_vote, with_term}
 use Rattle.raft_log.specs.KeyDisk.{are_put, puts_on}
-use Rattle.raft_model.specs.Runs as raft
 use Rattle.raft_model.specs.Server.{RaftServer}
 use Rattle.raft_model.specs.Server.Role.{Candidate, Follower, Leader}
 use Rattle.replay_text.specs.declared.row.Row.{Row}
@@ -27,11 +26,9 @@ use Rattle.alloc_spec.specs.Accepted.{rows, setting_for}
 use Rattle.alloc_spec.specs.AllocatorState.{AllocatorState, knows_all, members_of, start_of}
 use Rattle.alloc_spec.specs.Step.{Event, after_pop, step}
 use Rattle.alloc_spec.specs.StepState.{StepState}
-use Rattle.alloc_spec.specs.Transfers.{SentTransfer}
 use Rattle.alloc_spec_laws.proofs.Choices.{and_left, and_right, either, eq_true}
 use Rattle.alloc_spec_laws.proofs.Peers.{IsList, members_list}
 use Rattle.cluster_agreement.specs.LawsBelow.{FrameLaws}
-use Rattle.cluster_agreement.specs.Shows.{Shows, ShowsMember, ShowsUp}
 use Rattle.cluster_agreement.proofs.RowsWithoutEvents.{left_in_queue}
 use Rattle.cluster_agreement.proofs.Idents.{wanted_is}
 use Rattle.cluster_calm.proofs.Counting.{now_after}
@@ -255,17 +252,6 @@ module _ (frame : FrameLaws) (w : Cluster) (m k ms : ℕ) (t : AllocatorState) (
             subst (λ (kind : Kind). first_signature rows kind one.delivery.ident.number ≡ Some found.0) one.kind
                 (subst (λ (i : Ident). first_signature rows i.kind i.number ≡ Some found.0) (sym its.ident) found.1),
           )
-
--- ---- what is known of a server of a member
-
--- it has the member's node ID, and knows how many members there are
-pub server_facts : (ids : List ℕ) (choice : ℕ → Bool) (made : List SentTransfer) (w : Cluster) (run : raft.World) → Shows choice made w run → w.ids ≡ ids
-    → (m : ℕ) → In m ids → (t : AllocatorState) → (w.member m).status ≡ Up t → (t.me ≡ m) × (t.size ≡ length ids)
-server_facts ids choice made w run shows same m listed t runs = (up.runs.me, up.runs.size ∙ ap (λ (l : List ℕ). length l) same)
-  where
-    up : ShowsUp made w.ids w.frames run m t (w.member m).disk
-    up = subst (λ (status : MemberStatus). ShowsMember choice made w.ids w.frames run m status (w.member m).disk) runs
-        (shows.lives m (subst (λ (l : List ℕ). In m l) (sym same) listed))
 
 -- ---- the laws of a row
 

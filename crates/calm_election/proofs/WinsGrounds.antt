@@ -1,32 +1,28 @@
 -- The laws that stand are what the proofs of who wins ask for.
-use Rattle.std.proofs.Common.{◌≡◌, ◌≢◌, ℕ, Bool, true, List, [], ◌∷◌, ◌++◌, length, refl, sym, ◌∙◌, ap, subst, arith}
+use Rattle.std.proofs.Common.{◌≡◌, ◌≢◌, ℕ, Bool, true, List, [], ◌∷◌, ◌++◌, length, refl, ◌∙◌, ap, subst, arith}
 use Rattle.std.specs.Prelude.{◌/◌, ◌+◌, ◌≤◌}
 use Rattle.std.proofs.lemmas.Bool.{le-leb}
 use Rattle.raft_model.specs.Lists.{In, how_many}
 use Rattle.raft_model.specs.Members.{IsAll}
 use Rattle.raft_model.specs.Moves.Elections.{has_quorum}
-use Rattle.raft_model.specs.Runs as raft
-use Rattle.raft_model.specs.Runs.{initial_world}
 use Rattle.raft_model.specs.Server.{quorum}
 use Rattle.raft_model.specs.Server.Role.{Follower}
 use Rattle.replay_text.specs.declared.row.Row.{Row}
 use Rattle.alloc_spec.specs.AllocatorState.{AllocatorState, members_of, start_of}
-use Rattle.alloc_spec.specs.Transfers.{SentTransfer}
-use Rattle.cluster_agreement.specs.Shows.{Shows, ShowsMember, ShowsUp}
 use Rattle.cluster_agreement.proofs.Lists.{equal, none_twice}
 use Rattle.cluster_discovery.specs.Members.{IsMemberList, IsStart}
 use Rattle.cluster_recovery.specs.Calm.{Pace, Timed}
-pub use Rattle.calm_election.specs.ElectionsBelow.{Always, WinLaws as Below}
+use Rattle.calm_election.specs.ElectionsBelow.{WinLaws}
 use Rattle.calm_election.specs.Wins.{IsCalmStanding}
 use Rattle.calm_election.specs.VotesAlone.{VotesComeAlone}
 use Rattle.calm_election.proofs.WinsScene.{RowLaws, Scene}
 use Rattle.calm_leader.proofs.Stretches.{harmless_both}
 use Rattle.cluster_calm.specs.Calm.{Party}
+use Rattle.cluster_calm.specs.CalmBelow.{CalmGrounds}
+use Rattle.cluster_calm.proofs.Grounds.{its_node, shown_up}
 use Rattle.cluster_spec.specs.Cluster.{AreMembers, Cluster, after_row, after_rows, cluster, world_of}
 use Rattle.cluster_spec.specs.Lawful.{DoNoHarm}
-use Rattle.cluster_spec.specs.Members.{MemberStatus}
 use Rattle.cluster_spec.specs.Members.MemberStatus.{Up}
-use Rattle.cluster_spec.specs.Refinement.{events, transfers_of_rows}
 
 pub rows_join : (w : Cluster) (first more : List Row) → after_rows w (first ++ more) ≡ after_rows (after_rows w first) more
 rows_join w [] more = refl
@@ -38,37 +34,21 @@ same_quorum : (list members : List ℕ) (votes : ℕ → Bool) → length list �
 same_quorum list members votes size many enough =
     let q = ap (λ (n : ℕ). n / 2 + 1) size in le-leb (quorum list) (how_many votes list) (omega (arith, many, enough, q))
 
-module _ (below : Below) (ids : List ℕ) (members : AreMembers ids) where
+module _ (below : WinLaws) (ids : List ℕ) (members : AreMembers ids) where
   module _ (list : List Row) (harmless : DoNoHarm (cluster ids) list) where
     abbrev w : Cluster
     w = world_of ids list
 
-    abbrev choice : ℕ → Bool
-    choice = (below.chosen ids list members harmless).0
-
-    abbrev run : raft.World
-    run = raft.run (initial_world ids) (events choice (cluster ids) list)
-
-    abbrev made : List SentTransfer
-    made = transfers_of_rows (cluster ids) list []
-
-    shows : Shows choice made w run
-    shows = (below.shown choice ids list members harmless (below.chosen ids list members harmless).1).shows
-
-    shown_up : (p : ℕ) (t : AllocatorState) → In p ids → (w.member p).status ≡ Up t → ShowsUp made w.ids w.frames run p t (w.member p).disk
-    shown_up p t i up = subst (λ (status : MemberStatus). ShowsMember choice made w.ids w.frames run p status (w.member p).disk) up
-        (shows.lives p (subst (λ (l : List ℕ). In p l) (sym (below.same (cluster ids) list)) i))
-
-    its_me : (p : ℕ) (t : AllocatorState) → In p ids → (w.member p).status ≡ Up t → t.me ≡ p
-    its_me p t i up = (shown_up p t i up).runs.me
+    abbrev grounds : CalmGrounds
+    grounds = below.election.calm
 
     its_size : (p : ℕ) (t : AllocatorState) → In p ids → (w.member p).status ≡ Up t → t.size ≡ length ids
-    its_size p t i up = (shown_up p t i up).runs.size ∙ ap (λ (l : List ℕ). length l) (below.same (cluster ids) list)
+    its_size p t i up = (its_node grounds ids members list harmless p t i up).1
 
     its_start : (p : ℕ) (t : AllocatorState) → In p ids → (w.member p).status ≡ Up t → IsStart (start_of t)
     its_start p t i up =
         let node = members.nodes p i in
-        let me = its_me p t i up in
+        let me = (its_node grounds ids members list harmless p t i up).0 in
         let size = its_size p t i up in
         record {
           numbered = omega (arith, me, node.0);
@@ -79,11 +59,11 @@ module _ (below : Below) (ids : List ℕ) (members : AreMembers ids) where
 
     knows_all_members : (p : ℕ) (t : AllocatorState) → In p ids → (w.member p).status ≡ Up t → t.raft_server.memory.role ≢ Follower → IsAll (members_of t) ids
     knows_all_members p t i up role =
-        let its = shown_up p t i up in
-        let is_list : IsMemberList t.me t.size (members_of t) = below.more.list (start_of t) t.heard (its_start p t i up) in
+        let its = shown_up grounds ids members list harmless p t i up in
+        let is_list : IsMemberList t.me t.size (members_of t) = grounds.more.list (start_of t) t.heard (its_start p t i up) in
         record {
           once = none_twice (members_of t) is_list.different;
-          among = λ node j. subst (λ (l : List ℕ). In node l) (below.same (cluster ids) list) (its.works.among node j);
+          among = λ node j. subst (λ (l : List ℕ). In node l) (grounds.same (cluster ids) list) (its.works.among node j);
           as_many = equal (length (members_of t)) t.size (its.runs.order.counting role) ∙ its_size p t i up;
         }
 
@@ -95,10 +75,10 @@ module _ (below : Below) (ids : List ℕ) (members : AreMembers ids) where
           candidates = below.candidates ids list;
           answers_read = below.answers_read ids list members harmless;
           begin = below.begin ids list members harmless;
-          me = its_me;
+          me = λ p t i up. (its_node grounds ids members list harmless p t i up).0;
           starts = λ p t i up. (its_start p t i up, its_size p t i up);
           counts = λ p t count i up role enough.
-              let all = knows_all_members p t i up role in same_quorum (members_of t) ids count all.as_many (below.count (members_of t) ids count all) enough;
+              let all = knows_all_members p t i up role in same_quorum (members_of t) ids count all.as_many (below.election.count (members_of t) ids count all) enough;
         }
 
   -- what is given where c stands
@@ -116,9 +96,9 @@ module _ (below : Below) (ids : List ℕ) (members : AreMembers ids) where
     taken = below.taken;
     row_laws = λ more fine. subst (RowLaws ids) (rows_join (cluster ids) rows more) (all_row_laws (rows ++ more) (harmless_both (cluster ids) rows more harmless fine));
     ticks = below.ticks;
-    frames = below.frames;
+    frames = below.election.leave;
     hears_anew = below.hears_anew;
-    listing = below.more.list;
+    listing = below.election.calm.more.list;
     stay = below.stay;
     once = members.once;
     granted = below.granted;

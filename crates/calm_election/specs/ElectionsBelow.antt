@@ -1,123 +1,44 @@
 -- What the laws of elections stand on, together: each field is what a law says. It is a means of their proofs.
-use Rattle.std.specs.Prelude.{◌≡◌, ◌⊎◌, ◌≤◌, ℕ, Bool, true, All, List, [], ◌∷◌, ◌++◌, length, map}
-use Rattle.can_frame.specs.Cutting.{bytes_cut, cut_length, frames_of, joined}
-use Rattle.raft_model.specs.Invariants.{Invariants}
+use Rattle.std.specs.Prelude.{◌≡◌, ◌⊎◌, ◌≤◌, ℕ, Bool, true, List}
 use Rattle.raft_model.specs.Decisions.{grants}
 use Rattle.raft_model.specs.Lists.{In, how_many}
 use Rattle.raft_model.specs.Members.{IsAll}
 use Rattle.raft_model.specs.Messages.{Request}
 use Rattle.raft_model.specs.Moves.Elections.{IsGranted}
-use Rattle.raft_model.specs.Runs as raft
-use Rattle.raft_model.specs.Runs.{InEveryRun, initial_world}
 use Rattle.raft_model.specs.Server.{Store}
 use Rattle.replay_text.specs.declared.row.Row.{Row}
-use Rattle.replay_text.specs.declared.row.Row.TheVariants.{Rx}
-use Rattle.transfer_rx.specs.declared.accept.Wanted.{Wanted}
-use Rattle.transfer_rx.specs.Keys.{key_of}
-use Rattle.transfer_rx.specs.Marks.{is_whole}
-use Rattle.transfer_rx.specs.Reassembly.{Arrival, Delivery, Gives, Setting, answer, piece_in}
-use Rattle.transfer_rx.specs.Run.{ComesWhole, of_key, run}
-use Rattle.transfer_rx.specs.Sessions.{Session}
-use Rattle.allocatee.specs.Allocatee as device
-use Rattle.allocatee.specs.Allocatee.{Device}
-use Rattle.allocatee.specs.Given.{IsAnonymous}
-use Rattle.alloc_spec.specs.AllocatorState.{AllocatorState, knows_all, members_of}
+use Rattle.alloc_spec.specs.AllocatorState.{knows_all, members_of}
 use Rattle.alloc_spec.specs.Rules.{IsToldAll, Rules, opening_by}
-use Rattle.alloc_spec.specs.Step.{Event, after_pop, step}
-use Rattle.alloc_spec.specs.Transfers.{SentTransfer}
-use Rattle.alloc_spec_laws.specs.Apart.{AreAllApart}
-use Rattle.alloc_spec_laws.specs.Sound.{IsSound}
-use Rattle.cluster_agreement.specs.Continues.{Continues}
-use Rattle.cluster_agreement.specs.LawsBelow.{CodecLaws, FrameLaws}
-use Rattle.cluster_agreement.specs.Safe.{IsDeliveredTo, IsOneTransfer}
-use Rattle.cluster_agreement.specs.Shows.{Shows}
-use Rattle.cluster_agreement.specs.StepLaws.{MoreLaws, StepLaws}
 use Rattle.cluster_progress.specs.InTime.{FramesLeaveFollowers, StaysFollower, WaitsAnew}
 use Rattle.calm_election.specs.Terms.{TermsDoNotFall, TermsStay, VotesStayFree}
 use Rattle.calm_election.specs.Votes.{CandidatesStay, StandingAsks, VoteAnswersReadAsSaid, VotesAreTaken, WaitsOnForVotes}
 use Rattle.calm_election.specs.Waits.{WaitsBeginThen}
+use Rattle.cluster_calm.specs.CalmBelow.{CalmGrounds, IsSaid}
 use Rattle.cluster_calm.specs.Calls.{ListsStay}
-use Rattle.cluster_spec.specs.Choices.{AgreesWithDisk}
-use Rattle.cluster_spec.specs.Cluster.{AreMembers, Cluster, after_row, after_rows, cluster, world_of}
-use Rattle.cluster_spec.specs.Lawful.{DoNoHarm, DoesNoHarm}
-use Rattle.cluster_spec.specs.Refinement.{events, transfers_of_row, transfers_of_rows}
 
--- so it is behind rows that do no harm
-abbrev pub Always : (List ℕ → List Row → Type 0) → Type 0
-Always Law = (ids : List ℕ) (rows : List Row) → AreMembers ids → DoNoHarm (cluster ids) rows → Law ids rows
-
--- a run of the Raft model that the world shows behind these rows
-abbrev pub IsShown : List ℕ → List Row → Type 0
-IsShown ids rows = (choice : ℕ → Bool)
-    × Continues choice (transfers_of_rows (cluster ids) rows []) (world_of ids rows) (initial_world ids) (events choice (cluster ids) rows)
-
--- of frames and messages, of steps and members, of what is delivered, and of rows
+-- of a calm, and of members
 pub record ElectionLaws : Type 0 where
-  pub frame : FrameLaws
-  pub codec : CodecLaws
-  pub in_step : StepLaws
-  pub more : MoreLaws
-  pub carried : (signature id : ℕ) (payload : List ℕ) → joined (frames_of signature id payload) ≡ bytes_cut signature payload
-  pub cut : (signature : ℕ) (payload : List ℕ) → length (bytes_cut signature payload) ≡ cut_length (length payload)
-  pub whole : (setting : Setting) (sessions : List Session) (w : Wanted) (payload : List ℕ) (arrivals before : List Arrival)
-      (first last : Arrival) → ComesWhole setting sessions w payload arrivals before first last
-      → answer setting (run setting sessions before) last ≡ Gives (record {
-        ident = w.ident;
-        id = (piece_in last).tail.id;
-        payload = payload;
-        mark = last.mark;
-        whole = is_whole (map (λ (arrival : Arrival). arrival.mark) (of_key setting (key_of w.ident) arrivals));
-      })
-  pub popped : (t : AllocatorState) → IsSound t → IsSound (after_pop t)
-  pub device_step : (d : Device) (number : ℕ) (event : device.Event) → All IsAnonymous d.asking.queue
-      → All IsAnonymous (device.step d number event).device.asking.queue
-  pub device_popped : (d : Device) → All IsAnonymous d.asking.queue → All IsAnonymous (device.after_pop d).asking.queue
-  pub apart : (t : AllocatorState) (number : ℕ) (event : Event) → AreAllApart (step t number event).step_state.offers
+  pub calm : CalmGrounds
   pub leave : FramesLeaveFollowers
   pub opening : (me : ℕ) (rules : Rules) (store : Store) (now word node : ℕ) → In node (members_of (opening_by me rules store now word))
       → (node ≡ me) ⊎ In node rules.told
   pub all : (me : ℕ) (rules : Rules) (store : Store) (now word : ℕ) → 1 ≤ me → IsToldAll me rules
       → knows_all (opening_by me rules store now word) ≡ true
-  pub stay : (t : AllocatorState) (number : ℕ) (event : Event) (node : ℕ) → In node (members_of t)
-      → In node (members_of (step t number event).step_state.allocator)
-  pub complete : (t : AllocatorState) (number : ℕ) (event : Event) → knows_all t ≡ true
-      → members_of (step t number event).step_state.allocator ≡ members_of t
   pub count : (list members : List ℕ) (test : ℕ → Bool) → IsAll list members → how_many test list ≡ how_many test members
-  pub one_transfer : (choice : ℕ → Bool) (made : List SentTransfer) (w : Cluster) (run : raft.World) → AreMembers w.ids
-      → Shows choice made w run → (n k ms : ℕ) (d : Delivery) → DoesNoHarm w (Rx n k ms) → IsDeliveredTo w n k ms d
-      → IsOneTransfer made run.bag n d
-  pub invariants : InEveryRun Invariants
-  pub shown : Always IsShown
-  pub same : (w : Cluster) (rows : List Row) → (after_rows w rows).ids ≡ w.ids
-  pub grown : (w : Cluster) (rows : List Row) (row : Row)
-      → after_rows w (rows ++ row ∷ []) ≡ after_row (after_rows w rows) row
-  pub harmless : (w : Cluster) (rows : List Row) (row : Row) → DoNoHarm w rows → DoesNoHarm (after_rows w rows) row
-      → DoNoHarm w (rows ++ row ∷ [])
-  pub made : (w : Cluster) (rows : List Row) (row : Row) (earlier : List SentTransfer)
-      → transfers_of_rows w (rows ++ row ∷ []) earlier
-      ≡ transfers_of_row (after_rows w rows) row (transfers_of_rows w rows earlier)
 
--- what the laws of who wins stand on: of members and steps, of rows, and of elections
+-- what the laws of who wins stand on: of steps, and of elections
 pub record WinLaws : Type 0 where
-  pub more : MoreLaws
-  pub count : (list members : List ℕ) (test : ℕ → Bool) → IsAll list members → how_many test list ≡ how_many test members
+  pub election : ElectionLaws
   pub ticks : StaysFollower
-  pub frames : FramesLeaveFollowers
   pub hears_anew : WaitsAnew
   pub stay : ListsStay
   pub granted : (store : Store) (request : Request) → IsGranted store request (grants store request)
-  pub chosen : Always (λ (ids : List ℕ) (rows : List Row). (choice : ℕ → Bool) × AgreesWithDisk choice (cluster ids) rows)
-  pub shown : (choice : ℕ → Bool) (ids : List ℕ) (rows : List Row) → AreMembers ids → DoNoHarm (cluster ids) rows
-      → AgreesWithDisk choice (cluster ids) rows
-      → Continues choice (transfers_of_rows (cluster ids) rows []) (world_of ids rows) (initial_world ids)
-      (events choice (cluster ids) rows)
-  pub same : (w : Cluster) (rows : List Row) → (after_rows w rows).ids ≡ w.ids
   pub taken : VotesAreTaken
-  pub asked : Always StandingAsks
-  pub waits_on : Always WaitsOnForVotes
+  pub asked : IsSaid StandingAsks
+  pub waits_on : IsSaid WaitsOnForVotes
   pub candidates : (ids : List ℕ) (rows : List Row) → CandidatesStay ids rows
-  pub answers_read : Always VoteAnswersReadAsSaid
-  pub begin : Always WaitsBeginThen
-  pub terms : Always TermsStay
+  pub answers_read : IsSaid VoteAnswersReadAsSaid
+  pub begin : IsSaid WaitsBeginThen
+  pub terms : IsSaid TermsStay
   pub rise : (ids : List ℕ) (rows : List Row) → TermsDoNotFall ids rows
-  pub free : Always VotesStayFree
+  pub free : IsSaid VotesStayFree

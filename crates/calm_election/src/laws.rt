@@ -16,21 +16,11 @@ ghost use Rattle.cluster_spec.specs.Lawful.{DoNoHarm};
 ghost use Rattle.replay_text.specs.declared.row.Row.{Row};
 ghost use Rattle.std.specs.Prelude.{ℕ, List};
 
-use alloc_spec_laws::laws::{
-    members_of_a_step, steps_stay_in_range, transfers_of_a_step_are_apart,
-};
-use allocatee::laws::its_frames_are_anonymous;
+use alloc_spec_laws::laws::members_of_a_step;
 use calm_leader::laws::calls_ask_for_the_next_place;
-use can_frame::laws::{frames_carry_what_is_cut, lengths_of_cuttings};
-use cluster_agreement::below::{
-    what_a_step_keeps, what_is_said_of_a_step, what_is_said_of_frames, what_is_said_of_messages,
-};
-use cluster_agreement::headline::{a_choice_fits, rows_are_shown, rows_grow_by_one};
-use cluster_agreement::transfers::what_a_row_delivers_is_one_transfer;
-use cluster_calm::laws::{each_transfer_comes_whole, who_is_listed_stays};
+use cluster_calm::laws::{each_transfer_comes_whole, what_calms_stand_on, who_is_listed_stays};
 use cluster_progress::laws::{followers_follow_on, steps_are_in_time};
-use raft_model::laws::{law_decisions, law_every_run, law_members};
-use transfer_rx::laws::delivers_what_comes_whole;
+use raft_model::laws::{law_decisions, law_members};
 
 /// The bytes of a vote request read as the request of the Raft model that it says. So it is behind all rows that do no
 /// harm, in a row that does none, where the member that asks runs and no call of its disk is set to fail.
@@ -321,38 +311,22 @@ pub fn who_stands_first_wins()
     what_winners_stand_on();
 }
 
-/// What the laws of elections stand on: what is said below of frames and messages, of steps and members, and of rows.
+/// What the laws of elections stand on: what is said below of a calm, and of members.
 pub fn what_elections_stand_on()
     ensures { ElectionLaws }
 {
-    a_choice_fits();
-    delivers_what_comes_whole();
     followers_follow_on();
-    frames_carry_what_is_cut();
-    its_frames_are_anonymous();
-    law_every_run();
     law_members();
-    lengths_of_cuttings();
     members_of_a_step();
-    rows_are_shown();
-    rows_grow_by_one();
-    steps_stay_in_range();
-    transfers_of_a_step_are_apart();
-    what_a_row_delivers_is_one_transfer();
-    what_a_step_keeps();
-    what_is_said_of_a_step();
-    what_is_said_of_frames();
-    what_is_said_of_messages();
+    what_calms_stand_on();
 }
 
-/// What the laws of who wins stand on: what is said below of members, steps and rows, and above of elections.
+/// What the laws of who wins stand on: what is said below of steps, and above of elections.
 pub fn what_winners_stand_on()
     ensures { WinLaws }
 {
-    a_choice_fits();
     candidates_stay();
     law_decisions();
-    rows_are_shown();
     steps_are_in_time();
     terms_do_not_fall();
     terms_stay_in_calm();

@@ -1,6 +1,7 @@
 pub mod EntriesAccepted
 pub mod EntriesJudged
 pub mod TermsSaid
+pub mod TermsRun
 pub mod RaftPhases
 pub mod TermsKept
 pub mod TermsRoles

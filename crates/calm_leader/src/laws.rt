@@ -25,25 +25,14 @@ ghost use Rattle.raft_model.specs.Lists.{In};
 ghost use Rattle.replay_text.specs.declared.row.Row.{Row};
 ghost use Rattle.std.specs.Prelude.{◌≢◌, ℕ, List, [], ◌+◌, ◌<◌};
 
-use alloc_spec_laws::laws::{
-    members_of_a_step, steps_stay_in_range, transfers_of_a_step_are_apart,
-};
-use allocatee::laws::its_frames_are_anonymous;
-use can_frame::laws::{frames_carry_what_is_cut, lengths_of_cuttings};
-use cluster_agreement::below::{
-    what_a_step_keeps, what_is_said_of_a_step, what_is_said_of_frames, what_is_said_of_messages,
-};
-use cluster_agreement::headline::{
-    a_choice_fits, rows_are_dutiful, rows_are_shown, rows_grow_by_one,
-};
-use cluster_agreement::transfers::what_a_row_delivers_is_one_transfer;
+use alloc_spec_laws::laws::transfers_of_a_step_are_apart;
+use cluster_agreement::headline::rows_are_dutiful;
 use cluster_calm::laws::{
     calls_are_heard, calls_read_as_said, calm_can_be, each_transfer_comes_whole,
-    followers_follow_on_in_calm, leaders_call_in_time, who_is_listed_stays,
+    followers_follow_on_in_calm, leaders_call_in_time, what_calms_stand_on, who_is_listed_stays,
 };
 use cluster_progress::laws::{followers_follow_on, steps_are_in_time};
-use raft_model::laws::{law_decisions, law_every_run, law_fit};
-use transfer_rx::laws::delivers_what_comes_whole;
+use raft_model::laws::{law_decisions, law_fit};
 
 /// A call is accepted by a member that is in step with the leader: one that begins no further on than up to where the
 /// leader knows the member's log to agree with its own, and whose term is that in which the leader leads now, where the
@@ -54,14 +43,9 @@ pub fn calls_to_who_is_in_step_are_accepted()
     ensures rows { (ids : List ℕ) (rows : List Row) → AreMembers ids → DoNoHarm (cluster ids) rows →
         CallsInStepAreAccepted ids rows }
 {
-    a_choice_fits();
     law_decisions();
-    law_every_run();
     law_fit();
-    rows_are_shown();
-    rows_grow_by_one();
-    what_a_row_delivers_is_one_transfer();
-    what_is_said_of_messages();
+    what_calms_stand_on();
 }
 
 /// Who leads leads on, and who follows follows on. In a calm as above, and from any moment of it on: a member of the
@@ -73,19 +57,7 @@ pub fn who_leads_leads_on()
     ensures { (ids : List ℕ) (rows : List Row) → AreMembers ids → DoNoHarm (cluster ids) rows →
         LeadersLeadOn ids rows }
 {
-    a_choice_fits();
-    delivers_what_comes_whole();
-    frames_carry_what_is_cut();
-    its_frames_are_anonymous();
-    lengths_of_cuttings();
-    rows_are_shown();
-    rows_grow_by_one();
-    steps_stay_in_range();
-    what_a_row_delivers_is_one_transfer();
-    what_a_step_keeps();
-    what_is_said_of_a_step();
-    what_is_said_of_frames();
-    what_is_said_of_messages();
+    what_calms_stand_on();
 }
 
 /// In a calm no election comes where a leader is known, from any moment of the calm on. At that moment a member of
@@ -100,16 +72,13 @@ pub fn no_election_comes_in_calm()
     ensures { (ids : List ℕ) (rows : List Row) → AreMembers ids → DoNoHarm (cluster ids) rows →
         NoElectionComes ids rows }
 {
-    a_choice_fits();
     calls_are_heard();
     calls_read_as_said();
     followers_follow_on();
     followers_follow_on_in_calm();
     leaders_call_in_time();
-    rows_are_shown();
-    rows_grow_by_one();
     steps_are_in_time();
-    what_is_said_of_a_step();
+    what_calms_stand_on();
     who_is_listed_stays();
     who_leads_leads_on();
 }
@@ -147,10 +116,7 @@ pub fn answers_read_as_said()
     ensures { (ids : List ℕ) (rows : List Row) → AreMembers ids → DoNoHarm (cluster ids) rows →
         AnswersReadAsSaid ids rows }
 {
-    a_choice_fits();
-    rows_are_shown();
-    rows_grow_by_one();
-    what_is_said_of_messages();
+    what_calms_stand_on();
 }
 
 /// An answer that found room comes to the caller within two delays, in a calm as above, or the calm is over by then.
@@ -191,21 +157,9 @@ pub fn calls_come_back()
     ensures { (ids : List ℕ) (rows : List Row) → AreMembers ids → DoNoHarm (cluster ids) rows →
         CallsComeBack ids rows }
 {
-    a_choice_fits();
     answers_read_as_said();
     calls_read_as_said();
-    delivers_what_comes_whole();
-    frames_carry_what_is_cut();
-    its_frames_are_anonymous();
-    lengths_of_cuttings();
-    members_of_a_step();
-    rows_are_shown();
-    rows_grow_by_one();
-    steps_stay_in_range();
-    transfers_of_a_step_are_apart();
-    what_a_step_keeps();
-    what_is_said_of_a_step();
-    what_is_said_of_frames();
+    what_calms_stand_on();
 }
 
 /// The premises of [`calls_come_back`] can be met: behind the rows of [`calm_can_be`] the answer to the append request
@@ -281,17 +235,12 @@ pub fn winners_call()
 pub fn what_entries_stand_on()
     ensures { (ids : List ℕ) (rows : List Row) → AreMembers ids → DoNoHarm (cluster ids) rows → EntryLaws ids rows }
 {
-    a_choice_fits();
     calls_ask_for_the_next_place();
     calls_read_as_said();
     calls_to_who_is_in_step_are_accepted();
-    law_every_run();
     law_fit();
     rows_are_dutiful();
-    rows_are_shown();
-    rows_grow_by_one();
     steps_are_in_time();
-    what_is_said_of_a_step();
-    what_is_said_of_messages();
+    what_calms_stand_on();
     who_is_listed_stays();
 }

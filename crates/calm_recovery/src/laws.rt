@@ -28,13 +28,12 @@ use calm_service::laws::{
     asking_devices_are_heard_out_in_calm, discoveries_miss_nobody,
     heard_devices_are_served_in_calm, heard_known_devices_are_told_in_calm, leaders_settle_in_calm,
     members_stay_tidy, opened_members_are_tidy, recorded_devices_are_served_in_calm,
-    requests_are_the_devices, who_follows_falls_silent, who_leads_has_come_to_lead,
+    requests_are_the_devices, what_service_stands_on, who_follows_falls_silent,
+    who_leads_has_come_to_lead,
 };
-use cluster_agreement::below::what_a_step_keeps;
-use cluster_agreement::headline::{a_choice_fits, rows_are_shown, rows_grow_by_one};
-use cluster_calm::laws::calm_can_be;
+use cluster_calm::laws::{calm_can_be, what_calms_stand_on};
 use cluster_progress::laws::followers_follow_on;
-use raft_model::laws::{law_every_run, law_fit, law_members};
+use raft_model::laws::law_members;
 
 /// Who wins begins anew. In a row that does no harm, in which a member of a cluster of two or more comes to lead in the
 /// term that it had: its log is as it was, and what it has committed; it has told all of that, and no more; it knows of
@@ -55,21 +54,17 @@ pub fn started_clusters_settle()
     ensures { (ids : List ℕ) (rows : List Row) → AreMembers ids → DoNoHarm (cluster ids) rows →
         StartedClustersSettle ids rows }
 {
-    a_choice_fits();
     calls_return_to_who_leads_on();
     discoveries_miss_nobody();
     followers_follow_on();
-    law_every_run();
     law_members();
     leaders_settle_in_calm();
     logs_stay_in_calm();
     members_of_a_step();
     members_stay_tidy();
     no_election_comes_in_calm();
-    rows_are_shown();
-    rows_grow_by_one();
     terms_do_not_fall();
-    what_a_step_keeps();
+    what_calms_stand_on();
     winners_begin_anew();
     winners_call();
 }
@@ -97,18 +92,14 @@ pub fn clusters_come_back()
     ensures limit { (ids : List ℕ) (rows : List Row) → AreMembers ids → DoNoHarm (cluster ids) rows →
         LogsStayWithinTheirLimit ids rows }
 {
-    a_choice_fits();
     calls_return_in_rounds();
     discoveries_miss_nobody();
-    law_every_run();
-    law_fit();
     law_members();
     leaders_come();
     leaders_go_on_calling();
     leaders_settle_in_calm();
     members_stay_tidy();
-    rows_are_shown();
-    rows_grow_by_one();
+    what_service_stands_on();
     who_leads_has_come_to_lead();
 }
 
@@ -119,14 +110,11 @@ pub fn devices_are_served()
     ensures { (ids : List ℕ) (rows : List Row) → AreMembers ids → DoNoHarm (cluster ids) rows →
         DevicesAreServed ids rows }
 {
-    a_choice_fits();
     asking_devices_are_heard_out_in_calm();
     calls_return_in_rounds();
     discoveries_miss_nobody();
     heard_devices_are_served_in_calm();
     heard_known_devices_are_told_in_calm();
-    law_every_run();
-    law_fit();
     law_members();
     leaders_come();
     leaders_go_on_calling();
@@ -134,8 +122,7 @@ pub fn devices_are_served()
     members_stay_tidy();
     recorded_devices_are_served_in_calm();
     requests_are_the_devices();
-    rows_are_shown();
-    rows_grow_by_one();
+    what_service_stands_on();
     who_follows_falls_silent();
     who_leads_has_come_to_lead();
 }

@@ -15,6 +15,7 @@ use Rattle.calm_leader.specs.Entries.{GoesOnCalling, PendsSince}
 use Rattle.calm_rounds.specs.Running.{IsCalmOf}
 use Rattle.calm_rounds.specs.Calling.{LeadersGoOnCalling}
 use Rattle.calm_rounds.proofs.CallingTakes.{next_is_near, pends_since}
+use Rattle.cluster_calm.proofs.Grounds.{is_server}
 use Rattle.calm_rounds.proofs.LearnsGrounds.{Grounds}
 use Rattle.calm_rounds.proofs.NobodyScene.{Course, StepLaws, here}
 use Rattle.cluster_spec.specs.Cluster.{Cluster, after_rows, world_of}
@@ -36,7 +37,7 @@ module _ (ids : List ℕ) (rows : List Row) (steps : StepLaws) (g : Grounds ids 
     whole = first ++ (few ++ rest);
     calm = calm;
     steps = steps;
-    me = λ p i t up. (g.is p (calm.listed p i) t up).me;
+    me = λ p i t up. (is_server g.below.wins.election.calm ids g.members rows g.harmless p t (calm.listed p i) up).me;
   }
 
   led : (c d : List Timed) → few ≡ c ++ d → LeadsIn n term (here s (first ++ c))

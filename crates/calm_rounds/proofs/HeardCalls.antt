@@ -17,10 +17,11 @@ use Rattle.cluster_calm.specs.Calm.{Member as OfMember, Party}
 use Rattle.cluster_calm.specs.Comes.{sent_by}
 use Rattle.calm_leader.specs.CallsAsk.{AsksNext, CallsAskNext, next_request}
 use Rattle.calm_election.specs.Votes.{HearsAppend}
+use Rattle.cluster_calm.specs.CalmBelow.{CalmGrounds}
 use Rattle.calm_rounds.specs.Running.{IsCalmOf}
 use Rattle.calm_rounds.specs.Sent.{HasCalled}
-use Rattle.calm_rounds.proofs.HeardMade.{HeardLaws, WasSent, reads_so, up_then, was_sent}
-use Rattle.cluster_spec.specs.Cluster.{Cluster, after_rows, cluster, world_of}
+use Rattle.calm_rounds.proofs.HeardMade.{WasSent, reads_so, up_then, was_sent}
+use Rattle.cluster_spec.specs.Cluster.{AreMembers, Cluster, after_rows, cluster, world_of}
 use Rattle.cluster_spec.specs.Lawful.{DoNoHarm}
 
 one_request : (a b : AppendRequest) → ◌≡◌ {A = Option AppendRequest} (Some a) (Some b) → a ≡ b
@@ -29,12 +30,12 @@ one_request a b e = cc e
 same_said : (a b : Request) → ◌≡◌ {A = Option Message} (Some (Requests a)) (Some (Requests b)) → a ≡ b
 same_said a b e = cc e
 
-module _ (ids : List ℕ) (laws : HeardLaws ids) (reads_said : (list : List Row) → DoNoHarm (cluster ids) list → CallsReadAsSaid ids list) (asks : CallsAskNext)
+module _ (below : CalmGrounds) (ids : List ℕ) (members : AreMembers ids) (reads_said : (list : List Row) → DoNoHarm (cluster ids) list → CallsReadAsSaid ids list) (asks : CallsAskNext)
     (rows : List Row) (harmless : DoNoHarm (cluster ids) rows) (group : List Party) (clocks : Party → ℕ) (pace : Pace) (start m : ℕ) (front rest : List Timed)
     (timed : Timed) (calm : IsCalmOf ids rows group clocks pace start (front ++ timed ∷ rest)) (in_m : In (OfMember m) group)
     (hears : HearsAppend m (after_rows (world_of ids rows) (rows_in front)) timed.row) where
   its : WasSent group (2 * pace.delay) m AppQ hears.delivery timed.at (world_of ids rows) front
-  its = was_sent ids laws rows harmless group clocks pace start (front ++ timed ∷ rest) calm front rest timed refl m in_m hears.k hears.ms hears.comes hears.server
+  its = was_sent below ids members rows harmless group clocks pace start (front ++ timed ∷ rest) calm front rest timed refl m in_m hears.k hears.ms hears.comes hears.server
       hears.runs hears.delivery hears.hears.gives AppQ (inr (inl refl)) (sym hears.hears.kind)
       (λ other k number. is_append_request other (k ∙ hears.hears.kind) (number ∙ hears.hears.number))
 
@@ -46,7 +47,7 @@ module _ (ids : List ℕ) (laws : HeardLaws ids) (reads_said : (list : List Row)
 
   -- the call reads as it says
   said : ReadsAsSaid (sent_by its.n before its.offer)
-  said = reads_so ids laws rows harmless group clocks pace start (front ++ timed ∷ rest) calm front rest timed refl (2 * pace.delay) m AppQ hears.delivery timed.at its
+  said = reads_so below ids members rows harmless group clocks pace start (front ++ timed ∷ rest) calm front rest timed refl (2 * pace.delay) m AppQ hears.delivery timed.at its
       ReadsAsSaid reads_said
 
   same_request : said.request ≡ hears.request
@@ -84,7 +85,7 @@ module _ (ids : List ℕ) (laws : HeardLaws ids) (reads_said : (list : List Row)
       };
       leads = record {
         server = after;
-        runs = (up_then ids laws rows harmless group clocks pace start (front ++ timed ∷ rest) calm front rest timed refl (2 * pace.delay) m AppQ hears.delivery timed.at its).status;
+        runs = (up_then below ids members rows harmless group clocks pace start (front ++ timed ∷ rest) calm front rest timed refl (2 * pace.delay) m AppQ hears.delivery timed.at its).status;
         leads = next.leads;
         its_term = same_term ∙ ap (λ (r : AppendRequest). r.term) same_request;
       };

@@ -1,5 +1,5 @@
 -- What is delivered of Raft's messages in a calm was made in it by another member of the group, two delays before at most.
-use Rattle.std.proofs.Common.{◌≡◌, ◌≢◌, ℕ, ◌+◌, ◌*◌, ◌<◌, ◌≤◌, arith, Bool, true, false, List, [], ◌∷◌, ◌++◌, max, refl, sym, ◌∙◌, ap, subst, inl, inr, Some}
+use Rattle.std.proofs.Common.{◌≡◌, ◌≢◌, ℕ, ◌+◌, ◌*◌, ◌<◌, ◌≤◌, arith, true, false, List, [], ◌∷◌, ◌++◌, max, refl, sym, ◌∙◌, ap, subst, inl, inr, Some}
 use Rattle.std.proofs.lemmas.List.{append_assoc}
 use Rattle.can_frame.specs.declared.identifier.Ident.{Ident}
 use Rattle.can_frame.specs.declared.step.What.{What}
@@ -7,7 +7,6 @@ use Rattle.can_frame.specs.declared.step.What.TheVariants.{App, AppQ, Vote, Vote
 use Rattle.can_frame.specs.Identifier.{identifier_number, identifier_of}
 use Rattle.can_frame.specs.Kinds.{is_anonymous, is_service}
 use Rattle.raft_model.specs.Lists.{In}
-use Rattle.raft_model.specs.Runs as raft
 use Rattle.replay_text.specs.declared.row.Row.{Row}
 use Rattle.replay_text.specs.declared.row.Row.TheVariants.{Rx}
 use Rattle.transfer_rx.specs.Acceptance.{is_for}
@@ -29,11 +28,11 @@ use Rattle.cluster_recovery.proofs.Goes.{after_both}
 use Rattle.cluster_recovery.proofs.Members.{IsUp}
 use Rattle.cluster_calm.specs.Calm.{AreCalm, IsCalmRow, IsRunning, Member as OfMember, Party, no_traffic}
 use Rattle.cluster_calm.specs.Comes.{Sends, sent_by}
-use Rattle.cluster_calm.proofs.Group.{AreWell, CalmLaws, IsOf}
+use Rattle.cluster_calm.specs.CalmBelow.{CalmGrounds}
+use Rattle.cluster_calm.proofs.Grounds.{calm_laws, choice, its_run, shown, well}
+use Rattle.cluster_calm.proofs.Group.{AreWell, IsOf}
 use Rattle.cluster_calm.proofs.Others.{some_ident}
 use Rattle.cluster_calm.proofs.Pair.{same_server}
-use Rattle.cluster_calm.proofs.Start.{places_in, well_in}
-use Rattle.calm_leader.proofs.LeadsOn.{DeliversOne}
 use Rattle.calm_leader.proofs.RowsOfOne.{stepped_up}
 use Rattle.calm_leader.proofs.Stretches.{GoesOnFrom, calm_first, harmless_both, rows_both, world_both}
 use Rattle.calm_election.proofs.MadeInCalm.{IsMadeIn, made_later}
@@ -44,16 +43,6 @@ use Rattle.cluster_spec.specs.Cluster.{AreMembers, Cluster, after_row, after_row
 use Rattle.cluster_spec.specs.Lawful.{DoNoHarm, DoesNoHarm, is_forged}
 use Rattle.cluster_spec.specs.Members.MemberStatus.{Up}
 use Rattle.cluster_spec.specs.Refinement.{transfers_of_rows}
-
--- ---- what is said below
-
-pub record HeardLaws (ids : List ℕ) : Type 0 where
-  pub calm : CalmLaws
-  pub one_transfer : DeliversOne
-  pub members : AreMembers ids
-  pub shown : (list : List Row) → DoNoHarm (cluster ids) list
-      → (choice : ℕ → Bool) × (run : raft.World) × Shows choice (transfers_of_rows (cluster ids) list []) (world_of ids list) run
-  pub same : (list : List Row) → (world_of ids list).ids ≡ ids
 
 -- In one of these rows, which is at most so long before this moment, another member of the group sends member m a
 -- transfer of this sort, of which the delivery is.
@@ -87,23 +76,19 @@ of_node what (inl (inr e)) = ap (λ (x : What). is_anonymous (kind_of x)) e
 of_node what (inr (inl e)) = ap (λ (x : What). is_anonymous (kind_of x)) e
 of_node what (inr (inr e)) = ap (λ (x : What). is_anonymous (kind_of x)) e
 
-module _ (ids : List ℕ) (laws : HeardLaws ids) (rows : List Row) (harmless : DoNoHarm (cluster ids) rows) (group : List Party) (clocks : Party → ℕ) (pace : Pace)
+module _ (below : CalmGrounds) (ids : List ℕ) (members : AreMembers ids) (rows : List Row) (harmless : DoNoHarm (cluster ids) rows) (group : List Party) (clocks : Party → ℕ) (pace : Pace)
     (start : ℕ) (whole : List Timed) (calm : IsCalmOf ids rows group clocks pace start whole) where
   abbrev pub w : Cluster
   w = world_of ids rows
 
   abbrev pub nodes : (p : ℕ) → In (OfMember p) group → (1 ≤ p) × (p ≤ 125)
-  nodes p i = laws.members.nodes p (calm.listed p i)
+  nodes p i = members.nodes p (calm.listed p i)
 
   abbrev pub there : List Timed → Cluster
   there front = after_rows (world_of ids rows) (rows_in front)
 
-  in_w : (p : ℕ) → In (OfMember p) group → In p w.ids
-  in_w p i = subst (λ (l : List ℕ). In p l) (sym (laws.same rows)) (calm.listed p i)
-
   are : AreWell group w
-  are = let chosen = laws.shown rows harmless in
-      well_in ids chosen.0 (transfers_of_rows (cluster ids) rows []) w chosen.1 chosen.2 (places_in ids rows) group in_w calm.running
+  are = well below ids members rows harmless group calm.listed calm.running
 
   -- no frame of such a transfer between two of the group waits when the calm begins
   none_waits : (n m : ℕ) → In (OfMember n) group → In (OfMember m) group → n ≢ m → (t : AllocatorState) → (w.member n).status ≡ Up t → (what : What)
@@ -157,11 +142,11 @@ module _ (ids : List ℕ) (laws : HeardLaws ids) (rows : List Row) (harmless : D
     abbrev base : ℕ
     base = (there its_halves.early).rows
 
-    goes : GoesOn laws.calm group nodes clocks pace timed.at base (there front) (timed ∷ rest)
-    goes = further laws.calm group nodes clocks pace timed.at base front (timed ∷ rest) w
-        (begins laws.calm group nodes clocks pace timed.at base start w (front ++ timed ∷ rest) are calm_cut none_waits) harm_front
-        (subst (AreCounted laws.calm group nodes clocks pace timed.at base w) (sym its_halves.split)
-        (counted_so laws.calm group nodes clocks pace timed.at base its_halves.early its_halves.late w its_halves.before (omega arith)))
+    goes : GoesOn (calm_laws below) group nodes clocks pace timed.at base (there front) (timed ∷ rest)
+    goes = further (calm_laws below) group nodes clocks pace timed.at base front (timed ∷ rest) w
+        (begins (calm_laws below) group nodes clocks pace timed.at base start w (front ++ timed ∷ rest) are calm_cut none_waits) harm_front
+        (subst (AreCounted (calm_laws below) group nodes clocks pace timed.at base w) (sym its_halves.split)
+        (counted_so (calm_laws below) group nodes clocks pace timed.at base its_halves.early its_halves.late w its_halves.before (omega arith)))
 
     pub well_there : AreWell group (there front)
     well_there = goes.well
@@ -175,7 +160,7 @@ module _ (ids : List ℕ) (laws : HeardLaws ids) (rows : List Row) (harmless : D
         ap (λ (s : AllocatorState). s.me) (same_server t is.server (sym runs ∙ is.up.status)) ∙ is.its.me
 
     in_there : (p : ℕ) → In (OfMember p) group → In p (there front).ids
-    in_there p i = subst (λ (l : List ℕ). In p l) (sym (sym (ap (λ (v : Cluster). v.ids) reached) ∙ laws.same (rows ++ rows_in front))) (calm.listed p i)
+    in_there p i = subst (λ (l : List ℕ). In p l) (sym (sym (ap (λ (v : Cluster). v.ids) reached) ∙ below.same (cluster ids) (rows ++ rows_in front))) (calm.listed p i)
 
     -- ---- a delivery
 
@@ -187,10 +172,10 @@ module _ (ids : List ℕ) (laws : HeardLaws ids) (rows : List Row) (harmless : D
       me = me_there m in_m t runs
 
       its : IsDelivered (setting_for t.me) t.sessions (arrival_at (frame_at (there front).frames k) (max t.now ms)) d
-      its = laws.calm.frame.delivered (setting_for t.me) t.sessions (arrival_at (frame_at (there front).frames k) (max t.now ms)) d gives
+      its = below.frame.delivered (setting_for t.me) t.sessions (arrival_at (frame_at (there front).frames k) (max t.now ms)) d gives
 
       wants : IsWanted accepted_rows t.me (frame_at (there front).frames k).id d.ident
-      wants = is_wanted laws.calm.frame t.me t.sessions (arrival_at (frame_at (there front).frames k) (max t.now ms)) d gives
+      wants = is_wanted below.frame t.me t.sessions (arrival_at (frame_at (there front).frames k) (max t.now ms)) d gives
 
       for_me : is_for m d.ident ≡ true
       for_me = subst (λ (n : ℕ). is_for n d.ident ≡ true) me wants.for_me
@@ -201,8 +186,8 @@ module _ (ids : List ℕ) (laws : HeardLaws ids) (rows : List Row) (harmless : D
       known : is_anonymous d.ident.kind ≡ false
       known = sym (ap is_anonymous kind) ∙ of_node what is_raft
 
-      coming : (since : ℕ) × (timed.at ≤ since + pace.delay) × FliesSo laws.calm group nodes clocks pace timed.at base since (frame_at (there front).frames k)
-      coming = next_comes (FliesSo laws.calm group nodes clocks pace timed.at base) (there front).frames k (goes.traffic.to (OfMember m)) timed.at pace.delay
+      coming : (since : ℕ) × (timed.at ≤ since + pace.delay) × FliesSo (calm_laws below) group nodes clocks pace timed.at base since (frame_at (there front).frames k)
+      coming = next_comes (FliesSo (calm_laws below) group nodes clocks pace timed.at base) (there front).frames k (goes.traffic.to (OfMember m)) timed.at pace.delay
           (subst (λ (row : Row). IsCalmRow group clocks pace goes.traffic (there front) timed.at row) comes goes.calm.1).2
           (goes.calm.0.hears (OfMember m) in_m) (goes.flies (OfMember m))
 
@@ -211,7 +196,7 @@ module _ (ids : List ℕ) (laws : HeardLaws ids) (rows : List Row) (harmless : D
         same : d.ident ≡ ident_of p own.what own.to
         same = let node = nodes p in_p in
             some_ident d.ident (ident_of p own.what own.to)
-            (sym wants.read ∙ (ap identifier_of own.id ∙ laws.calm.frame.ident_read (ident_of p own.what own.to) (ident_ok p own.what own.to node.0 node.1 own.dest)))
+            (sym wants.read ∙ (ap identifier_of own.id ∙ below.frame.ident_read (ident_of p own.what own.to) (ident_ok p own.what own.to node.0 node.1 own.dest)))
 
         source_is : d.ident.source ≡ p
         source_is = ap (λ (j : Ident). j.source) same
@@ -239,11 +224,14 @@ module _ (ids : List ℕ) (laws : HeardLaws ids) (rows : List Row) (harmless : D
         Made = transfers_of_rows (cluster ids) (rows ++ rows_in front) []
 
         members_there : AreMembers (there front).ids
-        members_there = subst AreMembers (sym (sym (ap (λ (v : Cluster). v.ids) reached) ∙ laws.same (rows ++ rows_in front))) laws.members
+        members_there = subst AreMembers (sym (sym (ap (λ (v : Cluster). v.ids) reached) ∙ below.same (cluster ids) (rows ++ rows_in front))) members
 
-        one : IsOneTransfer Made (laws.shown (rows ++ rows_in front) harm_there).1.bag m d
-        one = let shown = laws.shown (rows ++ rows_in front) harm_there in
-            laws.one_transfer shown.0 Made (there front) shown.1 members_there (subst (λ (v : Cluster). Shows shown.0 Made v shown.1) reached shown.2) m k ms d
+        one : IsOneTransfer Made (its_run below ids members (rows ++ rows_in front) harm_there).bag m d
+        one =
+            let its_choice = choice below ids members (rows ++ rows_in front) harm_there in
+            let run = its_run below ids members (rows ++ rows_in front) harm_there in
+            below.one_transfer its_choice Made (there front) run members_there
+            (subst (λ (v : Cluster). Shows its_choice Made v run) reached (shown below ids members (rows ++ rows_in front) harm_there).shows) m k ms d
             (subst (DoesNoHarm (there front)) comes harm_row) delivered
 
         abbrev x : SentTransfer
@@ -272,7 +260,7 @@ module _ (ids : List ℕ) (laws : HeardLaws ids) (rows : List Row) (harmless : D
 
         made_then : base < (frame_at (there front).frames k).mark.step → IsMadeIn x (there its_halves.early) its_halves.late
         made_then late = subst (λ (v : Cluster). IsMadeIn x v its_halves.late) reached_early
-            (made_later (cluster ids) (rows ++ rows_in its_halves.early) its_halves.late x (laws.shown (rows ++ rows_in its_halves.early) harm_early).2.past
+            (made_later (cluster ids) (rows ++ rows_in its_halves.early) its_halves.late x (shown below ids members (rows ++ rows_in its_halves.early) harm_early).shows.past
             (subst (λ (v : Cluster). v.rows < x.step) (sym reached_early) (late_made late)) made_so)
 
         -- the transfer that is delivered

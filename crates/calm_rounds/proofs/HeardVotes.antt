@@ -17,24 +17,25 @@ use Rattle.cluster_calm.specs.Comes.{sent_by}
 use Rattle.calm_election.specs.Votes.{VoteReadsAsSaid, VoteRequestsReadAsSaid}
 use Rattle.calm_election.specs.Waits.{GivesVote}
 use Rattle.calm_election.proofs.VotesSaid.{SaysStore, candidates_ask, says_its_store}
+use Rattle.cluster_calm.specs.CalmBelow.{CalmGrounds}
 use Rattle.calm_rounds.specs.Running.{IsCalmOf}
 use Rattle.calm_rounds.specs.Sent.{HasAskedFor}
-use Rattle.calm_rounds.proofs.HeardMade.{HeardLaws, WasSent, me_there, reads_so, up_then, was_sent}
-use Rattle.cluster_spec.specs.Cluster.{Cluster, after_rows, arrival_at, cluster, frame_at, world_of}
+use Rattle.calm_rounds.proofs.HeardMade.{WasSent, me_there, reads_so, up_then, was_sent}
+use Rattle.cluster_spec.specs.Cluster.{AreMembers, Cluster, after_rows, arrival_at, cluster, frame_at, world_of}
 use Rattle.cluster_spec.specs.Lawful.{DoNoHarm}
 
 one_request : (a b : VoteRequest) → ◌≡◌ {A = Option VoteRequest} (Some a) (Some b) → a ≡ b
 one_request a b e = cc e
 
-module _ (ids : List ℕ) (laws : HeardLaws ids) (reads_said : (list : List Row) → DoNoHarm (cluster ids) list → VoteRequestsReadAsSaid ids list) (rows : List Row)
+module _ (below : CalmGrounds) (ids : List ℕ) (members : AreMembers ids) (reads_said : (list : List Row) → DoNoHarm (cluster ids) list → VoteRequestsReadAsSaid ids list) (rows : List Row)
     (harmless : DoNoHarm (cluster ids) rows) (group : List Party) (clocks : Party → ℕ) (pace : Pace) (start m : ℕ) (front rest : List Timed) (timed : Timed)
     (calm : IsCalmOf ids rows group clocks pace start (front ++ timed ∷ rest)) (in_m : In (OfMember m) group)
     (gives : GivesVote m (after_rows (world_of ids rows) (rows_in front)) timed.row) where
   me : gives.server.me ≡ m
-  me = me_there ids laws rows harmless group clocks pace start (front ++ timed ∷ rest) calm front rest timed refl m in_m gives.server gives.runs
+  me = me_there below ids members rows harmless group clocks pace start (front ++ timed ∷ rest) calm front rest timed refl m in_m gives.server gives.runs
 
   its : WasSent group (2 * pace.delay) m VoteQ gives.delivery timed.at (world_of ids rows) front
-  its = was_sent ids laws rows harmless group clocks pace start (front ++ timed ∷ rest) calm front rest timed refl m in_m gives.k gives.ms gives.comes gives.server
+  its = was_sent below ids members rows harmless group clocks pace start (front ++ timed ∷ rest) calm front rest timed refl m in_m gives.k gives.ms gives.comes gives.server
       gives.runs gives.delivery
       (subst (λ (n : ℕ). answer (setting_for n) gives.server.sessions
       (arrival_at (frame_at (after_rows (world_of ids rows) (rows_in front)).frames gives.k) (max gives.server.now gives.ms)) ≡ Gives gives.delivery) (sym me) gives.gives)
@@ -51,7 +52,7 @@ module _ (ids : List ℕ) (laws : HeardLaws ids) (reads_said : (list : List Row)
 
   -- the request reads as it says
   said : VoteReadsAsSaid (sent_by its.n before its.offer)
-  said = reads_so ids laws rows harmless group clocks pace start (front ++ timed ∷ rest) calm front rest timed refl (2 * pace.delay) m VoteQ gives.delivery timed.at its
+  said = reads_so below ids members rows harmless group clocks pace start (front ++ timed ∷ rest) calm front rest timed refl (2 * pace.delay) m VoteQ gives.delivery timed.at its
       VoteReadsAsSaid reads_said
 
   same_request : said.request ≡ gives.request
@@ -86,7 +87,7 @@ module _ (ids : List ℕ) (laws : HeardLaws ids) (reads_said : (list : List Row)
         to = its.to;
       };
       server = after;
-      runs = (up_then ids laws rows harmless group clocks pace start (front ++ timed ∷ rest) calm front rest timed refl (2 * pace.delay) m VoteQ gives.delivery timed.at its).status;
+      runs = (up_then below ids members rows harmless group clocks pace start (front ++ timed ∷ rest) calm front rest timed refl (2 * pace.delay) m VoteQ gives.delivery timed.at its).status;
       stands = candidates_ask its.sends.server (before.rows + 1) its.sends.event its.offer its.sends.offered its.what_is;
       its_term = sym (ap (λ (r : VoteRequest). r.term) same_request) ∙ says.term;
       its_last_term = sym (ap (λ (r : VoteRequest). r.last_term) same_request) ∙ says.last_term_is;

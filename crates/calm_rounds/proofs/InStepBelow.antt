@@ -1,39 +1,26 @@
 -- The laws below are what the rounds of a calm stand on.
-use Rattle.std.proofs.Common.{◌≡◌, ℕ, ◌≤◌, arith, true, Bool, List, [], ◌∷◌, ◌++◌, refl, subst, inl, inr}
-use Rattle.raft_model.specs.Decisions.{grants}
-use Rattle.raft_model.specs.Lists.{In}
-use Rattle.raft_model.specs.Messages.{Request}
-use Rattle.raft_model.specs.Moves.Elections.{IsGranted}
-use Rattle.raft_model.specs.Runs as raft
-use Rattle.raft_model.specs.Runs.{initial_world}
+use Rattle.std.proofs.Common.{◌≡◌, ℕ, ◌≤◌, arith, List, [], ◌∷◌, ◌++◌, refl, subst, inl, inr}
 use Rattle.raft_model.specs.Server.{Store}
 use Rattle.replay_text.specs.declared.row.Row.{Row}
 use Rattle.raft_core.specs.Times.{Times}
-use Rattle.alloc_spec.specs.AllocatorState.{AllocatorState, knows_all, members_of, opening}
+use Rattle.alloc_spec.specs.AllocatorState.{AllocatorState, opening}
 use Rattle.alloc_spec.specs.Rules.{Rules, opening_by, times_with}
 use Rattle.alloc_spec.specs.Step.{Event, step}
 use Rattle.alloc_spec.specs.Step.Event.{Rx, Tick}
-use Rattle.cluster_agreement.specs.Continues.{Continues}
-use Rattle.cluster_progress.specs.InTime.{FramesLeaveFollowers}
-use Rattle.cluster_calm.specs.Calls.{ListsStay}
 use Rattle.cluster_calm.proofs.Counting.{now_after}
 use Rattle.cluster_calm.proofs.EachServer.{in_each}
 use Rattle.calm_leader.proofs.Stretches.{harmless_both}
-use Rattle.calm_election.specs.Terms.{TermsDoNotFall, TermsStay, VotesStayFree}
-use Rattle.calm_election.specs.Votes.{StandingAsks, VotesComeBack}
-use Rattle.calm_election.specs.Waits.{WaitsBeginThen, WaitsHaveReasons, WhoWaitsStands}
+use Rattle.cluster_calm.proofs.Grounds.{its_node}
 use Rattle.calm_election.proofs.WaitsFrames.{frame_leaves}
-use Rattle.calm_election.proofs.WaitsRows.{server_facts}
 use Rattle.calm_election.proofs.WaitsTicks.{tick_leaves}
-use Rattle.calm_election.proofs.WinsGrounds.{Always, rows_join}
+use Rattle.calm_election.proofs.WinsGrounds.{rows_join}
+use Rattle.calm_rounds.specs.RoundsBelow.{RoundGrounds}
 use Rattle.calm_rounds.specs.Rounds.{WhoIsFurthestWins, WhoWinsAtTheTop}
 use Rattle.calm_rounds.specs.Sent.{WhoAsksStands, WhoHearsWasCalled, WhoVotesWasAsked, WhoWinsHasAsked}
 use Rattle.calm_rounds.proofs.InStepGiven.{Given, RowFacts}
-use Rattle.cluster_spec.specs.Choices.{AgreesWithDisk}
-use Rattle.cluster_spec.specs.Cluster.{AreMembers, Cluster, after_rows, cluster, world_of}
+use Rattle.cluster_spec.specs.Cluster.{AreMembers, cluster, world_of}
 use Rattle.cluster_spec.specs.Lawful.{DoNoHarm}
 use Rattle.cluster_spec.specs.Members.MemberStatus.{Up}
-use Rattle.cluster_spec.specs.Refinement.{events, transfers_of_rows}
 
 -- ---- a wait began in the past
 
@@ -60,27 +47,6 @@ past_at_first n rules store moment word =
 pub since_past : (ids : List ℕ) (list : List Row) (p : ℕ) (t : AllocatorState) → ((world_of ids list).member p).status ≡ Up t → t.times.since ≤ t.now
 since_past ids list p t e = in_each IsPast past_at_first past_on (λ u h. h) ids list p t e
 
--- ---- the laws below
-
-pub record Below : Type 0 where
-  pub keeps_size : (t : AllocatorState) (number : ℕ) (event : Event) → (step t number event).step_state.allocator.size ≡ t.size
-  pub complete : (t : AllocatorState) (number : ℕ) (event : Event) → knows_all t ≡ true → members_of (step t number event).step_state.allocator ≡ members_of t
-  pub frames_leave : FramesLeaveFollowers
-  pub granted : (store : Store) (request : Request) → IsGranted store request (grants store request)
-  pub lists_stay : ListsStay
-  pub chosen : (ids : List ℕ) (rows : List Row) → AreMembers ids → DoNoHarm (cluster ids) rows → (choice : ℕ → Bool) × AgreesWithDisk choice (cluster ids) rows
-  pub shown : (choice : ℕ → Bool) (ids : List ℕ) (rows : List Row) → AreMembers ids → DoNoHarm (cluster ids) rows → AgreesWithDisk choice (cluster ids) rows
-      → Continues choice (transfers_of_rows (cluster ids) rows []) (world_of ids rows) (initial_world ids) (events choice (cluster ids) rows)
-  pub same : (w : Cluster) (rows : List Row) → (after_rows w rows).ids ≡ w.ids
-  pub asked : Always StandingAsks
-  pub begin : Always WaitsBeginThen
-  pub reasons : Always WaitsHaveReasons
-  pub in_time : Always WhoWaitsStands
-  pub terms : Always TermsStay
-  pub rise : (ids : List ℕ) (rows : List Row) → TermsDoNotFall ids rows
-  pub free : Always VotesStayFree
-  pub come_back : Always VotesComeBack
-
 -- the laws of this crate
 pub record RoundLaws (ids : List ℕ) (rows : List Row) : Type 0 where
   pub asks : WhoAsksStands ids rows
@@ -90,17 +56,13 @@ pub record RoundLaws (ids : List ℕ) (rows : List Row) : Type 0 where
   pub furthest_wins : WhoIsFurthestWins ids rows
   pub top_wins : WhoWinsAtTheTop ids rows
 
-module _ (below : Below) (ids : List ℕ) (members : AreMembers ids) where
+module _ (below : RoundGrounds) (ids : List ℕ) (members : AreMembers ids) where
   facts_in : (list : List Row) → DoNoHarm (cluster ids) list → RowFacts ids (world_of ids list)
   facts_in list harmless =
-      let chosen = below.chosen ids list members harmless in
-      let shows = (below.shown chosen.0 ids list members harmless chosen.1).shows in
-      let own = λ (p : ℕ) (t : AllocatorState) (i : In p ids) (up : ((world_of ids list).member p).status ≡ Up t). server_facts ids chosen.0
-      (transfers_of_rows (cluster ids) list []) (world_of ids list) (raft.run (initial_world ids) (events chosen.0 (cluster ids) list)) shows
-      (below.same (cluster ids) list) p i t up in
+      let own = its_node below.wins.election.calm ids members list harmless in
       record {
-        asked = below.asked ids list members harmless;
-        begin = below.begin ids list members harmless;
+        asked = below.wins.asked ids list members harmless;
+        begin = below.wins.begin ids list members harmless;
         reasons = below.reasons ids list members harmless;
         me = λ p t i up. (own p t i up).0;
         sizes = λ p t i up. (own p t i up).1;
@@ -111,15 +73,15 @@ module _ (below : Below) (ids : List ℕ) (members : AreMembers ids) where
   pub given_of : (rows : List Row) → DoNoHarm (cluster ids) rows → RoundLaws ids rows → Given ids rows
   given_of rows harmless round = record {
     row_facts = λ more fine. subst (RowFacts ids) (rows_join (cluster ids) rows more) (facts_in (rows ++ more) (harmless_both (cluster ids) rows more harmless fine));
-    keeps_size = below.keeps_size;
-    complete = below.complete;
-    frames_leave = below.frames_leave;
-    granted = below.granted;
-    terms = below.terms ids rows members harmless;
-    rise = below.rise ids rows;
-    free = below.free ids rows members harmless;
+    keeps_size = below.wins.election.calm.more.size;
+    complete = below.wins.election.calm.complete;
+    frames_leave = below.wins.election.leave;
+    granted = below.wins.granted;
+    terms = below.wins.terms ids rows members harmless;
+    rise = below.wins.rise ids rows;
+    free = below.wins.free ids rows members harmless;
     come_back = below.come_back ids rows members harmless;
-    lists_stay = below.lists_stay;
+    lists_stay = below.wins.stay;
     asks = round.asks;
     wins_asked = round.wins_asked;
     votes_asked = round.votes_asked;

@@ -1,33 +1,29 @@
 -- What the laws of who leads the group stand on; and that no two members lead in one term.
-use Rattle.std.proofs.Common.{◌≡◌, ℕ, Bool, List, [], ◌++◌, sym, ◌∙◌, ap, subst}
+use Rattle.std.proofs.Common.{◌≡◌, ℕ, Bool, List, ◌++◌, sym, ◌∙◌, ap, subst}
 use Rattle.raft_model.specs.Invariants.{Invariants}
 use Rattle.raft_model.specs.Lists.{In}
 use Rattle.raft_model.specs.Runs as raft
-use Rattle.raft_model.specs.Runs.{InEveryRun, initial_world, run}
 use Rattle.raft_model.specs.Server.{RaftServer}
 use Rattle.replay_text.specs.declared.row.Row.{Row}
 use Rattle.alloc_spec.specs.AllocatorState.{AllocatorState}
-use Rattle.alloc_spec.specs.Step.{Event, step}
 use Rattle.alloc_spec.specs.Transfers.{SentTransfer}
-use Rattle.cluster_agreement.specs.Continues.{Continues}
 use Rattle.cluster_agreement.specs.LawsBelow.{CodecLaws}
 use Rattle.cluster_agreement.specs.Shows.{Shows}
 use Rattle.calm_election.specs.Terms.{TermsDoNotFall, TermsStay}
 use Rattle.calm_election.specs.Waits.{WaitsBeginThen}
-use Rattle.calm_election.proofs.WinsGrounds.{Always}
+use Rattle.calm_rounds.specs.RoundsBelow.{RoundGrounds}
 use Rattle.calm_leader.specs.EntriesBelow.{EntryLaws}
 use Rattle.calm_leader.specs.LeadsOn.{LeadsIn}
 use Rattle.calm_leader.specs.NoElection.{NoElectionComes}
 use Rattle.calm_leader.proofs.EntriesJudged.{run_up}
 use Rattle.calm_leader.proofs.NextCall.{CallLaws}
 use Rattle.calm_leader.proofs.Stretches.{harmless_both}
-use Rattle.cluster_calm.specs.Calls.{CallsAreHeard, CallsReadAsSaid, CalmLeavesFollowers, ListsStay}
-use Rattle.cluster_calm.specs.CallsInTime.{LeadersCallInTime}
-use Rattle.cluster_spec.specs.Choices.{AgreesWithDisk}
-use Rattle.cluster_spec.specs.Cluster.{AreMembers, Cluster, after_rows, cluster, world_of}
+use Rattle.cluster_calm.specs.Calls.{CallsAreHeard}
+use Rattle.cluster_calm.specs.CalmBelow.{CalmGrounds}
+use Rattle.cluster_calm.proofs.Grounds.{choice, invariants, its_run, made, shown}
+use Rattle.cluster_spec.specs.Cluster.{AreMembers, Cluster, cluster, world_of}
 use Rattle.cluster_spec.specs.Lawful.{DoNoHarm}
 use Rattle.cluster_spec.specs.Members.MemberStatus.{Up}
-use Rattle.cluster_spec.specs.Refinement.{events, transfers_of_rows}
 
 -- no two members lead in one term
 abbrev pub OneLeads : List ℕ → Cluster → Type 0
@@ -58,42 +54,21 @@ pub record LeadLaws (ids : List ℕ) (rows : List Row) : Type 0 where
   pub comes : NoElectionComes ids rows
   pub entries : EntryLaws ids rows
 
--- the laws below, of all rows that do no harm
-pub record Below : Type 0 where
-  pub me : (t : AllocatorState) (number : ℕ) (event : Event) → (step t number event).step_state.allocator.me ≡ t.me
-  pub stay : ListsStay
-  pub call : LeadersCallInTime
-  pub follow : CalmLeavesFollowers
-  pub read : Always CallsReadAsSaid
-  pub hear : Always CallsAreHeard
-  pub terms : Always TermsStay
-  pub fall : (ids : List ℕ) (rows : List Row) → TermsDoNotFall ids rows
-  pub begin : Always WaitsBeginThen
-  pub comes : Always NoElectionComes
-  pub entries : Always EntryLaws
-  pub codec : CodecLaws
-  pub invariants : InEveryRun Invariants
-  pub chosen : (ids : List ℕ) (rows : List Row) → AreMembers ids → DoNoHarm (cluster ids) rows → (choice : ℕ → Bool) × AgreesWithDisk choice (cluster ids) rows
-  pub shown : (choice : ℕ → Bool) (ids : List ℕ) (rows : List Row) → AreMembers ids → DoNoHarm (cluster ids) rows → AgreesWithDisk choice (cluster ids) rows
-      → Continues choice (transfers_of_rows (cluster ids) rows []) (world_of ids rows) (initial_world ids) (events choice (cluster ids) rows)
-  pub same : (w : Cluster) (rows : List Row) → (after_rows w rows).ids ≡ w.ids
+module _ (below : RoundGrounds) (ids : List ℕ) (members : AreMembers ids) where
+  abbrev calm : CalmGrounds
+  calm = below.wins.election.calm
 
-module _ (below : Below) (ids : List ℕ) (members : AreMembers ids) where
   one_at_most : (list : List Row) → DoNoHarm (cluster ids) list → OneLeads ids (world_of ids list)
-  one_at_most list harmless =
-      let chosen = below.chosen ids list members harmless in
-      let all = events chosen.0 (cluster ids) list in
-      let shown = below.shown chosen.0 ids list members harmless chosen.1 in
-      subst (λ (l : List ℕ). OneLeads l (world_of ids list)) (below.same (cluster ids) list)
-      (one_leads chosen.0 (transfers_of_rows (cluster ids) list []) (world_of ids list) (run (initial_world ids) all) shown.shows below.codec
-      (below.invariants ids all shown.lawful))
+  one_at_most list harmless = subst (λ (l : List ℕ). OneLeads l (world_of ids list)) (calm.same (cluster ids) list)
+      (one_leads (choice calm ids members list harmless) (made calm ids members list harmless) (world_of ids list) (its_run calm ids members list harmless)
+      (shown calm ids members list harmless).shows calm.codec (invariants calm ids members list harmless))
 
   call_laws : (list : List Row) → DoNoHarm (cluster ids) list → CallLaws ids list
   call_laws list harmless = record {
-    me = below.me;
-    stay = below.stay;
+    me = calm.in_step.me;
+    stay = below.wins.stay;
     call = below.call;
-    read = λ more still. below.read ids (list ++ more) members (harmless_both (cluster ids) list more harmless still);
+    read = λ more still. below.calls_read ids (list ++ more) members (harmless_both (cluster ids) list more harmless still);
     follow = below.follow;
   }
 
@@ -105,9 +80,9 @@ module _ (below : Below) (ids : List ℕ) (members : AreMembers ids) where
         calls = call_laws rows harmless;
         calls_then = λ more still. call_laws (rows ++ more) (both more still);
         hear = below.hear ids rows members harmless;
-        terms = below.terms ids rows members harmless;
-        fall = below.fall ids rows;
-        begin = λ more still. below.begin ids (rows ++ more) members (both more still);
+        terms = below.wins.terms ids rows members harmless;
+        fall = below.wins.rise ids rows;
+        begin = λ more still. below.wins.begin ids (rows ++ more) members (both more still);
         alone = λ more still. one_at_most (rows ++ more) (both more still);
         node = (below.entries ids rows members harmless).node;
         comes = below.comes ids rows members harmless;

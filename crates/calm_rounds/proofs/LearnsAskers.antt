@@ -27,11 +27,13 @@ use Rattle.calm_rounds.proofs.LearnsChain.{AllTurns}
 use Rattle.calm_leader.proofs.Exchange.{AllGiven, Exchange}
 use Rattle.calm_leader.proofs.ExchangeStart.{all_given}
 use Rattle.calm_election.proofs.VotesAsked.{fresh}
-use Rattle.calm_rounds.proofs.LearnsGrounds.{VoteGrounds, from_there, up_to_end_of}
+use Rattle.cluster_calm.specs.CalmBelow.{CalmGrounds}
+use Rattle.cluster_calm.proofs.Grounds.{calm_laws, is_server, well}
+use Rattle.calm_rounds.proofs.LearnsGrounds.{Grounds, from_there, up_to_end_of}
 use Rattle.calm_rounds.proofs.LearnsVotes.{AllSteps, Asked, LeadsNotBy, Waiting, all_turns, asking, steps_on, twice_quick, waits_on}
 use Rattle.cluster_calm.specs.Calm.{AreCalm, Member as OfMember, Party, no_traffic}
 use Rattle.cluster_calm.specs.Comes.{Sends, sent_by}
-use Rattle.cluster_calm.proofs.Group.{AreWell, IsWell}
+use Rattle.cluster_calm.proofs.Group.{AreWell, CalmLaws, IsWell}
 use Rattle.cluster_calm.proofs.Pair.{same_server}
 use Rattle.cluster_calm.proofs.Pending.{Made}
 use Rattle.cluster_recovery.specs.Calm.{Pace, Timed, rows_in}
@@ -48,9 +50,15 @@ leads_or_not Follower = inr (λ e. cc e)
 leads_or_not Candidate = inr (λ e. cc e)
 leads_or_not Leader = inl refl
 
-module _ (ids : List ℕ) (rows : List Row) (g : VoteGrounds ids rows) (group : List Party) (clocks : Party → ℕ) (pace : Pace) (start n m : ℕ)
+module _ (ids : List ℕ) (rows : List Row) (g : Grounds ids rows) (group : List Party) (clocks : Party → ℕ) (pace : Pace) (start n m : ℕ)
     (front early late : List Timed) (timed next : Timed) (calm : IsCalmOf ids rows group clocks pace start (front ++ timed ∷ (early ++ next ∷ late)))
     (in_n : In (OfMember n) group) (in_m : In (OfMember m) group) (apart : n ≢ m) where
+  abbrev grounds : CalmGrounds
+  grounds = g.below.wins.election.calm
+
+  abbrev laws : CalmLaws
+  laws = calm_laws grounds
+
   abbrev w : Cluster
   w = world_of ids rows
 
@@ -66,16 +74,16 @@ module _ (ids : List ℕ) (rows : List Row) (g : VoteGrounds ids rows) (group : 
   whole = front ++ timed ∷ (early ++ next ∷ late)
 
   calm_upto : AreCalm group clocks pace (no_traffic start) w (front ++ timed ∷ early)
-  calm_upto = callers.calm_upto ids rows g.calling group clocks pace start n m front early late timed next calm in_n in_m apart
+  calm_upto = callers.calm_upto ids rows g group clocks pace start n m front early late timed next calm in_n in_m apart
 
   can : CanAsk n m w whole
   can = calm.ask n m in_n in_m apart
 
   nodes : (p : ℕ) → In (OfMember p) group → (1 ≤ p) × (p ≤ 125)
-  nodes p i = g.calling.nodes p (calm.listed p i)
+  nodes p i = g.members.nodes p (calm.listed p i)
 
   are : AreWell group w
-  are = g.calling.well group calm.listed calm.running
+  are = well grounds ids g.members rows g.harmless group calm.listed calm.running
 
   quiet : (p : ℕ) → In (OfMember p) group → IsQuiet (w.member p).disk
   quiet p i = let r = calm.running p i in record { faults = r.faults; calls = r.disk }
@@ -83,33 +91,34 @@ module _ (ids : List ℕ) (rows : List Row) (g : VoteGrounds ids rows) (group : 
   -- ---- who asks
 
   abbrev both : Exchange
-  both = asking g.calling.laws g.calling.apart_offers g.calling.stay g.votes group clocks pace nodes n m in_n in_m apart calm.quick w whole can
+  both = asking laws grounds.apart grounds.stay g.below.votes_answered group clocks pace nodes n m in_n in_m apart calm.quick w whole can
 
   abbrev IsOpen : Made → AllocatorState → Type 0
-  IsOpen = Asked g.calling.laws g.calling.apart_offers g.calling.stay g.votes group clocks pace nodes n m in_n in_m apart calm.quick w whole can
+  IsOpen = Asked laws grounds.apart grounds.stay g.below.votes_answered group clocks pace nodes n m in_n in_m apart calm.quick w whole can
 
   abbrev IsWaiting : Made → AllocatorState → Type 0
-  IsWaiting = Waiting g.calling.laws g.calling.apart_offers g.calling.stay g.votes group clocks pace nodes n m in_n in_m apart calm.quick w whole can
+  IsWaiting = Waiting laws grounds.apart grounds.stay g.below.votes_answered group clocks pace nodes n m in_n in_m apart calm.quick w whole can
 
   abbrev Steps : Cluster → List Timed → Type 0
-  Steps = AllSteps g.calling.laws g.calling.apart_offers g.calling.stay g.votes group clocks pace nodes n m in_n in_m apart calm.quick w whole can
+  Steps = AllSteps laws grounds.apart grounds.stay g.below.votes_answered group clocks pace nodes n m in_n in_m apart calm.quick w whole can
 
   turns : AllTurns both IsOpen w whole × Steps w whole
-  turns = all_turns g.calling.laws g.calling.apart_offers g.calling.stay g.votes group clocks pace nodes n m in_n in_m apart calm.quick w whole can whole (no_traffic start) w
+  turns = all_turns laws grounds.apart grounds.stay g.below.votes_answered group clocks pace nodes n m in_n in_m apart calm.quick w whole can whole (no_traffic start) w
       calm.calm are calm.harmless can.asks_it (calm.clock n in_n)
 
   given : AllGiven both w whole
-  given = all_given both ids (λ done h row offer. g.requests_read done h n row offer) (λ done h row offer. g.votes_read done h m row offer) g.calling.grows g.calling.no_harm
-      whole rows (no_traffic start) w refl g.calling.harmless are calm.calm calm.harmless can.memory can.its_memory can.place
+  given = all_given both ids (λ done h row offer. g.below.requests_read ids done g.members h n row offer)
+      (λ done h row offer. g.below.wins.answers_read ids done g.members h m row offer) grounds.grows grounds.no_harm whole rows (no_traffic start) w refl g.harmless are calm.calm calm.harmless can.memory can.its_memory can.place
 
   its_along : Along both IsOpen IsWaiting calm.quick w whole
   its_along = at_first both IsOpen IsWaiting calm.quick start w whole
-      (fresh g.calling.laws g.calling.apart_offers g.calling.stay g.votes VoteAnswersAsSaid group clocks pace nodes n m in_n in_m apart (twice_quick pace.delay calm.quick)
-      w whole can start (g.calling.is n (calm.listed n in_n)) (g.calling.is m (calm.listed m in_m)) (quiet n in_n) (quiet m in_m) calm.calm are given)
+      (fresh laws grounds.apart grounds.stay g.below.votes_answered VoteAnswersAsSaid group clocks pace nodes n m in_n in_m apart (twice_quick pace.delay calm.quick)
+      w whole can start (λ t. is_server grounds ids g.members rows g.harmless n t (calm.listed n in_n))
+      (λ t. is_server grounds ids g.members rows g.harmless m t (calm.listed m in_m)) (quiet n in_n) (quiet m in_m) calm.calm are given)
       turns.0
 
   steps_here : Steps there (timed ∷ (early ++ next ∷ late))
-  steps_here = steps_on g.calling.laws g.calling.apart_offers g.calling.stay g.votes group clocks pace nodes n m in_n in_m apart calm.quick w whole can
+  steps_here = steps_on laws grounds.apart grounds.stay g.below.votes_answered group clocks pace nodes n m in_n in_m apart calm.quick w whole can
       front (timed ∷ (early ++ next ∷ late)) w turns.1
 
   -- ---- it leads by then, or not
@@ -158,7 +167,7 @@ module _ (ids : List ℕ) (rows : List Row) (g : VoteGrounds ids rows) (group : 
 
     back : RequestComes both IsOpen IsWaiting calm.quick x then_w early
     back = comes_back both IsOpen IsWaiting calm.quick front early late timed next w its_along offer sends what to (λ u up. steps_here.0.waits offer sends what to u up)
-        (waits_on g.calling.laws g.calling.apart_offers g.calling.stay g.votes group clocks pace nodes n m in_n in_m apart calm.quick w whole can x early (next ∷ late) then_w
+        (waits_on laws grounds.apart grounds.stay g.below.votes_answered group clocks pace nodes n m in_n in_m apart calm.quick w whole can x early (next ∷ late) then_w
         steps_here.1 (stands_not group n in_n early then_w nobody) leads_not) long
 
     -- ---- the answer
@@ -194,7 +203,7 @@ module _ (ids : List ℕ) (rows : List Row) (g : VoteGrounds ids rows) (group : 
     soon = let a = reply.moment in let b = reply.soon in let c = calm.quick in omega (arith, a, b, c)
 
     takes : TakesVote (answer_of y.step m reply.opened.0 told.answer.term told.answer.success) before after
-    takes = g.taken n (timed.at + clocks (OfMember n)) y reply.opened.0 (record { term = told.answer.term; granted = told.answer.success }) taking reply.timed.row
+    takes = g.below.wins.taken n (timed.at + clocks (OfMember n)) y reply.opened.0 (record { term = told.answer.term; granted = told.answer.success }) taking reply.timed.row
         reply.delivers reply.me back.answered.what told.read waits soon
 
     learned : told.answer.term ≤ after.raft_server.store.term
@@ -206,12 +215,12 @@ module _ (ids : List ℕ) (rows : List Row) (g : VoteGrounds ids rows) (group : 
     module _ (other server : AllocatorState) (up : (there.member m).status ≡ Up other) (up_then : ((after_rows then_w (rows_in early)).member n).status ≡ Up server) where
       -- who answers is in no lower term than it was
       its_term : other.raft_server.store.term ≤ back.answered.server.raft_server.store.term
-      its_term = from_there ids rows g.calling.rise group clocks pace start calm.running front early timed calm_upto m in_m back.front (back.timed ∷ back.rest) back.split
+      its_term = from_there ids rows (g.below.wins.rise ids rows) group clocks pace start calm.running front early timed calm_upto m in_m back.front (back.timed ∷ back.rest) back.split
           other back.answered.server up back.answered.runs
 
       -- who takes the answer is in no lower term later
       own_term : after.raft_server.store.term ≤ server.raft_server.store.term
-      own_term = up_to_end_of ids rows g.calling.rise group clocks pace start calm.running front early timed calm_upto n in_n back.front reply.front reply.rest back.timed reply.timed
+      own_term = up_to_end_of ids rows (g.below.wins.rise ids rows) group clocks pace start calm.running front early timed calm_upto n in_n back.front reply.front reply.rest back.timed reply.timed
           (back.split ∙ ap (λ (l : List Timed). back.front ++ back.timed ∷ l) reply.split) after server reply.runs_then up_then
 
       asker_learns : other.raft_server.store.term ≤ server.raft_server.store.term

@@ -19,13 +19,15 @@ use Rattle.calm_rounds.proofs.LearnsCalls.{Called, all_turns}
 use Rattle.calm_rounds.proofs.LearnsChain.{AllTurns}
 use Rattle.calm_leader.proofs.Exchange.{AllGiven, Exchange}
 use Rattle.calm_leader.proofs.ExchangeStart.{all_given}
+use Rattle.cluster_calm.specs.CalmBelow.{CalmGrounds}
+use Rattle.cluster_calm.proofs.Grounds.{calm_laws, is_server, well}
 use Rattle.calm_rounds.proofs.LearnsGrounds.{Grounds, from_there, up_to_end_of}
 use Rattle.calm_rounds.proofs.LearnsTakes.{WaitsForAppend, learns}
 use Rattle.cluster_agreement.proofs.Concatenations.{first_harmless}
 use Rattle.cluster_calm.specs.Calm.{AreCalm, Member as OfMember, Party, no_traffic}
 use Rattle.cluster_calm.specs.CallsInTime.{OffersCall}
 use Rattle.cluster_calm.specs.Comes.{Delivers, Sends, sent_by}
-use Rattle.cluster_calm.proofs.Group.{AreWell}
+use Rattle.cluster_calm.proofs.Group.{AreWell, CalmLaws}
 use Rattle.cluster_calm.proofs.Pending.{Made}
 use Rattle.cluster_recovery.specs.Calm.{Pace, Timed, rows_in}
 use Rattle.cluster_recovery.proofs.Members.{IsQuiet}
@@ -102,6 +104,12 @@ reply_longer n m x at delay moment w rows more whole cut r = record {
 module _ (ids : List ℕ) (rows : List Row) (g : Grounds ids rows) (group : List Party) (clocks : Party → ℕ) (pace : Pace) (start n m : ℕ)
     (front early late : List Timed) (timed next : Timed) (calm : IsCalmOf ids rows group clocks pace start (front ++ timed ∷ (early ++ next ∷ late)))
     (in_n : In (OfMember n) group) (in_m : In (OfMember m) group) (apart : n ≢ m) where
+  abbrev grounds : CalmGrounds
+  grounds = g.below.wins.election.calm
+
+  abbrev laws : CalmLaws
+  laws = calm_laws grounds
+
   abbrev w : Cluster
   w = world_of ids rows
 
@@ -133,10 +141,10 @@ module _ (ids : List ℕ) (rows : List Row) (g : Grounds ids rows) (group : List
   can = calm.exchange n m in_n in_m apart
 
   pub nodes : (p : ℕ) → In (OfMember p) group → (1 ≤ p) × (p ≤ 125)
-  nodes p i = g.nodes p (calm.listed p i)
+  nodes p i = g.members.nodes p (calm.listed p i)
 
   pub are : AreWell group w
-  are = g.well group calm.listed calm.running
+  are = well grounds ids g.members rows g.harmless group calm.listed calm.running
 
   pub quiet : (p : ℕ) → In (OfMember p) group → IsQuiet (w.member p).disk
   quiet p i = let r = calm.running p i in record { faults = r.faults; calls = r.disk }
@@ -144,22 +152,23 @@ module _ (ids : List ℕ) (rows : List Row) (g : Grounds ids rows) (group : List
   -- ---- who calls asks
 
   abbrev both : Exchange
-  both = calling g.laws g.apart_offers g.stay group clocks pace nodes n m in_n in_m apart calm.quick w whole can
+  both = calling laws grounds.apart grounds.stay group clocks pace nodes n m in_n in_m apart calm.quick w whole can
 
   abbrev IsOpen : Made → AllocatorState → Type 0
-  IsOpen = Called g.laws g.apart_offers g.stay g.ask group clocks pace nodes n m in_n in_m apart calm.quick w whole can
+  IsOpen = Called laws grounds.apart grounds.stay g.below.ask group clocks pace nodes n m in_n in_m apart calm.quick w whole can
 
   turns : AllTurns both IsOpen w whole
-  turns = all_turns g.laws g.apart_offers g.stay g.ask group clocks pace nodes n m in_n in_m apart calm.quick w whole can whole (no_traffic start) w calm.calm are
+  turns = all_turns laws grounds.apart grounds.stay g.below.ask group clocks pace nodes n m in_n in_m apart calm.quick w whole can whole (no_traffic start) w calm.calm are
       calm.harmless can.calls_it (calm.clock n in_n)
 
   given : AllGiven both w whole
-  given = all_given both ids (λ done h row offer. g.calls_read done h n row offer) (λ done h row offer. g.answers_read done h m row offer) g.grows g.no_harm whole rows
-      (no_traffic start) w refl g.harmless are calm.calm calm.harmless can.memory can.its_memory can.place
+  given = all_given both ids (λ done h row offer. g.below.calls_read ids done g.members h n row offer)
+      (λ done h row offer. g.below.answers_read ids done g.members h m row offer) grounds.grows grounds.no_harm whole rows (no_traffic start) w refl g.harmless are calm.calm calm.harmless can.memory can.its_memory can.place
 
   along : Along both IsOpen IsOpen calm.quick w whole
   along = at_first both IsOpen IsOpen calm.quick start w whole
-      (fresh g.laws g.apart_offers g.stay group clocks pace nodes n m in_n in_m apart calm.quick w whole can start (g.is n (calm.listed n in_n)) (g.is m (calm.listed m in_m))
+      (fresh laws grounds.apart grounds.stay group clocks pace nodes n m in_n in_m apart calm.quick w whole can start
+      (λ t. is_server grounds ids g.members rows g.harmless n t (calm.listed n in_n)) (λ t. is_server grounds ids g.members rows g.harmless m t (calm.listed m in_m))
       (quiet n in_n) (quiet m in_m) calm.calm are given) turns
 
   module _ (offer : Offer) (sends : Sends n there timed.row offer) (what : offer.what ≡ AppQ) (to : offer.to ≡ m) (nobody : StandsNot n then_w early)
@@ -240,12 +249,12 @@ module _ (ids : List ℕ) (rows : List Row) (g : Grounds ids rows) (group : List
     module _ (other server : AllocatorState) (up : (there.member m).status ≡ Up other) (up_then : ((after_rows then_w (rows_in early)).member n).status ≡ Up server) where
       -- who answers is in no lower term than it was
       its_term : other.raft_server.store.term ≤ back.answered.server.raft_server.store.term
-      its_term = from_there ids rows g.rise group clocks pace start calm.running front early timed calm_upto m in_m back.front (back.timed ∷ back.rest) back.split
+      its_term = from_there ids rows (g.below.wins.rise ids rows) group clocks pace start calm.running front early timed calm_upto m in_m back.front (back.timed ∷ back.rest) back.split
           other back.answered.server up back.answered.runs
 
       -- who takes the answer is in no lower term later
       own_term : after.raft_server.store.term ≤ server.raft_server.store.term
-      own_term = up_to_end_of ids rows g.rise group clocks pace start calm.running front early timed calm_upto n in_n back.front reply.front reply.rest back.timed reply.timed
+      own_term = up_to_end_of ids rows (g.below.wins.rise ids rows) group clocks pace start calm.running front early timed calm_upto n in_n back.front reply.front reply.rest back.timed reply.timed
           (back.split ∙ ap (λ (l : List Timed). back.front ++ back.timed ∷ l) reply.split) after server reply.runs_then up_then
 
       pub caller_learns : other.raft_server.store.term ≤ server.raft_server.store.term

@@ -2,47 +2,21 @@
 use Rattle.std.proofs.Common.{◌≡◌, ℕ, ◌≤◌, List, [], ◌∷◌, ◌++◌, append_assoc, append-nil, sym, ◌∙◌, ap, subst}
 use Rattle.raft_model.specs.Lists.{In}
 use Rattle.replay_text.specs.declared.row.Row.{Row}
-use Rattle.alloc_spec.specs.AllocatorState.{AllocatorState, members_of}
-use Rattle.alloc_spec.specs.Step.{Event, step}
-use Rattle.alloc_spec_laws.specs.Apart.{AreAllApart}
+use Rattle.alloc_spec.specs.AllocatorState.{AllocatorState}
 use Rattle.calm_election.specs.Terms.{TermsDoNotFall}
-use Rattle.calm_election.specs.Votes.{StandingAsks, VoteAnswersReadAsSaid, VoteRequestsReadAsSaid, VotesAreAnswered, VotesAreTaken}
-use Rattle.calm_leader.specs.Answers.{AnswersReadAsSaid, CallsAreAnswered}
-use Rattle.calm_leader.specs.CallsAsk.{CallsAskNext}
 use Rattle.calm_leader.proofs.Stretches.{world_both}
-use Rattle.cluster_calm.specs.Calls.{CallsReadAsSaid}
 use Rattle.cluster_calm.specs.Calm.{AreCalm, AreRunning, Member as OfMember, Party, no_traffic}
-use Rattle.cluster_calm.proofs.Group.{AreWell, CalmLaws, IsServer}
+use Rattle.calm_rounds.specs.RoundsBelow.{RoundGrounds}
 use Rattle.cluster_recovery.specs.Calm.{Pace, Timed, rows_in}
-use Rattle.cluster_spec.specs.Cluster.{Cluster, after_row, after_rows, cluster, world_of}
-use Rattle.cluster_spec.specs.Lawful.{DoNoHarm, DoesNoHarm}
+use Rattle.cluster_spec.specs.Cluster.{AreMembers, Cluster, after_row, after_rows, cluster, world_of}
+use Rattle.cluster_spec.specs.Lawful.{DoNoHarm}
 use Rattle.cluster_spec.specs.Members.MemberStatus.{Up}
 
+-- what is said below, and rows that do no harm
 pub record Grounds (ids : List ℕ) (rows : List Row) : Type 0 where
-  pub laws : CalmLaws
-  pub apart_offers : (t : AllocatorState) (number : ℕ) (event : Event) → AreAllApart (step t number event).step_state.offers
-  pub stay : (t : AllocatorState) (number : ℕ) (event : Event) (node : ℕ) → In node (members_of t)
-      → In node (members_of (step t number event).step_state.allocator)
-  pub nodes : (p : ℕ) → In p ids → (1 ≤ p) × (p ≤ 125)
-  pub is : (p : ℕ) → In p ids → (t : AllocatorState) → ((world_of ids rows).member p).status ≡ Up t → IsServer p t
-  pub well : (group : List Party) → ((p : ℕ) → In (OfMember p) group → In p ids) → AreRunning group (world_of ids rows) → AreWell group (world_of ids rows)
-  pub grows : (w : Cluster) (more : List Row) (row : Row) → after_rows w (more ++ row ∷ []) ≡ after_row (after_rows w more) row
-  pub no_harm : (w : Cluster) (more : List Row) (row : Row) → DoNoHarm w more → DoesNoHarm (after_rows w more) row → DoNoHarm w (more ++ row ∷ [])
+  pub below : RoundGrounds
+  pub members : AreMembers ids
   pub harmless : DoNoHarm (cluster ids) rows
-  pub ask : CallsAskNext
-  pub calls : CallsAreAnswered
-  pub calls_read : (done : List Row) → DoNoHarm (cluster ids) done → CallsReadAsSaid ids done
-  pub answers_read : (done : List Row) → DoNoHarm (cluster ids) done → AnswersReadAsSaid ids done
-  pub rise : TermsDoNotFall ids rows
-
--- and those of who asks for votes
-pub record VoteGrounds (ids : List ℕ) (rows : List Row) : Type 0 where
-  pub calling : Grounds ids rows
-  pub votes : VotesAreAnswered
-  pub requests_read : (done : List Row) → DoNoHarm (cluster ids) done → VoteRequestsReadAsSaid ids done
-  pub votes_read : (done : List Row) → DoNoHarm (cluster ids) done → VoteAnswersReadAsSaid ids done
-  pub taken : VotesAreTaken
-  pub stand : (done : List Row) → DoNoHarm (cluster ids) done → StandingAsks ids done
 
 -- ---- in two rows, one behind the other
 

@@ -15,7 +15,9 @@ use Rattle.calm_leader.proofs.Stretches.{calm_front, harmless_both, rows_both, w
 use Rattle.calm_rounds.specs.Running.{IsCalmOf, NobodyStandsIn}
 use Rattle.calm_rounds.specs.Sent.{AskersLearn, CallersLearn, LeadsBy}
 use Rattle.calm_rounds.proofs.LearnsCallers as callers_learn
-use Rattle.calm_rounds.proofs.LearnsGrounds.{VoteGrounds, from_there}
+use Rattle.cluster_calm.specs.CalmBelow.{CalmGrounds}
+use Rattle.cluster_calm.proofs.Grounds.{calm_laws, well}
+use Rattle.calm_rounds.proofs.LearnsGrounds.{Grounds, from_there}
 use Rattle.calm_rounds.proofs.NobodyStands.{nobody_rest}
 use Rattle.calm_rounds.proofs.LearnsWins.{ComesToLead, comes_to_lead, winner_calls}
 use Rattle.cluster_agreement.proofs.Concatenations.{first_harmless, row_harmless}
@@ -47,9 +49,15 @@ module _ (laws : CalmLaws) (group : List Party) (clocks : Party → ℕ) (pace :
     calm = b.calm.2;
   })
 
-module _ (ids : List ℕ) (rows : List Row) (g : VoteGrounds ids rows) (callers : CallersLearn ids rows) (askers : AskersLearn ids rows) (group : List Party)
+module _ (ids : List ℕ) (rows : List Row) (g : Grounds ids rows) (callers : CallersLearn ids rows) (askers : AskersLearn ids rows) (group : List Party)
     (clocks : Party → ℕ) (pace : Pace) (start c m term : ℕ) (front early late : List Timed) (timed next : Timed) (other server : AllocatorState)
     (calm : IsCalmOf ids rows group clocks pace start (front ++ timed ∷ (early ++ next ∷ late))) (in_c : In (OfMember c) group) (in_m : In (OfMember m) group) where
+  abbrev grounds : CalmGrounds
+  grounds = g.below.wins.election.calm
+
+  abbrev laws : CalmLaws
+  laws = calm_laws grounds
+
   abbrev w : Cluster
   w = world_of ids rows
 
@@ -66,21 +74,21 @@ module _ (ids : List ℕ) (rows : List Row) (g : VoteGrounds ids rows) (callers 
       upto = front ++ timed ∷ early
 
       calm_upto : AreCalm group clocks pace (no_traffic start) w upto
-      calm_upto = callers_learn.calm_upto ids rows g.calling group clocks pace start c m front early late timed next calm in_c in_m apart
+      calm_upto = callers_learn.calm_upto ids rows g group clocks pace start c m front early late timed next calm in_c in_m apart
 
       harm_split : DoNoHarm w (rows_in front ++ timed.row ∷ rows_in early)
       harm_split = subst (DoNoHarm w) (rows_both front (timed ∷ early))
-          (callers_learn.harm_upto ids rows g.calling group clocks pace start c m front early late timed next calm in_c in_m apart)
+          (callers_learn.harm_upto ids rows g group clocks pace start c m front early late timed next calm in_c in_m apart)
 
       nodes : (p : ℕ) → In (OfMember p) group → (1 ≤ p) × (p ≤ 125)
-      nodes p i = g.calling.nodes p (calm.listed p i)
+      nodes p i = g.members.nodes p (calm.listed p i)
 
       can : CanAsk c m w (front ++ timed ∷ (early ++ next ∷ late))
       can = calm.ask c m in_c in_m apart
 
       -- it lists the other one behind each front
       listed_at : (a b : List Timed) → early ≡ a ++ b → (t : AllocatorState) → ((after_rows then_w (rows_in a)).member c).status ≡ Up t → In m (members_of t)
-      listed_at a b e t on = lists_on g.calling.stay m group clocks pace (no_traffic start) c (front ++ timed ∷ a) b w (calm.running c in_c)
+      listed_at a b e t on = lists_on grounds.stay m group clocks pace (no_traffic start) c (front ++ timed ∷ a) b w (calm.running c in_c)
           (subst (AreCalm group clocks pace (no_traffic start) w) (ap (λ (l : List Timed). front ++ timed ∷ l) e ∙ sym (append_assoc front (timed ∷ a) b)) calm_upto)
           can.asks_it t (ap (λ (v : Cluster). (v.member c).status) (world_both w front (timed ∷ a)) ∙ on)
 
@@ -91,8 +99,8 @@ module _ (ids : List ℕ) (rows : List Row) (g : VoteGrounds ids rows) (callers 
 
       standing : IsAsStanding c term there timed.row s
       standing = subst (λ (v : Cluster). DoesNoHarm v timed.row → (k : Stands c term v timed.row) → IsAsStanding c term v timed.row k) there_is
-          (λ harm k. g.stand (rows ++ rows_in front)
-          (harmless_both (cluster ids) rows (rows_in front) g.calling.harmless (first_harmless w (rows_in front) (timed.row ∷ rows_in early) harm_split))
+          (λ harm k. g.below.wins.asked ids (rows ++ rows_in front) g.members
+          (harmless_both (cluster ids) rows (rows_in front) g.harmless (first_harmless w (rows_in front) (timed.row ∷ rows_in early) harm_split))
           c term timed.row (calm.listed c in_c) harm k)
           (row_harmless w (rows_in front) (rows_in early) timed.row harm_split) s
 
@@ -117,20 +125,20 @@ module _ (ids : List ℕ) (rows : List Row) (g : VoteGrounds ids rows) (callers 
       -- ---- it leads before
 
       module _ (by : LeadsBy c timed.at (timed.at + 4 * pace.delay) then_w early) where
-        from_there_on : Behind g.calling.laws group clocks pace nodes there (timed ∷ early)
-        from_there_on = behind g.calling.laws group clocks pace nodes front (timed ∷ early) w (record {
+        from_there_on : Behind laws group clocks pace nodes there (timed ∷ early)
+        from_there_on = behind laws group clocks pace nodes front (timed ∷ early) w (record {
           traffic = no_traffic start;
-          are = g.calling.well group calm.listed calm.running;
+          are = well grounds ids g.members rows g.harmless group calm.listed calm.running;
           calm = calm_upto;
         })
 
         abbrev First : Type 0
-        First = ComesToLead g.calling.laws g.calling.stay group clocks pace c m (λ e. apart (sym e)) timed.at then_w by.front
+        First = ComesToLead laws grounds.stay group clocks pace c m (λ e. apart (sym e)) timed.at then_w by.front
 
         first : First
-        first = comes_to_lead g.calling.laws g.calling.stay group clocks pace c m (λ e. apart (sym e)) nodes in_c by.term by.front
+        first = comes_to_lead laws grounds.stay group clocks pace c m (λ e. apart (sym e)) nodes in_c by.term by.front
             (traffic_after from_there_on.traffic there timed) timed.at then_w
-            (well_after g.calling.laws group nodes there from_there_on.are clocks pace from_there_on.traffic timed.at timed.row from_there_on.calm.1)
+            (well_after laws group nodes there from_there_on.are clocks pace from_there_on.traffic timed.at timed.row from_there_on.calm.1)
             (calm_front group clocks pace by.front by.rest (traffic_after from_there_on.traffic there timed) then_w
             (subst (AreCalm group clocks pace (traffic_after from_there_on.traffic there timed) then_w) by.split from_there_on.calm.2))
             (λ t on. subst (λ (k : AllocatorState). k.raft_server.memory.role ≢ Leader) (same_server s.after t (sym s.runs_then ∙ on))
@@ -162,11 +170,11 @@ module _ (ids : List ℕ) (rows : List Row) (g : VoteGrounds ids rows) (callers 
 
           -- the other one is in no lower term then
           its_term : other.raft_server.store.term ≤ its_m.server.raft_server.store.term
-          its_term = from_there ids rows g.calling.rise group clocks pace start calm.running front early timed calm_upto m in_m f.front (f.one ∷ later) early_is
+          its_term = from_there ids rows (g.below.wins.rise ids rows) group clocks pace start calm.running front early timed calm_upto m in_m f.front (f.one ∷ later) early_is
               other its_m.server up its_m.up.status
 
           calls : OffersCall c m v f.one.row
-          calls = winner_calls g.calling.laws g.calling.stay group clocks pace c m (λ e. apart (sym e)) f.traffic v f.one f.calm its_c
+          calls = winner_calls laws grounds.stay group clocks pace c m (λ e. apart (sym e)) f.traffic v f.one f.calm its_c
               (listed_at f.front (f.one ∷ later) early_is its_c.server its_c.up.status) (f.leads_not its_c.server its_c.up.status) f.u f.runs_then f.leads
 
           nobody_then : NobodyStandsIn group (after_row v f.one.row) later
@@ -198,7 +206,7 @@ module _ (ids : List ℕ) (rows : List Row) (g : VoteGrounds ids rows) (callers 
 
     -- its own term does not fall
     own : c ≡ m → other.raft_server.store.term ≤ server.raft_server.store.term
-    own same = g.calling.rise group clocks pace start c front (timed ∷ early) (next ∷ late) other server calm.running calm.calm in_c
+    own same = g.below.wins.rise ids rows group clocks pace start c front (timed ∷ early) (next ∷ late) other server calm.running calm.calm in_c
         (ap (λ (p : ℕ). (there.member p).status) same ∙ up)
         (ap (λ (v : Cluster). (v.member c).status) (world_both w front (timed ∷ early)) ∙ up_then)
 

@@ -12,6 +12,7 @@ use Rattle.calm_leader.specs.LeadsOn.{LeadsIn}
 use Rattle.calm_leader.proofs.Stretches.{world_both}
 use Rattle.calm_rounds.specs.Calling.{CallsReturnInRounds}
 use Rattle.calm_rounds.specs.Running.{IsCalmOf}
+use Rattle.cluster_calm.proofs.Grounds.{is_server}
 use Rattle.calm_rounds.proofs.LearnsGrounds.{Grounds}
 use Rattle.calm_rounds.proofs.NobodyScene.{Course, StepLaws, here}
 use Rattle.calm_rounds.proofs.ReturnsTaken.{CallMade, came_back, reads}
@@ -44,7 +45,7 @@ module _ (ids : List ℕ) (rows : List Row) (steps : StepLaws) (g : Grounds ids 
     whole = first ++ later;
     calm = calm;
     steps = steps;
-    me = λ p i t up. (g.is p (calm.listed p i) t up).me;
+    me = λ p i t up. (is_server g.below.wins.election.calm ids g.members rows g.harmless p t (calm.listed p i) up).me;
   }
 
   -- the front before the call

@@ -252,11 +252,11 @@ module _ (s : Course) (g : Grounds s.ids s.rows) (laws : EntryLaws s.ids s.rows)
   answer = answer_by (hearing.rows + 1) d.server (asked_by (sent_by n (here s k.front) k.offer) reads.request m)
 
   pub answers : AnswersCall m (sent_by n (here s k.front) k.offer) reads.request hearing reply.heard.row d
-  answers = g.calls m (sent_by n (here s k.front) k.offer) reads.request hearing reply.heard.row d its_me k.what reads.read listed
+  answers = g.below.calls_answered m (sent_by n (here s k.front) k.offer) reads.request hearing reply.heard.row d its_me k.what reads.read listed
 
   pub same_offer : answers.offer ≡ reply.offer
   same_offer = one_of (step d.server (hearing.rows + 1) (receipt_of hearing d.k d.ms)).step_state.offers
-      (g.apart_offers d.server (hearing.rows + 1) (receipt_of hearing d.k d.ms)) answers.offer reply.offer answers.offered
+      (g.below.wins.election.calm.apart d.server (hearing.rows + 1) (receipt_of hearing d.k d.ms)) answers.offer reply.offer answers.offered
       (subst (λ (a : AllocatorState). In reply.offer (step a (hearing.rows + 1) (receipt_of hearing d.k d.ms)).step_state.offers)
       (same_server reply.sends.server d.server (sym reply.sends.runs ∙ d.runs))
       (subst (λ (e : Event). In reply.offer (step reply.sends.server (hearing.rows + 1) e).step_state.offers)

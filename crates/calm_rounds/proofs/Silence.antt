@@ -19,25 +19,24 @@ use Rattle.alloc_spec.specs.AllocatorState.{AllocatorState, start_of}
 use Rattle.alloc_spec.specs.Step.{Event, moment_of}
 use Rattle.alloc_spec.specs.Transfers.{kind_of, number_of}
 use Rattle.alloc_spec_laws.specs.Responses.{IsResponse}
-use Rattle.cluster_agreement.specs.Shows.{Shows, ShowsMember, ShowsUp}
 use Rattle.cluster_agreement.proofs.TakenMessages.{is_append, is_append_request, is_vote, is_vote_request}
 use Rattle.cluster_recovery.specs.Calm.{Pace, Timed, rows_in}
 use Rattle.cluster_calm.specs.Calm.{Member as OfMember, Party}
+use Rattle.cluster_calm.specs.CalmBelow.{CalmGrounds}
+use Rattle.cluster_calm.proofs.Grounds.{its_node, shown_up}
 use Rattle.calm_leader.proofs.RowsOfOne.{IsReceipt, receipt_is}
 use Rattle.calm_election.specs.Votes.{Stands}
 use Rattle.calm_election.proofs.WaitsRows.{Takes, takes}
 use Rattle.calm_rounds.specs.Running.{IsCalmOf}
 use Rattle.calm_rounds.specs.Sent.{IsAsItWas, IsSilentSince}
-use Rattle.calm_rounds.proofs.HeardMade.{HeardLaws, WasSent, cut_before, harm_row, harm_there, reached, was_sent}
+use Rattle.calm_rounds.proofs.HeardMade.{WasSent, cut_before, harm_row, harm_there, reached, was_sent}
 use Rattle.calm_rounds.proofs.HeardRows.{IsOfRaft}
 use Rattle.calm_rounds.proofs.SilenceSteps.{IsRaftMessage, still_at_frame, still_at_tick}
-use Rattle.cluster_spec.specs.Cluster.{Cluster, after_row, after_rows, arrival_at, cluster, frame_at, world_of}
+use Rattle.cluster_spec.specs.Cluster.{AreMembers, Cluster, after_row, after_rows, arrival_at, cluster, frame_at, world_of}
 use Rattle.cluster_spec.specs.Lawful.{DoNoHarm}
-use Rattle.cluster_spec.specs.Members.{MemberStatus}
 use Rattle.cluster_spec.specs.Members.MemberStatus.{Up}
-use Rattle.cluster_spec.specs.Refinement.{transfers_of_rows}
 
-module _ (ids : List ℕ) (laws : HeardLaws ids) (rows : List Row) (harmless : DoNoHarm (cluster ids) rows) (group : List Party) (clocks : Party → ℕ) (pace : Pace)
+module _ (below : CalmGrounds) (ids : List ℕ) (members : AreMembers ids) (rows : List Row) (harmless : DoNoHarm (cluster ids) rows) (group : List Party) (clocks : Party → ℕ) (pace : Pace)
     (start since m : ℕ) (front rest : List Timed) (timed : Timed) (calm : IsCalmOf ids rows group clocks pace start (front ++ timed ∷ rest))
     (in_m : In (OfMember m) group) (long : since + 4 * pace.delay < timed.at) (silent : IsSilentSince group since (world_of ids rows) front) where
   abbrev w : Cluster
@@ -95,7 +94,7 @@ module _ (ids : List ℕ) (laws : HeardLaws ids) (rows : List Row) (harmless : D
     t = y.sends.server
 
     r : IsResponse t number y.sends.event y.offer
-    r = laws.calm.in_step.responses t number y.sends.event y.offer y.sends.offered (ap kind_of y.what_is ∙ response)
+    r = below.in_step.responses t number y.sends.event y.offer y.sends.offered (ap kind_of y.what_is ∙ response)
 
     receipt : IsReceipt before_it y.n y.timed.row r.delivered.arrival
     receipt = receipt_is before_it y.n y.timed.row r.delivered.arrival (y.sends.in_step ∙ ap (λ (ev : Event). Some (y.n, ev)) r.delivered.comes)
@@ -112,8 +111,8 @@ module _ (ids : List ℕ) (laws : HeardLaws ids) (rows : List Row) (harmless : D
 
     request_sent : (asked : What) → IsOfRaft asked → kind_of asked ≡ RequestKind
         → ((other : What) → kind_of other ≡ r.d.ident.kind → number_of other ≡ r.d.ident.number → other ≡ asked) → Sent y.n asked r.d y.timed.at y.first
-    request_sent asked of_raft kind only = was_sent ids laws rows harmless group clocks pace start (front ++ timed ∷ rest) calm y.first (y.more ++ timed ∷ rest) y.timed
-        (cut_before ids laws rows harmless group clocks pace start (front ++ timed ∷ rest) calm front rest timed refl (2 * pace.delay) m what d timed.at y)
+    request_sent asked of_raft kind only = was_sent below ids members rows harmless group clocks pace start (front ++ timed ∷ rest) calm y.first (y.more ++ timed ∷ rest) y.timed
+        (cut_before below ids members rows harmless group clocks pace start (front ++ timed ∷ rest) calm front rest timed refl (2 * pace.delay) m what d timed.at y)
         y.n y.member receipt.k receipt.ms receipt.row_is t y.sends.runs r.d (sym arrives ∙ r.delivered.gives) asked of_raft (kind ∙ sym r.kind) only
 
     soon_it : since + 2 * pace.delay < y.timed.at
@@ -134,7 +133,7 @@ module _ (ids : List ℕ) (laws : HeardLaws ids) (rows : List Row) (harmless : D
       (gives : answer (setting_for before.me) before.sessions (arrival_at (frame_at here.frames k) (max before.now ms)) ≡ Gives d) where
     sent : (what : What) → IsOfRaft what → kind_of what ≡ d.ident.kind
         → ((other : What) → kind_of other ≡ d.ident.kind → number_of other ≡ d.ident.number → other ≡ what) → Sent m what d timed.at front
-    sent = was_sent ids laws rows harmless group clocks pace start (front ++ timed ∷ rest) calm front rest timed refl m in_m k ms comes before runs d gives
+    sent = was_sent below ids members rows harmless group clocks pace start (front ++ timed ∷ rest) calm front rest timed refl m in_m k ms comes before runs d gives
 
     soon_here : since + 2 * pace.delay < timed.at
     soon_here = omega (arith, long)
@@ -156,37 +155,27 @@ module _ (ids : List ℕ) (laws : HeardLaws ids) (rows : List Row) (harmless : D
   -- ---- how the server began
 
   module _ (before : AllocatorState) (runs : (here.member m).status ≡ Up before) where
-    shown : ShowsUp (transfers_of_rows (cluster ids) (rows ++ rows_in front) []) here.ids here.frames
-        (laws.shown (rows ++ rows_in front) (harm_there ids laws rows harmless group clocks pace start (front ++ timed ∷ rest) calm front rest timed refl)).1 m before
-        (here.member m).disk
-    shown =
-        let its = laws.shown (rows ++ rows_in front) (harm_there ids laws rows harmless group clocks pace start (front ++ timed ∷ rest) calm front rest timed refl) in
-        let made = transfers_of_rows (cluster ids) (rows ++ rows_in front) [] in
-        let shows : Shows its.0 made here its.1 = subst (λ (v : Cluster). Shows its.0 made v its.1)
-        (reached ids laws rows harmless group clocks pace start (front ++ timed ∷ rest) calm front rest timed refl) its.2 in
-        subst (λ (status : MemberStatus). ShowsMember its.0 made here.ids here.frames its.1 m status (here.member m).disk) runs
-        (shows.lives m (subst (λ (l : List ℕ). In m l) (sym same_ids) (calm.listed m in_m)))
-      where
-        same_ids : here.ids ≡ ids
-        same_ids = sym (ap (λ (v : Cluster). v.ids) (reached ids laws rows harmless group clocks pace start (front ++ timed ∷ rest) calm front rest timed refl))
-            ∙ laws.same (rows ++ rows_in front)
+    safe : DoNoHarm (cluster ids) (rows ++ rows_in front)
+    safe = harm_there below ids members rows harmless group clocks pace start (front ++ timed ∷ rest) calm front rest timed refl
+
+    up : ((world_of ids (rows ++ rows_in front)).member m).status ≡ Up before
+    up = ap (λ (v : Cluster). (v.member m).status) (reached below ids members rows harmless group clocks pace start (front ++ timed ∷ rest) calm front rest timed refl) ∙ runs
 
     same_size : before.size ≡ length ids
-    same_size = shown.runs.size ∙ ap (λ (l : List ℕ). length l)
-        (sym (ap (λ (v : Cluster). v.ids) (reached ids laws rows harmless group clocks pace start (front ++ timed ∷ rest) calm front rest timed refl))
-        ∙ laws.same (rows ++ rows_in front))
+    same_size = (its_node below ids members (rows ++ rows_in front) safe m before (calm.listed m in_m) up).1
 
     is_start : IsStart (start_of before)
     is_start =
-        let node = laws.members.nodes m (calm.listed m in_m) in
-        let me = shown.runs.me in
-        let some = laws.members.some in
+        let node = members.nodes m (calm.listed m in_m) in
+        let its = (shown_up below ids members (rows ++ rows_in front) safe m before (calm.listed m in_m) up).runs in
+        let me = its.me in
+        let some = members.some in
         let size = same_size in
         record {
           numbered = omega (arith, me, node.0);
           device = omega (arith, me, node.1);
           least = omega (arith, size, some);
-          most = shown.runs.sound.size;
+          most = its.sound.size;
         }
 
     many : 2 ≤ before.size
@@ -197,7 +186,7 @@ module _ (ids : List ℕ) (laws : HeardLaws ids) (rows : List Row) (harmless : D
   pub nothing_changes : (before after : AllocatorState) → (here.member m).status ≡ Up before → ((after_row here timed.row).member m).status ≡ Up after
       → before.raft_server.memory.role ≢ Leader → ((term : ℕ) → Stands m term here timed.row → ⊥) → IsAsItWas before after
   nothing_changes before after runs runs_then leads_not stands_not =
-      by (takes here m before after runs timed.row (harm_row ids laws rows harmless group clocks pace start (front ++ timed ∷ rest) calm front rest timed refl) runs_then)
+      by (takes here m before after runs timed.row (harm_row below ids members rows harmless group clocks pace start (front ++ timed ∷ rest) calm front rest timed refl) runs_then)
     where
       by : Takes here timed.row m before after → IsAsItWas before after
       by (Takes.Rests times server queue) = record {
@@ -209,7 +198,7 @@ module _ (ids : List ℕ) (laws : HeardLaws ids) (rows : List Row) (harmless : D
         word = ap (λ (ts : Times). ts.word) times;
       }
       by (Takes.Ticks ms word is after_is) = subst (IsAsItWas before) (sym after_is)
-          (still_at_tick laws.calm.more.list (here.rows + 1) before ms word leads_not (is_start before runs) (many before runs) (λ stood.
+          (still_at_tick below.more.list (here.rows + 1) before ms word leads_not (is_start before runs) (many before runs) (λ stood.
           stands_not (before.raft_server.store.term + 1) (record {
             ms = ms;
             word = word;

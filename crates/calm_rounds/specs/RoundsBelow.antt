@@ -1,107 +1,20 @@
 -- What the laws of rounds stand on, together: each field is what a law below says. It is a means of their proofs.
-use Rattle.std.specs.Prelude.{◌≡◌, ℕ, true, Bool, All, List, [], ◌∷◌, ◌++◌, length, map}
-use Rattle.can_frame.specs.Cutting.{bytes_cut, cut_length, frames_of, joined}
-use Rattle.raft_model.specs.Decisions.{grants}
-use Rattle.raft_model.specs.Invariants.{Invariants}
-use Rattle.raft_model.specs.Lists.{In, how_many}
-use Rattle.raft_model.specs.Members.{IsAll}
-use Rattle.raft_model.specs.Messages.{Request}
-use Rattle.raft_model.specs.Moves.Elections.{IsGranted}
-use Rattle.raft_model.specs.Runs.{InEveryRun, World, initial_world}
-use Rattle.raft_model.specs.Server.{Store}
-use Rattle.replay_text.specs.declared.row.Row.{Row}
-use Rattle.replay_text.specs.declared.row.Row.TheVariants.{Rx as RxRow}
-use Rattle.transfer_rx.specs.declared.accept.Wanted.{Wanted}
-use Rattle.transfer_rx.specs.Keys.{key_of}
-use Rattle.transfer_rx.specs.Marks.{is_whole}
-use Rattle.transfer_rx.specs.Reassembly.{Arrival, Delivery, Gives, Setting, answer, piece_in}
-use Rattle.transfer_rx.specs.Run.{ComesWhole, of_key, run}
-use Rattle.transfer_rx.specs.Sessions.{Session}
-use Rattle.allocatee.specs.Allocatee.{Device}
-use Rattle.allocatee.specs.Allocatee as device
-use Rattle.allocatee.specs.Given.{IsAnonymous}
-use Rattle.alloc_spec.specs.AllocatorState.{AllocatorState, knows_all, members_of}
-use Rattle.alloc_spec.specs.Step.{Event, after_pop, step}
-use Rattle.alloc_spec.specs.Transfers.{SentTransfer}
-use Rattle.alloc_spec_laws.specs.Apart.{AreAllApart}
-use Rattle.alloc_spec_laws.specs.Sound.{IsSound}
-use Rattle.cluster_agreement.specs.Continues.{Continues}
-use Rattle.cluster_agreement.specs.LawsBelow.{CodecLaws, FrameLaws}
-use Rattle.cluster_agreement.specs.Safe.{IsDeliveredTo, IsOneTransfer}
-use Rattle.cluster_agreement.specs.Shows.{Shows}
-use Rattle.cluster_agreement.specs.StepLaws.{MoreLaws, StepLaws}
-use Rattle.cluster_progress.specs.InTime.{FramesLeaveFollowers, NoCallIsOld, StaysFollower, WaitsAnew}
-use Rattle.cluster_calm.specs.Calls.{CallsAreHeard, CallsReadAsSaid, CalmLeavesFollowers, ListsStay}
+use Rattle.cluster_progress.specs.InTime.{NoCallIsOld}
+use Rattle.cluster_calm.specs.CalmBelow.{IsSaid}
+use Rattle.cluster_calm.specs.Calls.{CallsAreHeard, CallsReadAsSaid, CalmLeavesFollowers}
 use Rattle.cluster_calm.specs.CallsInTime.{LeadersCallInTime}
 use Rattle.calm_leader.specs.Answers.{AnswersAreTaken, AnswersReadAsSaid, CallsAreAnswered}
 use Rattle.calm_leader.specs.CallsAsk.{CallsAskNext}
 use Rattle.calm_leader.specs.EntriesBelow.{EntryLaws}
 use Rattle.calm_leader.specs.NoElection.{NoElectionComes}
-use Rattle.calm_election.specs.Terms.{TermsDoNotFall, TermsStay, VotesStayFree}
-use Rattle.calm_election.specs.Votes.{CandidatesStay, StandingAsks, VoteAnswersReadAsSaid, VoteRequestsReadAsSaid}
-use Rattle.calm_election.specs.Votes.{VotesAreAnswered, VotesAreTaken, VotesComeBack, WaitsOnForVotes}
-use Rattle.calm_election.specs.Waits.{WaitsBeginThen, WaitsHaveReasons, WhoWaitsStands}
-use Rattle.cluster_spec.specs.Choices.{AgreesWithDisk}
-use Rattle.cluster_spec.specs.Cluster.{AreMembers, Cluster, after_row, after_rows, cluster, world_of}
-use Rattle.cluster_spec.specs.Lawful.{DoNoHarm, DoesNoHarm}
-use Rattle.cluster_spec.specs.Refinement.{events, transfers_of_rows}
+use Rattle.calm_election.specs.ElectionsBelow.{WinLaws}
+use Rattle.calm_election.specs.Votes.{VoteRequestsReadAsSaid, VotesAreAnswered, VotesComeBack}
+use Rattle.calm_election.specs.Waits.{WaitsHaveReasons, WhoWaitsStands}
 
--- this is so of all rows that do no harm
-abbrev pub IsSaid : (List ℕ → List Row → Type 0) → Type 0
-IsSaid Law = (ids : List ℕ) (rows : List Row) → AreMembers ids → DoNoHarm (cluster ids) rows → Law ids rows
-
--- of steps and frames; of rows; of the Raft model; of what leaders call; and of who stands for election
+-- of who wins, with the calm and the elections; of what leaders call; and of who stands for election
 pub record RoundGrounds : Type 0 where
-  pub frame : FrameLaws
-  pub in_step : StepLaws
-  pub more : MoreLaws
-  pub codec : CodecLaws
-  pub carried : (signature id : ℕ) (payload : List ℕ) →
-      joined (frames_of signature id payload) ≡ bytes_cut signature payload
-  pub cut : (signature : ℕ) (payload : List ℕ) → length (bytes_cut signature payload) ≡ cut_length (length payload)
-  pub whole : (setting : Setting) (sessions : List Session) (w : Wanted) (payload : List ℕ)
-      (arrivals before : List Arrival) (first last : Arrival) →
-      ComesWhole setting sessions w payload arrivals before first last →
-      answer setting (run setting sessions before) last ≡ Gives (record {
-        ident = w.ident;
-        id = (piece_in last).tail.id;
-        payload = payload;
-        mark = last.mark;
-        whole = is_whole (map (λ (arrival : Arrival). arrival.mark) (of_key setting (key_of w.ident) arrivals));
-      })
-  pub popped : (t : AllocatorState) → IsSound t → IsSound (after_pop t)
-  pub device_step : (d : Device) (number : ℕ) (event : device.Event) → All IsAnonymous d.asking.queue →
-      All IsAnonymous (device.step d number event).device.asking.queue
-  pub device_popped : (d : Device) → All IsAnonymous d.asking.queue →
-      All IsAnonymous (device.after_pop d).asking.queue
-  pub apart : (t : AllocatorState) (number : ℕ) (event : Event) → AreAllApart (step t number event).step_state.offers
-  pub stay : (t : AllocatorState) (number : ℕ) (event : Event) (node : ℕ) → In node (members_of t) →
-      In node (members_of (step t number event).step_state.allocator)
-  pub complete : (t : AllocatorState) (number : ℕ) (event : Event) → knows_all t ≡ true →
-      members_of (step t number event).step_state.allocator ≡ members_of t
-  pub follows : StaysFollower
-  pub frames_leave : FramesLeaveFollowers
-  pub waits_anew : WaitsAnew
+  pub wins : WinLaws
   pub no_call_is_old : NoCallIsOld
-  pub one_transfer : (choice : ℕ → Bool) (made : List SentTransfer) (w : Cluster) (world : World) → AreMembers w.ids →
-      Shows choice made w world → (n k ms : ℕ) (d : Delivery) → DoesNoHarm w (RxRow n k ms) →
-      IsDeliveredTo w n k ms d → IsOneTransfer made world.bag n d
-  pub chosen : (ids : List ℕ) (rows : List Row) → AreMembers ids → DoNoHarm (cluster ids) rows →
-      (choice : ℕ → Bool) × AgreesWithDisk choice (cluster ids) rows
-  pub shown : (choice : ℕ → Bool) (ids : List ℕ) (rows : List Row) → AreMembers ids → DoNoHarm (cluster ids) rows →
-      AgreesWithDisk choice (cluster ids) rows →
-      Continues choice (transfers_of_rows (cluster ids) rows []) (world_of ids rows) (initial_world ids)
-      (events choice (cluster ids) rows)
-  pub same : (w : Cluster) (rows : List Row) → (after_rows w rows).ids ≡ w.ids
-  pub grows : (w : Cluster) (rows : List Row) (row : Row) →
-      after_rows w (rows ++ row ∷ []) ≡ after_row (after_rows w rows) row
-  pub no_harm : (w : Cluster) (rows : List Row) (row : Row) → DoNoHarm w rows → DoesNoHarm (after_rows w rows) row →
-      DoNoHarm w (rows ++ row ∷ [])
-  pub invariants : InEveryRun Invariants
-  pub count : (list members : List ℕ) (test : ℕ → Bool) → IsAll list members →
-      how_many test list ≡ how_many test members
-  pub granted : (store : Store) (request : Request) → IsGranted store request (grants store request)
-  pub lists_stay : ListsStay
   pub ask : CallsAskNext
   pub call : LeadersCallInTime
   pub follow : CalmLeavesFollowers
@@ -112,17 +25,8 @@ pub record RoundGrounds : Type 0 where
   pub answers_taken : AnswersAreTaken
   pub comes : IsSaid NoElectionComes
   pub entries : IsSaid EntryLaws
-  pub asked : IsSaid StandingAsks
   pub requests_read : IsSaid VoteRequestsReadAsSaid
   pub votes_answered : VotesAreAnswered
-  pub votes_read : IsSaid VoteAnswersReadAsSaid
-  pub votes_taken : VotesAreTaken
   pub come_back : IsSaid VotesComeBack
-  pub waits_on : IsSaid WaitsOnForVotes
-  pub candidates : (ids : List ℕ) (rows : List Row) → CandidatesStay ids rows
-  pub begin : IsSaid WaitsBeginThen
   pub reasons : IsSaid WaitsHaveReasons
   pub in_time : IsSaid WhoWaitsStands
-  pub terms : IsSaid TermsStay
-  pub rise : (ids : List ℕ) (rows : List Row) → TermsDoNotFall ids rows
-  pub free : IsSaid VotesStayFree

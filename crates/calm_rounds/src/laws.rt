@@ -13,33 +13,20 @@ ghost use Rattle.cluster_spec.specs.Lawful.{DoNoHarm};
 ghost use Rattle.replay_text.specs.declared.row.Row.{Row};
 ghost use Rattle.std.specs.Prelude.{List, ℕ};
 
-use alloc_spec_laws::laws::{
-    members_of_a_step, steps_stay_in_range, transfers_of_a_step_are_apart,
-};
-use allocatee::laws::its_frames_are_anonymous;
+use alloc_spec_laws::laws::members_of_a_step;
 use calm_election::laws::{
-    candidates_stay, terms_do_not_fall, terms_stay_in_calm, vote_answers_read_as_said,
-    vote_requests_come_back, vote_requests_read_as_said, votes_are_answered, votes_are_taken,
-    votes_stay_free, waits_begin_then, waits_have_reasons, who_asked_waits_on,
-    who_stands_alone_wins, who_stands_asks, who_stands_is_heard, who_waits_stands,
+    vote_requests_come_back, vote_requests_read_as_said, votes_are_answered, waits_have_reasons,
+    what_winners_stand_on, who_stands_alone_wins, who_stands_is_heard, who_waits_stands,
 };
 use calm_leader::laws::{
     answers_are_taken, answers_read_as_said, calls_are_answered, calls_ask_for_the_next_place,
     no_election_comes_in_calm, what_entries_stand_on,
 };
-use can_frame::laws::{frames_carry_what_is_cut, lengths_of_cuttings};
-use cluster_agreement::below::{
-    what_a_step_keeps, what_is_said_of_a_step, what_is_said_of_frames, what_is_said_of_messages,
-};
-use cluster_agreement::headline::{a_choice_fits, rows_are_shown, rows_grow_by_one};
-use cluster_agreement::transfers::what_a_row_delivers_is_one_transfer;
 use cluster_calm::laws::{
     calls_are_heard, calls_read_as_said, followers_follow_on_in_calm, leaders_call_in_time,
-    who_is_listed_stays,
 };
-use cluster_progress::laws::{followers_follow_on, steps_are_in_time};
-use raft_model::laws::{law_decisions, law_every_run, law_members};
-use transfer_rx::laws::delivers_what_comes_whole;
+use cluster_progress::laws::steps_are_in_time;
+use raft_model::laws::law_members;
 
 /// Who gives its vote in a calm was asked for it: by another member of the group, in a row of the calm, two delays
 /// before at most. Behind that row the other one is a candidate in the request's term, and its log goes as far as the
@@ -272,54 +259,26 @@ pub fn opened_members_go_on_calmly()
     members_of_a_step();
 }
 
-/// What the laws of rounds stand on: what the crates below say of steps, frames and rows that do no harm, of the Raft
-/// model, of what leaders call, and of who stands for election.
+/// What the laws of rounds stand on: what the crates below say of who wins, of what leaders call, and of who stands for
+/// election.
 pub fn what_rounds_stand_on()
     ensures { RoundGrounds }
 {
-    a_choice_fits();
     answers_are_taken();
     answers_read_as_said();
     calls_are_answered();
     calls_are_heard();
     calls_ask_for_the_next_place();
     calls_read_as_said();
-    candidates_stay();
-    delivers_what_comes_whole();
-    followers_follow_on();
     followers_follow_on_in_calm();
-    frames_carry_what_is_cut();
-    its_frames_are_anonymous();
-    law_decisions();
-    law_every_run();
-    law_members();
     leaders_call_in_time();
-    lengths_of_cuttings();
-    members_of_a_step();
     no_election_comes_in_calm();
-    rows_are_shown();
-    rows_grow_by_one();
     steps_are_in_time();
-    steps_stay_in_range();
-    terms_do_not_fall();
-    terms_stay_in_calm();
-    transfers_of_a_step_are_apart();
-    vote_answers_read_as_said();
     vote_requests_come_back();
     vote_requests_read_as_said();
     votes_are_answered();
-    votes_are_taken();
-    votes_stay_free();
-    waits_begin_then();
     waits_have_reasons();
-    what_a_row_delivers_is_one_transfer();
-    what_a_step_keeps();
     what_entries_stand_on();
-    what_is_said_of_a_step();
-    what_is_said_of_frames();
-    what_is_said_of_messages();
-    who_asked_waits_on();
-    who_is_listed_stays();
-    who_stands_asks();
+    what_winners_stand_on();
     who_waits_stands();
 }

@@ -24,7 +24,8 @@ use Rattle.cluster_agreement.proofs.OneRowMore.{grown, made_more}
 use Rattle.cluster_agreement.proofs.RowsWithoutEvents.{is_one, past_first}
 use Rattle.calm_service.proofs.AllocationsSized.{step_sized}
 use Rattle.calm_service.specs.ServiceBelow.{ServiceGrounds}
-use Rattle.calm_service.proofs.ServiceGrounds.{of_run, shown}
+use Rattle.cluster_calm.proofs.Grounds.{shown}
+use Rattle.calm_leader.proofs.TermsRun.{of_run}
 use Rattle.calm_service.proofs.SettlesRows.{its_server}
 use Rattle.cluster_spec.specs.Cluster.{AreMembers, Cluster, after_row, cluster, receipt_of, tick_of, world_of}
 use Rattle.cluster_spec.specs.Lawful.{DoNoHarm, DoesNoHarm, no_node, not_running}
@@ -105,8 +106,8 @@ module _ (below : ServiceGrounds) where
     -- the entries of a member's log
     fits_at : (rows : List Row) → DoNoHarm (cluster ids) rows → (n : ℕ) → In n (world_of ids rows).ids → (t : AllocatorState) → ((world_of ids rows).member n).status ≡ Up t → LogFits t
     fits_at rows harmless n listed t e entry i =
-        let up = its_server (world_of ids rows) (of_run below ids members rows harmless) n t listed e in
-        (((shown below ids members rows harmless).writable.stores n).entries entry (subst (λ (s : RaftServer). In entry s.store.log) (sym up.runs.raft_server) i)).fits
+        let up = its_server (world_of ids rows) (of_run below.calm ids members rows harmless) n t listed e in
+        (((shown below.calm ids members rows harmless).writable.stores n).entries entry (subst (λ (s : RaftServer). In entry s.store.log) (sym up.runs.raft_server) i)).fits
 
     sized_on : (rest earlier : List Row) → DoNoHarm (cluster ids) (earlier ++ rest) → AllMadeSized (transfers_of_rows (cluster ids) earlier [])
         → AllMadeSized (transfers_of_rows (cluster ids) (earlier ++ rest) [])
@@ -120,7 +121,7 @@ module _ (below : ServiceGrounds) where
         = one_more (world_of ids earlier) row (row_harmless (cluster ids) earlier rest row harmless) (transfers_of_rows (cluster ids) earlier []) sized
         (fits_at earlier (first_harmless (cluster ids) earlier (row ∷ rest) harmless))
         (λ n i t e. fits_at (earlier ++ row ∷ []) first n
-        (subst (λ (l : List ℕ). In n l) (below.same (cluster ids) earlier ∙ sym (below.same (cluster ids) (earlier ++ row ∷ []))) i) t
+        (subst (λ (l : List ℕ). In n l) (below.calm.same (cluster ids) earlier ∙ sym (below.calm.same (cluster ids) (earlier ++ row ∷ []))) i) t
         (ap (λ (v : Cluster). (v.member n).status) (grown (cluster ids) earlier row) ∙ e)) in
         subst (λ (l : List Row). AllMadeSized (transfers_of_rows (cluster ids) l [])) cut
         (sized_on rest (earlier ++ row ∷ []) all (subst AllMadeSized (sym (made_more (cluster ids) earlier row [])) one))

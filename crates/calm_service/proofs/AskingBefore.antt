@@ -24,7 +24,7 @@ use Rattle.cluster_calm.proofs.Pair.{Expected}
 use Rattle.cluster_calm.proofs.Pending.{Coming, Made}
 use Rattle.cluster_calm.proofs.Ways.{Flying, flying_more, flying_own}
 use Rattle.cluster_agreement.proofs.Lists.{in_append}
-use Rattle.calm_service.proofs.ServiceGrounds.{calm_laws}
+use Rattle.cluster_calm.proofs.Grounds.{calm_laws}
 use Rattle.cluster_spec.specs.Allocatees.{after_sending_from, next_from}
 use Rattle.cluster_spec.specs.Cluster.{Cluster, after_row, after_rows, in_list, receipt_at}
 use Rattle.cluster_spec.specs.Members.{next_frame}
@@ -230,7 +230,7 @@ module _ (g : Talk) where
         with_pair : (ys : List Made) (front : List Coming) (expected : Expected) → PairOf g (traffic_after traffic w (record { at = at_; row = row })) (after_row w row) ys front expected
             → IsMeanwhile (traffic_after traffic w (record { at = at_; row = row })) (after_row w row)
         with_pair ys front expected pair = record {
-          well = well_after (calm_laws g.below) g.group g.nodes w m.well g.clocks g.pace traffic at_ row calm;
+          well = well_after (calm_laws g.below.calm) g.group g.nodes w m.well g.clocks g.pace traffic at_ row calm;
           xs = ys;
           front = front;
           expected = expected;

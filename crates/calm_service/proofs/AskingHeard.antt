@@ -40,7 +40,7 @@ use Rattle.cluster_calm.proofs.Pair.{made_none, made_of, out_ones, same_server}
 use Rattle.cluster_calm.proofs.Pending.{Coming, Made}
 use Rattle.cluster_calm.proofs.Ways.{flying_late}
 use Rattle.cluster_agreement.proofs.Lists.{in_back, in_front}
-use Rattle.calm_service.proofs.ServiceGrounds.{calm_laws}
+use Rattle.cluster_calm.proofs.Grounds.{calm_laws}
 use Rattle.cluster_spec.specs.Cluster.{Cluster, after_row, arrival_at, frame_at, receipt_of}
 use Rattle.calm_service.proofs.AskingGoes.{GoesOn, IsGoingOn, empty_by, goes_with, stays}
 
@@ -103,7 +103,7 @@ module _ (g : Talk) (from : ℕ)
 
       request : IsRequest (arrival_at (frame_at w.frames k) ms) message
       request =
-          let r = is_request (calm_laws g.below).frame g.n t.sessions (arrival_at (frame_at w.frames k) now) asked_.request gives asked_.anonymous message asked_.says in record {
+          let r = is_request (calm_laws g.below.calm).frame g.n t.sessions (arrival_at (frame_at w.frames k) now) asked_.request gives asked_.anonymous message asked_.says in record {
             ident = r.ident;
             read = r.read;
             kind = r.kind;

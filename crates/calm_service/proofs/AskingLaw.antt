@@ -34,7 +34,7 @@ use Rattle.calm_service.proofs.DialogScene.{Talk}
 use Rattle.cluster_calm.proofs.Pair.{Only}
 use Rattle.cluster_calm.proofs.Ways.{Waiting}
 use Rattle.calm_service.specs.ServiceBelow.{ServiceGrounds}
-use Rattle.calm_service.proofs.ServiceGrounds.{calm_laws, is_server, well}
+use Rattle.cluster_calm.proofs.Grounds.{calm_laws, is_server, well}
 use Rattle.cluster_spec.specs.Cluster.{AreMembers, Cluster, after_row, after_rows, cluster, world_of}
 use Rattle.cluster_spec.specs.Lawful.{DoNoHarm}
 
@@ -200,9 +200,9 @@ module _ (g : Talk) (traffic : Traffic) (w : Cluster) (m : IsMeanwhile g traffic
 
   -- another member is silent
   pub silent_there : (p : ℕ) (i : In (OfMember p) g.group) → HasNothingToSay p (traffic.at + g.clocks (OfMember p)) w
-      → IsSilent (calm_laws g.below) g.group g.clocks g.pace p (g.nodes p i) (traffic.at + g.clocks (OfMember p)) w
+      → IsSilent (calm_laws g.below.calm) g.group g.clocks g.pace p (g.nodes p i) (traffic.at + g.clocks (OfMember p)) w
   silent_there p i h = let its = m.well.members p i in
-      is_silent (calm_laws g.below) g.group g.clocks g.pace p (g.nodes p i) (traffic.at + g.clocks (OfMember p)) w its.server its.up its.its h
+      is_silent (calm_laws g.below.calm) g.group g.clocks g.pace p (g.nodes p i) (traffic.at + g.clocks (OfMember p)) w its.server its.up its.its h
 
 -- ---- when the calm begins
 
@@ -213,14 +213,14 @@ module _ (below : ServiceGrounds) (ids : List ℕ) (members : AreMembers ids) (l
   pub at_first : IsMeanwhile g (no_traffic start) (world_of ids list)
   at_first =
       let of_n = running g.n g.in_n in record {
-        well = well below ids members list harmless g.group listed running;
+        well = well below.calm ids members list harmless g.group listed running;
         xs = [];
         front = [];
         expected = Only (id_of ready.sender.ids Alloc 0);
         pair = record {
           sender = ready.sender;
           sender_up = record { status = ready.sends; quiet = record { faults = of_n.faults; calls = of_n.disk } };
-          sender_is = is_server below ids members list harmless g.n ready.sender (listed g.n g.in_n) ready.sends;
+          sender_is = is_server below.calm ids members list harmless g.n ready.sender (listed g.n g.in_n) ready.sends;
           sessions = ready.device.sessions;
           now = ready.device.asking.moment;
           hears = record { device = ready.device; there = ready.there; has = refl; reads = refl };
@@ -321,7 +321,7 @@ module _ (below : ServiceGrounds) (ids : List ℕ) (members : AreMembers ids) (l
       goes : IsGoingOn g at_there.0.at at_there.0 then_w
       goes = goes_on_from g at_there.0 then_w at_there.2 settled_there wound small (no_id at_there.2.device at_there.2.there)
 
-      silent : (m : ℕ) (i : In (OfMember m) group) → m ≢ n → IsSilent (calm_laws below) group clocks pace m (g.nodes m i) (at_there.0.at + clocks (OfMember m)) then_w
+      silent : (m : ℕ) (i : In (OfMember m) group) → m ≢ n → IsSilent (calm_laws below.calm) group clocks pace m (g.nodes m i) (at_there.0.at + clocks (OfMember m)) then_w
       silent m i differ = silent_there g at_there.0 then_w at_there.2 settled_there wound small (no_id at_there.2.device at_there.2.there) m i
           (subst (λ (k : ℕ). HasNothingToSay m (k + clocks (OfMember m)) then_w) (sym at_there.1) (others m i differ))
 

@@ -31,7 +31,8 @@ use Rattle.cluster_calm.proofs.Pair.{AreShort, Expected, Next, made_none, made_o
 use Rattle.cluster_calm.proofs.Pending.{Coming, Made}
 use Rattle.cluster_calm.proofs.Ways.{Flying}
 use Rattle.calm_service.proofs.DialogScene.{Begins, Known, PairOf, Scene, Talk, brought_bears, fly_on, in_two, next_to, none_ends, one_comes, yes_number}
-use Rattle.calm_service.proofs.ServiceGrounds.{calm_laws, session_laws}
+use Rattle.cluster_calm.proofs.Grounds.{calm_laws}
+use Rattle.calm_service.proofs.ServiceGrounds.{session_laws}
 use Rattle.cluster_spec.specs.Cluster.{Cluster, after_row, arrival_at, frame_at, step_of}
 
 -- three frames have 19 bytes of a payload at most
@@ -73,8 +74,8 @@ module _ (g : Talk) where
   -- no Allocation that is under way was made more than two delays ago
   pub road_late : (accepted : List Accepted) (xs : List Made) (cs ss : List Coming) (traffic : Traffic) (w : Cluster) → (s : Road accepted xs cs ss traffic w) → (at_ : ℕ)
       → IsInTime g.group g.clocks g.pace traffic w at_ → (x : Made) → In x xs → at_ ≤ x.at + 2 * g.pace.delay
-  road_late accepted xs cs ss traffic w s at_ in_time = not_late (calm_laws g.below) g.group g.clocks g.pace g.nodes g.n g.in_n (OfDevice g.a) g.in_a refl device_receiver Alloc 0 g.base (in_two g)
-      refl refl (inr refl) refl (device_wants (calm_laws g.below).frame g.n (g.nodes g.n g.in_n)) (Begins g) (IsCounter Alloc 0) (λ t expected mode. mode)
+  road_late accepted xs cs ss traffic w s at_ in_time = not_late (calm_laws g.below.calm) g.group g.clocks g.pace g.nodes g.n g.in_n (OfDevice g.a) g.in_a refl device_receiver Alloc 0 g.base (in_two g)
+      refl refl (inr refl) refl (device_wants (calm_laws g.below.calm).frame g.n (g.nodes g.n g.in_n)) (Begins g) (IsCounter Alloc 0) (λ t expected mode. mode)
       (IsListening g.a) (DeliversTo g.a) (DeviceHasMemory g.a) (device_hears (session_laws g.below) g.group g.clocks g.pace g.n g.a) traffic w xs s.front s.expected s.pair at_ in_time
 
   -- ---- the Allocations of the leader, in any row
@@ -83,8 +84,8 @@ module _ (g : Talk) where
       (at_ : ℕ) (row : Row) (in_time : IsInTime g.group g.clocks g.pace traffic w at_) (calm : IsCalmRow g.group g.clocks g.pace traffic w at_ row)
       (memory : DeviceHasMemory g.a w) (short : AreFew g.n w row) where
     abbrev pub NextPair : Type 0
-    NextPair = Next (calm_laws g.below) g.group g.clocks g.pace g.nodes g.n g.in_n (OfDevice g.a) g.in_a refl device_receiver Alloc 0 g.base (in_two g) refl refl (inr refl) refl
-        (device_wants (calm_laws g.below).frame g.n (g.nodes g.n g.in_n)) (Begins g) (IsCounter Alloc 0) (λ t expected mode. mode)
+    NextPair = Next (calm_laws g.below.calm) g.group g.clocks g.pace g.nodes g.n g.in_n (OfDevice g.a) g.in_a refl device_receiver Alloc 0 g.base (in_two g) refl refl (inr refl) refl
+        (device_wants (calm_laws g.below.calm).frame g.n (g.nodes g.n g.in_n)) (Begins g) (IsCounter Alloc 0) (λ t expected mode. mode)
         (IsListening g.a) (DeliversTo g.a) (DeviceHasMemory g.a) (device_hears (session_laws g.below) g.group g.clocks g.pace g.n g.a)
         traffic w xs front expected pair at_ in_time row (λ e. ⊤)
 
@@ -107,8 +108,8 @@ module _ (g : Talk) where
     few event is_step o i = let s = sends_it event is_step o i in three_frames (length o.payload) (short o s.0 s.1)
 
     pub next_pair : NextPair
-    next_pair = next_row (calm_laws g.below) g.group g.clocks g.pace g.nodes g.n g.in_n (OfDevice g.a) g.in_a refl device_receiver Alloc 0 g.base (in_two g) refl refl (inr refl) refl
-        (device_wants (calm_laws g.below).frame g.n (g.nodes g.n g.in_n)) (Begins g) (IsCounter Alloc 0) (λ t expected mode. mode)
+    next_pair = next_row (calm_laws g.below.calm) g.group g.clocks g.pace g.nodes g.n g.in_n (OfDevice g.a) g.in_a refl device_receiver Alloc 0 g.base (in_two g) refl refl (inr refl) refl
+        (device_wants (calm_laws g.below.calm).frame g.n (g.nodes g.n g.in_n)) (Begins g) (IsCounter Alloc 0) (λ t expected mode. mode)
         (IsListening g.a) (DeliversTo g.a) (DeviceHasMemory g.a) (device_hears (session_laws g.below) g.group g.clocks g.pace g.n g.a)
         traffic w xs front expected pair at_ in_time memory well (λ e. ⊤) row calm
         (λ event is_step bus.
@@ -128,7 +129,7 @@ module _ (g : Talk) where
     then_w = after_row w row
 
     well_then : AreWell g.group then_w
-    well_then = well_after (calm_laws g.below) g.group g.nodes w s.well g.clocks g.pace traffic at_ row calm
+    well_then = well_after (calm_laws g.below.calm) g.group g.nodes w s.well g.clocks g.pace traffic at_ row calm
 
     -- ---- what comes to the device
 

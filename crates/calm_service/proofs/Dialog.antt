@@ -20,7 +20,7 @@ use Rattle.calm_service.proofs.DialogScene.{BringsNone, Known, Talk}
 use Rattle.cluster_calm.proofs.Group.{AreWell, well_after}
 use Rattle.cluster_calm.proofs.Ways.{flying_late}
 use Rattle.cluster_recovery.proofs.CalmDevice.{device_as}
-use Rattle.calm_service.proofs.ServiceGrounds.{calm_laws}
+use Rattle.cluster_calm.proofs.Grounds.{calm_laws}
 use Rattle.cluster_spec.specs.Cluster.{Cluster, after_row, after_rows}
 
 module _ (g : Talk) where
@@ -104,10 +104,10 @@ module _ (g : Talk) where
 
   -- who brings a frame of an Allocation to the bus is n
   brings : (traffic : Traffic) (w : Cluster) (at_ : ℕ)
-      → ((m : ℕ) (i : In (OfMember m) g.group) → m ≢ g.n → IsSilent (calm_laws g.below) g.group g.clocks g.pace m (g.nodes m i) (traffic.at + g.clocks (OfMember m)) w)
+      → ((m : ℕ) (i : In (OfMember m) g.group) → m ≢ g.n → IsSilent (calm_laws g.below.calm) g.group g.clocks g.pace m (g.nodes m i) (traffic.at + g.clocks (OfMember m)) w)
       → (row : Row) → IsCalmRow g.group g.clocks g.pace traffic w at_ row → BringsNone g.n w row
   brings traffic w at_ silent (Send p) calm =
-      λ differ frame e. brings_none (calm_laws g.below) g.group g.clocks g.pace p (g.nodes p calm.0) (traffic.at + g.clocks (OfMember p)) w (silent p calm.0 differ) frame e
+      λ differ frame e. brings_none (calm_laws g.below.calm) g.group g.clocks g.pace p (g.nodes p calm.0) (traffic.at + g.clocks (OfMember p)) w (silent p calm.0 differ) frame e
   brings traffic w at_ silent (Tick p ms word) calm = tt
   brings traffic w at_ silent (Rx p k ms) calm = tt
   brings traffic w at_ silent (ATick b ms word) calm = tt
@@ -121,7 +121,7 @@ module _ (g : Talk) where
   brings traffic w at_ silent (AEnd b) calm = tt
 
   pub all_known : (term : ℕ) (rows : List Timed) (traffic : Traffic) (w : Cluster) → AreWell g.group w → AreCalm g.group g.clocks g.pace traffic w rows
-      → ((m : ℕ) (i : In (OfMember m) g.group) → m ≢ g.n → IsSilent (calm_laws g.below) g.group g.clocks g.pace m (g.nodes m i) (traffic.at + g.clocks (OfMember m)) w)
+      → ((m : ℕ) (i : In (OfMember m) g.group) → m ≢ g.n → IsSilent (calm_laws g.below.calm) g.group g.clocks g.pace m (g.nodes m i) (traffic.at + g.clocks (OfMember m)) w)
       → ((front rest : List Timed) → rows ≡ front ++ rest → (m : ℕ) → In (OfMember m) g.group → m ≢ g.n → FollowsWithin m term (after_rows w (rows_in front)))
       → Throughout (DeviceHasMemory g.a) w rows → Throughout (HasRoomToTell g.n) w rows
       → ((front rest : List Timed) (timed : Timed) → rows ≡ front ++ timed ∷ rest → (accepted : List Accepted)
@@ -136,8 +136,8 @@ module _ (g : Talk) where
       room = room.0;
       others = brings traffic w first.at silent first.row calm.1;
     },
-    all_known term rows (traffic_after traffic w first) (after_row w first.row) (well_after (calm_laws g.below) g.group g.nodes w well g.clocks g.pace traffic first.at first.row calm.1) calm.2
-        (λ m i differ. silent_on (calm_laws g.below) g.group g.clocks g.pace m (g.nodes m i) traffic w first.at term well (silent m i differ) calm.0.moments
+    all_known term rows (traffic_after traffic w first) (after_row w first.row) (well_after (calm_laws g.below.calm) g.group g.nodes w well g.clocks g.pace traffic first.at first.row calm.1) calm.2
+        (λ m i differ. silent_on (calm_laws g.below.calm) g.group g.clocks g.pace m (g.nodes m i) traffic w first.at term well (silent m i differ) calm.0.moments
         (led [] (first ∷ rows) refl m i differ) first.row calm.1 (led (first ∷ []) rows refl m i differ))
         (λ front rest e. led (first ∷ front) rest (ap (λ (l : List Timed). first ∷ l) e))
         memory.1 room.1

@@ -34,7 +34,7 @@ use Rattle.cluster_calm.proofs.Group.{AreWell, sent_own}
 use Rattle.cluster_calm.proofs.Pair.{in_ones, is_one_of, made_of, made_one, out_ones, same_event, same_server}
 use Rattle.cluster_calm.proofs.Pending.{Coming, Made}
 use Rattle.cluster_calm.proofs.Ways.{Flying}
-use Rattle.calm_service.proofs.ServiceGrounds.{calm_laws}
+use Rattle.cluster_calm.proofs.Grounds.{calm_laws}
 use Rattle.cluster_spec.specs.Cluster.{Cluster, after_row, arrival_at, frame_at, receipt_of, step_of}
 
 -- ---- the only Allocation of a step
@@ -95,14 +95,14 @@ module _ (g : Talk) where
     frames_on (Rx p k ms) calm other = elim (eqb_tells p g.n) [
       | inl z ↦ subst (λ (q : ℕ). IsCalmRow g.group g.clocks g.pace traffic w at_ (Rx q k ms) → (receives (Rx q k ms) (OfMember g.n) ≡ true) → Out (Rx q k ms)) (sym z.1)
           (λ calm_ is. elim (one_comes g.group g.clocks g.pace (OfMember g.n) HasSource cs traffic w at_ flying (Rx g.n k ms) is refl k calm_.2) [
-            | inl source ↦ inl (not_asked (calm_laws g.below).frame g.n w k ms source.0, source.1)
+            | inl source ↦ inl (not_asked (calm_laws g.below.calm).frame g.n w k ms source.0, source.1)
             | inr own ↦ inr (k, ms, refl, own.0, own.1, own.2, own.3, own.4)
           ]) calm z.0
       | inr z ↦ inl (λ message is. z.1 (cc (is.comes.comes)), flies (Rx p k ms) calm z.0 (λ f e. absurd (cc (e))))
     ]
     frames_on (Send p) calm other = inl (
       λ message is. cc (is.comes.comes),
-      flies (Send p) calm refl (λ f e. has_source (calm_laws g.below).frame p f (g.nodes p calm.0) (sent_own (calm_laws g.below) p (w.member p) f (well.members p calm.0) e)),
+      flies (Send p) calm refl (λ f e. has_source (calm_laws g.below.calm).frame p f (g.nodes p calm.0) (sent_own (calm_laws g.below.calm) p (w.member p) f (well.members p calm.0) e)),
     )
     frames_on (ATick b ms word) calm other = inl (λ message is. cc (is.comes.comes), flies (ATick b ms word) calm refl (λ f e. absurd (cc (e))))
     frames_on (ARx b k ms word) calm other = inl (λ message is. cc (is.comes.comes), flies (ARx b k ms word) calm refl (λ f e. absurd (cc (e))))
@@ -159,7 +159,7 @@ module _ (g : Talk) where
 
       offered_is : offered g accepted [] cs traffic w s at_ (Rx g.n k ms) in_time calm known (receipt_of w k ms) ≡ allocation_from t node bytes ∷ []
       offered_is = only_one (step s.pair.sender (w.rows + 1) (receipt_of w k ms)).step_state.offers (allocation_from t node bytes)
-          (g.below.apart s.pair.sender (w.rows + 1) (receipt_of w k ms))
+          (g.below.calm.apart s.pair.sender (w.rows + 1) (receipt_of w k ms))
           (subst (λ (u : AllocatorState). In (allocation_from t node bytes) (step u (w.rows + 1) (receipt_of w k ms)).step_state.offers) (sym same)
           (subst (λ (l : List Offer). In (allocation_from t node bytes) l) (sym first.is) (inl refl)))
           (is_one_of Alloc 0 (allocation_from t node bytes) refl refl refl)

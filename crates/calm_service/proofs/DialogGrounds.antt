@@ -20,7 +20,7 @@ use Rattle.calm_service.proofs.Dialog.{AllKnown, all_known}
 use Rattle.calm_service.proofs.DialogOthers.{IsSilent, is_silent}
 use Rattle.calm_service.proofs.DialogPhases.{Phase}
 use Rattle.calm_service.proofs.DialogScene.{Talk}
-use Rattle.calm_service.proofs.ServiceGrounds.{calm_laws, is_server, well}
+use Rattle.cluster_calm.proofs.Grounds.{calm_laws, is_server, well}
 use Rattle.cluster_spec.specs.Cluster.{AreMembers, Cluster, cluster, world_of}
 use Rattle.cluster_spec.specs.Lawful.{DoNoHarm}
 
@@ -56,12 +56,12 @@ module _ (below : ServiceGrounds) (ids : List ℕ) (rows : List Row) (members : 
   }
 
   -- the others are silent
-  are_silent : (m : ℕ) (i : In (OfMember m) group) → m ≢ n → IsSilent (calm_laws below) group clocks pace m (talk.nodes m i) (start + clocks (OfMember m)) w
+  are_silent : (m : ℕ) (i : In (OfMember m) group) → m ≢ n → IsSilent (calm_laws below.calm) group clocks pace m (talk.nodes m i) (start + clocks (OfMember m)) w
   are_silent m i differ =
       let of_m = under.running m i in
-      is_silent (calm_laws below) group clocks pace m (talk.nodes m i) (start + clocks (OfMember m)) w of_m.server
+      is_silent (calm_laws below.calm) group clocks pace m (talk.nodes m i) (start + clocks (OfMember m)) w of_m.server
       (record { status = of_m.runs; quiet = record { faults = of_m.faults; calls = of_m.disk } })
-      (is_server below ids members rows harmless m of_m.server (under.listed m i) of_m.runs) (come.others m i differ)
+      (is_server below.calm ids members rows harmless m of_m.server (under.listed m i) of_m.runs) (come.others m i differ)
 
   -- the device waits
   pub begins : Phase talk (no_traffic start) w
@@ -75,13 +75,13 @@ module _ (below : ServiceGrounds) (ids : List ℕ) (rows : List Row) (members : 
           accepted = come.settled.server.accepted;
           scene = record {
             settled = record { settled = come.settled; requests = refl };
-            well = well below ids members rows harmless group under.listed under.running;
+            well = well below.calm ids members rows harmless group under.listed under.running;
             front = [];
             expected = Only (id_of come.settled.server.ids Alloc 0);
             pair = record {
               sender = come.settled.server;
               sender_up = record { status = come.settled.runs; quiet = record { faults = come.settled.faults; calls = come.settled.disk } };
-              sender_is = is_server below ids members rows harmless n come.settled.server (under.listed n under.member) come.settled.runs;
+              sender_is = is_server below.calm ids members rows harmless n come.settled.server (under.listed n under.member) come.settled.runs;
               sessions = [];
               now = start + clocks (OfDevice a);
               hears = record {
@@ -131,7 +131,7 @@ module _ (below : ServiceGrounds) (ids : List ℕ) (rows : List Row) (members : 
   -- what is known of each row
   pub known : AllKnown talk start w whole
   known = all_known talk term whole (no_traffic start) w
-      (well below ids members rows harmless group under.listed under.running) under.calm
+      (well below.calm ids members rows harmless group under.listed under.running) under.calm
       are_silent
       (λ front rest e m i differ. (under.led front rest e).others m i differ) undisturbed.memory undisturbed.room
       (λ front rest timed e accepted is. leaves group clocks pace start n term log accepted [] front rest timed

@@ -36,7 +36,8 @@ use Rattle.cluster_calm.proofs.Pair.{AreNews, AreShort, Expected, IsNotLast, Nex
 use Rattle.cluster_calm.proofs.Pending.{Coming, Made}
 use Rattle.cluster_calm.proofs.Ways.{Flying, flying_more, flying_other}
 use Rattle.calm_service.specs.ServiceBelow.{ServiceGrounds}
-use Rattle.calm_service.proofs.ServiceGrounds.{calm_laws, session_laws}
+use Rattle.cluster_calm.proofs.Grounds.{calm_laws}
+use Rattle.calm_service.proofs.ServiceGrounds.{session_laws}
 use Rattle.cluster_spec.specs.Allocatees.{next_from}
 use Rattle.cluster_spec.specs.Cluster.{Cluster, after_row, arrival_at, frame_at, in_list, step_of}
 use Rattle.cluster_spec.specs.Members.{next_frame}
@@ -171,8 +172,8 @@ module _ (g : Talk) where
 
   -- these Allocations of the leader are under way to the device
   abbrev pub PairOf : Traffic → Cluster → List Made → List Coming → Expected → Type 0
-  PairOf = Pair (calm_laws g.below) g.group g.clocks g.pace g.nodes g.n g.in_n (OfDevice g.a) g.in_a refl device_receiver Alloc 0 g.base in_two refl refl (inr refl) refl
-      (device_wants (calm_laws g.below).frame g.n (g.nodes g.n g.in_n)) Begins (IsCounter Alloc 0) (λ t expected mode. mode)
+  PairOf = Pair (calm_laws g.below.calm) g.group g.clocks g.pace g.nodes g.n g.in_n (OfDevice g.a) g.in_a refl device_receiver Alloc 0 g.base in_two refl refl (inr refl) refl
+      (device_wants (calm_laws g.below.calm).frame g.n (g.nodes g.n g.in_n)) Begins (IsCounter Alloc 0) (λ t expected mode. mode)
       (IsListening g.a) (DeliversTo g.a) (DeviceHasMemory g.a) (device_hears (session_laws g.below) g.group g.clocks g.pace g.n g.a)
 
   -- The leader has settled, and accepted these requests; these Allocations are under way, and these requests on their way.
@@ -188,8 +189,8 @@ module _ (g : Talk) where
   -- no Allocation that is under way was made more than two delays ago
   pub scene_late : (accepted : List Accepted) (xs : List Made) (cs : List Coming) (traffic : Traffic) (w : Cluster) → (s : Scene accepted xs cs traffic w) → (at_ : ℕ)
       → IsInTime g.group g.clocks g.pace traffic w at_ → (x : Made) → In x xs → at_ ≤ x.at + 2 * g.pace.delay
-  scene_late accepted xs cs traffic w s at_ in_time = not_late (calm_laws g.below) g.group g.clocks g.pace g.nodes g.n g.in_n (OfDevice g.a) g.in_a refl device_receiver Alloc 0 g.base in_two
-      refl refl (inr refl) refl (device_wants (calm_laws g.below).frame g.n (g.nodes g.n g.in_n)) Begins (IsCounter Alloc 0) (λ t expected mode. mode)
+  scene_late accepted xs cs traffic w s at_ in_time = not_late (calm_laws g.below.calm) g.group g.clocks g.pace g.nodes g.n g.in_n (OfDevice g.a) g.in_a refl device_receiver Alloc 0 g.base in_two
+      refl refl (inr refl) refl (device_wants (calm_laws g.below.calm).frame g.n (g.nodes g.n g.in_n)) Begins (IsCounter Alloc 0) (λ t expected mode. mode)
       (IsListening g.a) (DeliversTo g.a) (DeviceHasMemory g.a) (device_hears (session_laws g.below) g.group g.clocks g.pace g.n g.a) traffic w xs s.front s.expected s.pair at_ in_time
 
   -- what is known of a row
@@ -212,7 +213,7 @@ module _ (g : Talk) where
     -- a frame that goes to the bus
     pub brought_bears : (r : Row) → IsCalmRow g.group g.clocks g.pace traffic w at_ r → BringsNone g.n w r → (f : Queued) → brought w r ≡ Some f
         → sends r (OfDevice g.a) ≡ false → IsBearable g.n f
-    brought_bears (Send p) c none f e other = is_bearable (calm_laws g.below).frame g.n p f (g.nodes p c.0) (sent_own (calm_laws g.below) p (w.member p) f (well.members p c.0) e)
+    brought_bears (Send p) c none f e other = is_bearable (calm_laws g.below.calm).frame g.n p f (g.nodes p c.0) (sent_own (calm_laws g.below.calm) p (w.member p) f (well.members p c.0) e)
         (λ differ. none differ f e)
     brought_bears (ASend b) c none f e other = absurd (cc (other, yes_number b g.a (g.alone b c.0)))
     brought_bears (Tick p ms word) c none f e other = absurd (cc (e))
@@ -250,18 +251,18 @@ module _ (g : Talk) where
     gives_none_by Continues f = tt
     gives_none_by (Drops why) f = tt
 
-    pub none_ends : IsNotLast (calm_laws g.below) g.group g.clocks g.pace g.nodes g.n g.in_n (OfDevice g.a) g.in_a refl device_receiver Alloc 0 g.base in_two refl refl (inr refl) refl
-        (device_wants (calm_laws g.below).frame g.n (g.nodes g.n g.in_n)) Begins (IsCounter Alloc 0) (λ t expected mode. mode)
+    pub none_ends : IsNotLast (calm_laws g.below.calm) g.group g.clocks g.pace g.nodes g.n g.in_n (OfDevice g.a) g.in_a refl device_receiver Alloc 0 g.base in_two refl refl (inr refl) refl
+        (device_wants (calm_laws g.below.calm).frame g.n (g.nodes g.n g.in_n)) Begins (IsCounter Alloc 0) (λ t expected mode. mode)
         (IsListening g.a) (DeliversTo g.a) (DeviceHasMemory g.a) (device_hears (session_laws g.below) g.group g.clocks g.pace g.n g.a)
         traffic w xs front expected pair at_ in_time row (λ e. ⊤) → (k : ℕ) → IsNext k (traffic.to (OfDevice g.a)) → receives row (OfDevice g.a) ≡ true
         → IsBearable g.n (frame_at w.frames k) → (sessions : List Session) (moment : ℕ) → GivesNone (answer setting sessions (arrival_at (frame_at w.frames k) moment))
     none_ends frames k next is_to bears sessions moment = elim (eqb_tells (frame_at w.frames k).id number) [
       | inl own ↦ gives_none_by (answer setting sessions (arrival_at (frame_at w.frames k) moment))
-          (gives_none_yet (calm_laws g.below).frame g.n (g.nodes g.n g.in_n) (frame_at w.frames k) sessions moment own.1
+          (gives_none_yet (calm_laws g.below.calm).frame g.n (g.nodes g.n g.in_n) (frame_at w.frames k) sessions moment own.1
           (elim (frames k next is_to) [
             | inl other ↦ absurd (other.0 own.1)
             | inr x ↦ ap (λ (f : Queued). (read f).tail.end) x.6
-                ∙ not_last (calm_laws g.below).cutting x.0 (pair.ones_are x.0 (subst (λ (l : List Made). In x.0 l) (sym x.5) (inl refl))).id x.2 x.4 x.3 x.8 x.7
+                ∙ not_last (calm_laws g.below.calm).cutting x.0 (pair.ones_are x.0 (subst (λ (l : List Made). In x.0 l) (sym x.5) (inl refl))).id x.2 x.4 x.3 x.8 x.7
           ]))
       | inr other ↦ subst GivesNone (sym (drops_it g.n (frame_at w.frames k) sessions moment bears other.1)) tt
     ]
@@ -276,7 +277,7 @@ module _ (g : Talk) where
     then_w = after_row w row
 
     pub well_then : AreWell g.group then_w
-    well_then = well_after (calm_laws g.below) g.group g.nodes w s.well g.clocks g.pace traffic at_ row calm
+    well_then = well_after (calm_laws g.below.calm) g.group g.nodes w s.well g.clocks g.pace traffic at_ row calm
 
     -- what comes to the device is bearable
     abbrev BearsThen : Type 0
@@ -301,8 +302,8 @@ module _ (g : Talk) where
     Rest e = ⊤
 
     abbrev NextOf : Type 0
-    NextOf = Next (calm_laws g.below) g.group g.clocks g.pace g.nodes g.n g.in_n (OfDevice g.a) g.in_a refl device_receiver Alloc 0 g.base in_two refl refl (inr refl) refl
-        (device_wants (calm_laws g.below).frame g.n (g.nodes g.n g.in_n)) Begins (IsCounter Alloc 0) (λ t expected mode. mode)
+    NextOf = Next (calm_laws g.below.calm) g.group g.clocks g.pace g.nodes g.n g.in_n (OfDevice g.a) g.in_a refl device_receiver Alloc 0 g.base in_two refl refl (inr refl) refl
+        (device_wants (calm_laws g.below.calm).frame g.n (g.nodes g.n g.in_n)) Begins (IsCounter Alloc 0) (λ t expected mode. mode)
         (IsListening g.a) (DeliversTo g.a) (DeviceHasMemory g.a) (device_hears (session_laws g.below) g.group g.clocks g.pace g.n g.a)
         traffic w xs s.front s.expected s.pair at_ in_time row Rest
 
@@ -325,8 +326,8 @@ module _ (g : Talk) where
         )
 
     pub next_pair : ((event : Event) → step_of w row ≡ Some (g.n, event) → AreShort 19 (offered event)) → NextOf
-    next_pair short = next_row (calm_laws g.below) g.group g.clocks g.pace g.nodes g.n g.in_n (OfDevice g.a) g.in_a refl device_receiver Alloc 0 g.base in_two refl refl (inr refl) refl
-        (device_wants (calm_laws g.below).frame g.n (g.nodes g.n g.in_n)) Begins (IsCounter Alloc 0) (λ t expected mode. mode)
+    next_pair short = next_row (calm_laws g.below.calm) g.group g.clocks g.pace g.nodes g.n g.in_n (OfDevice g.a) g.in_a refl device_receiver Alloc 0 g.base in_two refl refl (inr refl) refl
+        (device_wants (calm_laws g.below.calm).frame g.n (g.nodes g.n g.in_n)) Begins (IsCounter Alloc 0) (λ t expected mode. mode)
         (IsListening g.a) (DeliversTo g.a) (DeviceHasMemory g.a) (device_hears (session_laws g.below) g.group g.clocks g.pace g.n g.a)
         traffic w xs s.front s.expected s.pair at_ in_time known.memory s.well Rest row calm
         (λ event is_step bus.
@@ -385,8 +386,8 @@ module _ (g : Talk) where
           at_end [] = refl
           at_end (x ∷ l) = ap (λ (k : List Made). x ∷ k) (at_end l)
 
-          none_more : (more : List Made) → AreNews (calm_laws g.below) g.group g.clocks g.pace g.nodes g.n g.in_n (OfDevice g.a) g.in_a refl device_receiver Alloc 0 g.base in_two refl refl (inr refl) refl
-              (device_wants (calm_laws g.below).frame g.n (g.nodes g.n g.in_n)) Begins (IsCounter Alloc 0) (λ t expected mode. mode)
+          none_more : (more : List Made) → AreNews (calm_laws g.below.calm) g.group g.clocks g.pace g.nodes g.n g.in_n (OfDevice g.a) g.in_a refl device_receiver Alloc 0 g.base in_two refl refl (inr refl) refl
+              (device_wants (calm_laws g.below.calm).frame g.n (g.nodes g.n g.in_n)) Begins (IsCounter Alloc 0) (λ t expected mode. mode)
               (IsListening g.a) (DeliversTo g.a) (DeviceHasMemory g.a) (device_hears (session_laws g.below) g.group g.clocks g.pace g.n g.a)
               traffic w xs s.front s.expected s.pair at_ in_time row Rest more → more ≡ []
           none_more more news = by (step_of w row) refl
@@ -400,8 +401,8 @@ module _ (g : Talk) where
                 | inr other ↦ news.1 (λ its is_step. other.1 (same_stepper p g.n event its (sym e ∙ is_step)))
               ]
 
-          nothing : IsNotLast (calm_laws g.below) g.group g.clocks g.pace g.nodes g.n g.in_n (OfDevice g.a) g.in_a refl device_receiver Alloc 0 g.base in_two refl refl (inr refl) refl
-              (device_wants (calm_laws g.below).frame g.n (g.nodes g.n g.in_n)) Begins (IsCounter Alloc 0) (λ t expected mode. mode)
+          nothing : IsNotLast (calm_laws g.below.calm) g.group g.clocks g.pace g.nodes g.n g.in_n (OfDevice g.a) g.in_a refl device_receiver Alloc 0 g.base in_two refl refl (inr refl) refl
+              (device_wants (calm_laws g.below.calm).frame g.n (g.nodes g.n g.in_n)) Begins (IsCounter Alloc 0) (λ t expected mode. mode)
               (IsListening g.a) (DeliversTo g.a) (DeviceHasMemory g.a) (device_hears (session_laws g.below) g.group g.clocks g.pace g.n g.a)
               traffic w xs s.front s.expected s.pair at_ in_time row Rest → NothingGiven
           nothing frames k ms word is sessions moment = none_ends traffic w xs s.front s.expected s.pair at_ in_time row frames k next is_to (bears_comes is_to k next same_frames).0 sessions moment

@@ -43,7 +43,7 @@ module _ (below : ServiceGrounds) (group : List Party) (clocks : Party → ℕ) 
       (accepted : List Accepted) → IsLed group n term w → Lists w → MissesNobody n w timed.row → LeadsWith n log accepted (clock moment) w
       → KeepsLog n log accepted (clock timed.at) w timed.row
   row_keeps moment w timed rest h harm accepted led lists missed is =
-      keeps_log below.frame group clocks pace n term log accepted (clock moment) timed.at h.traffic w
+      keeps_log below.calm.frame group clocks pace n term log accepted (clock moment) timed.at h.traffic w
       (nodes below group clocks pace ids members listed) member h.flies lists
       (omega (arith, h.calm.0.moments, h.at_end)) is.server (in_office n term log accepted (clock moment) w is led.leader)
       (its_me below group clocks pace ids members listed n term log member moment w timed rest h harm is.server is.runs) timed.row h.calm.1

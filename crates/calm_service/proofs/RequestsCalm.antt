@@ -35,7 +35,7 @@ use Rattle.calm_service.proofs.TidyRows.{Does, does}
 use Rattle.calm_service.proofs.TidyRows.Does.{Hears, Sends, Stays, Ticks}
 use Rattle.calm_service.specs.ServiceBelow.{ServiceGrounds}
 use Rattle.calm_service.proofs.RequestsHeard.{all_hear}
-use Rattle.calm_service.proofs.ServiceGrounds.{calm_laws, well}
+use Rattle.cluster_calm.proofs.Grounds.{calm_laws, well}
 use Rattle.calm_leader.proofs.FramesFly.{Fly, fly_after, next_is}
 use Rattle.calm_leader.proofs.HeardIdents.{is_wanted}
 use Rattle.cluster_spec.specs.Allocatees.{next_from}
@@ -162,12 +162,12 @@ module _ (below : ServiceGrounds) (ids : List ℕ) (members : AreMembers ids) (r
     nodes : (p : ℕ) → In (OfMember p) group → (1 ≤ p) × (p ≤ 125)
     nodes p i = members.nodes p (is.listed p i)
 
-    begun : AreTelling (calm_laws below) below.requests group nodes clocks pace a is.alone uid is.size (no_traffic start) (world_of ids rows)
-    begun = record { well = well below ids members rows harmless group is.listed is.running; flies = λ party. refl; begins = is.begins; device = is.device }
+    begun : AreTelling (calm_laws below.calm) below.requests group nodes clocks pace a is.alone uid is.size (no_traffic start) (world_of ids rows)
+    begun = record { well = well below.calm ids members rows harmless group is.listed is.running; flies = λ party. refl; begins = is.begins; device = is.device }
 
     telling_at : (front rest : List Timed) → all ≡ front ++ rest
-        → (later : Traffic) × AreTelling (calm_laws below) below.requests group nodes clocks pace a is.alone uid is.size later (after_rows (world_of ids rows) (rows_in front))
-    telling_at front rest split = telling_on (calm_laws below) below.requests group nodes clocks pace a is.alone uid is.size front rest (no_traffic start) (world_of ids rows)
+        → (later : Traffic) × AreTelling (calm_laws below.calm) below.requests group nodes clocks pace a is.alone uid is.size later (after_rows (world_of ids rows) (rows_in front))
+    telling_at front rest split = telling_on (calm_laws below.calm) below.requests group nodes clocks pace a is.alone uid is.size front rest (no_traffic start) (world_of ids rows)
         (subst (AreCalm group clocks pace (no_traffic start) (world_of ids rows)) split is.calm)
         (subst (AllHearParts a (world_of ids rows)) split (hears a all is.harmless)) begun
 
@@ -180,5 +180,5 @@ module _ (below : ServiceGrounds) (ids : List ℕ) (members : AreMembers ids) (r
 
   pub wholes_are : WholeIsTheDevices ids rows
   wholes_are group clocks pace start a m uid front rest timed message follows other preferred is i asked =
-      whole_on (calm_laws below) below.requests group (nodes group clocks pace start a uid (front ++ timed ∷ rest) is) clocks pace a is.alone uid is.size m i message follows other preferred front rest timed
+      whole_on (calm_laws below.calm) below.requests group (nodes group clocks pace start a uid (front ++ timed ∷ rest) is) clocks pace a is.alone uid is.size m i message follows other preferred front rest timed
       (no_traffic start) (world_of ids rows) is.calm (hears a (front ++ timed ∷ rest) is.harmless) (begun group clocks pace start a uid (front ++ timed ∷ rest) is) asked

@@ -34,7 +34,7 @@ use Rattle.calm_service.proofs.AllocationsMade.{AllMadeSized, all_made_sized}
 use Rattle.calm_service.proofs.RequestsRows.{AllHearParts, HearsParts, HoldsAt, IsTelling, telling_on}
 use Rattle.calm_service.specs.ServiceBelow.{ServiceGrounds}
 use Rattle.calm_leader.proofs.TermsHeard.{IsOfRun}
-use Rattle.calm_service.proofs.ServiceGrounds.{of_run}
+use Rattle.calm_leader.proofs.TermsRun.{of_run}
 use Rattle.cluster_spec.specs.Cluster.{AreMembers, Cluster, after_row, after_rows, arrival_at, cluster, frame_at, world_of}
 use Rattle.cluster_spec.specs.Lawful.{DoNoHarm, DoesNoHarm, absent, arrival_refusal_at, cause, no_allocatee, no_such_frame, or_else}
 
@@ -70,7 +70,7 @@ module _ (below : ServiceGrounds) where
           (subst (λ (o : Option Device). arrival_refusal_at o (arrival_at (frame_at w.frames k) ms) ≡ None) there second.1)
 
       its : IsDelivered device.setting x.sessions (at_step x (arrival_at (frame_at w.frames k) ms)) d
-      its = below.frame.delivered device.setting x.sessions (at_step x (arrival_at (frame_at w.frames k) ms)) d gives
+      its = below.calm.frame.delivered device.setting x.sessions (at_step x (arrival_at (frame_at w.frames k) ms)) d gives
 
       wants : IsWanted device.rows 0 (at_step x (arrival_at (frame_at w.frames k) ms)).id its.w.ident
       wants = wanted_is device.rows 0 (at_step x (arrival_at (frame_at w.frames k) ms)).id its.w its.accepted
@@ -83,7 +83,7 @@ module _ (below : ServiceGrounds) where
       came = record { frame = frame_at w.frames k; there = stands w k second.0; id = refl; bytes = refl; mark = refl }
 
       whose : WasMade made d
-      whose = was_made below.frame w.ids (λ n i. (members.nodes n i).0) (λ n i. (members.nodes n i).1) made shows.holds.transfers device.setting w.frames shows.bus x.sessions
+      whose = was_made below.calm.frame w.ids (λ n i. (members.nodes n i).0) (λ n i. (members.nodes n i).1) made shows.holds.transfers device.setting w.frames shows.bus x.sessions
           (shows.asking a x there).heard (at_step x (arrival_at (frame_at w.frames k) ms)) came d gives
           (λ torn. ap (λ (m : Mark). m.step) its.mark ∙ below.untorn x (arrival_at (frame_at w.frames k) ms) d fine gives torn)
           (forged_allocation w.ids d.ident broadcast.0 broadcast.1) (inr broadcast.0)
@@ -107,14 +107,14 @@ module _ (below : ServiceGrounds) where
     all_hear [] done w is before harmless = tt
     all_hear (timed ∷ rest) done w is before harmless = (
       subst (λ (v : Cluster). HearsParts a v timed.row) (sym is)
-          (hears_parts run.choice run.made (world_of ids done) run.run (subst AreMembers (sym (below.same (cluster ids) done)) members) run.shows
+          (hears_parts run.choice run.made (world_of ids done) run.run (subst AreMembers (sym (below.calm.same (cluster ids) done)) members) run.shows
           (all_made_sized below ids members done before) a timed.row here),
       all_hear rest (done ++ timed.row ∷ []) (after_row w timed.row) (ap (λ (v : Cluster). after_row v timed.row) is ∙ sym (grown (cluster ids) done timed.row))
           (one_more_harmless (cluster ids) done timed.row before here) harmless.1,
     )
       where
         run : IsOfRun (world_of ids done)
-        run = of_run below ids members done before
+        run = of_run below.calm ids members done before
 
         here : DoesNoHarm (world_of ids done) timed.row
         here = subst (λ (v : Cluster). DoesNoHarm v timed.row) is harmless.0

@@ -17,7 +17,9 @@ use Rattle.calm_service.proofs.SettlesLaw.{IsFitting, is_fitting}
 use Rattle.cluster_spec.specs.Cluster.{AreMembers, Cluster, after_rows, cluster, world_of}
 use Rattle.cluster_spec.specs.Lawful.{DoNoHarm}
 use Rattle.cluster_spec.specs.Members.MemberStatus.{Up}
-use Rattle.calm_service.proofs.ServiceGrounds.{fit, invariants, listed_in, of_run}
+use Rattle.cluster_calm.proofs.Grounds.{invariants, listed_in}
+use Rattle.calm_leader.proofs.TermsRun.{of_run}
+use Rattle.calm_service.proofs.ServiceGrounds.{fit}
 
 module _ (below : ServiceGrounds) where
   pub served_laws : ServedLaws
@@ -33,14 +35,14 @@ module _ (below : ServiceGrounds) where
 
       pub fitting : (n : ℕ) (t : AllocatorState) → In n ids → (w.member n).status ≡ Up t → IsFitting t
       fitting n t listed =
-          let r = of_run below ids members list harmless in
-          is_fitting r.choice r.made w r.run r.shows (invariants below ids members list harmless) (fit below ids members list harmless) n t
-          (listed_in below ids members list n listed)
+          let r = of_run below.calm ids members list harmless in
+          is_fitting r.choice r.made w r.run r.shows (invariants below.calm ids members list harmless) (fit below ids members list harmless) n t
+          (listed_in below.calm ids list n listed)
 
       pub injective : (n : ℕ) → In n ids → (log : List Entry) (now : ℕ) → HasSettled n log now w → IsInjective log
       injective n listed =
-          let r = of_run below ids members list harmless in
-          its_log_is_injective r.choice r.made w r.run r.shows (invariants below ids members list harmless) n (listed_in below ids members list n listed)
+          let r = of_run below.calm ids members list harmless in
+          its_log_is_injective r.choice r.made w r.run r.shows (invariants below.calm ids members list harmless) n (listed_in below.calm ids list n listed)
 
     -- ---- behind a front of more rows
 
@@ -60,10 +62,10 @@ module _ (below : ServiceGrounds) where
           → (p : ℕ) → In p (members_of t) → In p ids
       lists_behind front rest t cut up =
           let list = rows ++ rows_in front in
-          let r = of_run below ids members list (safe front rest cut) in
-          lists_members ids r.choice r.made (world_of ids list) r.run r.shows (below.same (cluster ids) list) n t listed (up_to ids rows n front t up)
+          let r = of_run below.calm ids members list (safe front rest cut) in
+          lists_members ids r.choice r.made (world_of ids list) r.run r.shows (below.calm.same (cluster ids) list) n t listed (up_to ids rows n front t up)
 
       pub agrees : (a term : ℕ) (log : List Entry) (uid : List ℕ) → uid ≢ zeros → AgreesBehind ids n a term log uid (world_of ids rows) whole
-      agrees = agrees_behind ids n (λ list now. below.fits ids list members now) (λ list now. below.headline ids list members now)
-          (λ list now. below.allocatees ids list members now) (λ list. listed_in below ids members list n listed)
+      agrees = agrees_behind ids n (λ list now. below.calm.chosen ids list members now) (λ list now. below.headline ids list members now)
+          (λ list now. below.allocatees ids list members now) (λ list. listed_in below.calm ids list n listed)
           (λ list now t up. (fitting list now n t listed up).commit) rows harmless whole fine

@@ -10,7 +10,7 @@ use Rattle.calm_service.specs.Settled.{AllRowsLeaveItSettled, EachRowLeavesItSet
 use Rattle.calm_service.proofs.SettledStays.{IsReached, harmless_first, missed_first, reach_on, row_leaves, settled_on, unasked_on}
 use Rattle.calm_leader.proofs.Stretches.{world_both}
 use Rattle.calm_service.specs.ServiceBelow.{ServiceGrounds}
-use Rattle.calm_service.proofs.ServiceGrounds.{well}
+use Rattle.cluster_calm.proofs.Grounds.{well}
 use Rattle.cluster_spec.specs.Cluster.{AreMembers, Cluster, after_rows, cluster, world_of}
 use Rattle.cluster_spec.specs.Lawful.{DoNoHarm}
 
@@ -32,7 +32,7 @@ module _ (below : ServiceGrounds) (ids : List ℕ) (members : AreMembers ids) (r
         traffic = no_traffic start;
         calm = under.calm;
         at_end = refl;
-        well = well below ids members rows harmless group under.listed under.running;
+        well = well below.calm ids members rows harmless group under.listed under.running;
         flies = λ party. refl;
       }
 

@@ -27,7 +27,8 @@ use Rattle.calm_service.proofs.SettledLeads.{settles, stays_settled}
 use Rattle.calm_leader.proofs.TermsHeard.{IsOfRun, tells_within}
 use Rattle.calm_leader.proofs.TermsKept.{TellsWithin}
 use Rattle.calm_service.specs.ServiceBelow.{ServiceGrounds}
-use Rattle.calm_service.proofs.ServiceGrounds.{calm_laws, of_run}
+use Rattle.cluster_calm.proofs.Grounds.{calm_laws}
+use Rattle.calm_leader.proofs.TermsRun.{of_run}
 use Rattle.cluster_spec.specs.Cluster.{AreMembers, Cluster, after_row, after_rows, arrival_at, cluster, frame_at, world_of}
 use Rattle.cluster_spec.specs.Lawful.{DoNoHarm, DoesNoHarm}
 use Rattle.cluster_spec.specs.Members.MemberStatus.{Up}
@@ -151,13 +152,13 @@ module _ (below : ServiceGrounds) (group : List Party) (clocks : Party → ℕ) 
       → IsReached timed.at (after_row w timed.row) rest
   after_one moment w timed rest h harm = record {
     rows = h.rows ++ timed.row ∷ [];
-    reached = below.grows (cluster ids) h.rows timed.row ∙ ap (λ (v : Cluster). after_row v timed.row) h.reached;
-    harmless = below.no_harm (cluster ids) h.rows timed.row h.harmless (subst (λ (v : Cluster). DoesNoHarm v timed.row) (sym h.reached) harm);
+    reached = below.calm.grows (cluster ids) h.rows timed.row ∙ ap (λ (v : Cluster). after_row v timed.row) h.reached;
+    harmless = below.calm.no_harm (cluster ids) h.rows timed.row h.harmless (subst (λ (v : Cluster). DoesNoHarm v timed.row) (sym h.reached) harm);
     traffic = traffic_after h.traffic w timed;
     calm = h.calm.2;
     at_end = refl;
-    well = well_after (calm_laws below) group nodes w h.well clocks pace h.traffic timed.at timed.row h.calm.1;
-    flies = λ party. of_group_after group (calm_laws below) nodes clocks pace h.traffic w h.well h.flies timed.at timed.row h.calm.1 party;
+    well = well_after (calm_laws below.calm) group nodes w h.well clocks pace h.traffic timed.at timed.row h.calm.1;
+    flies = λ party. of_group_after group (calm_laws below.calm) nodes clocks pace h.traffic w h.well h.flies timed.at timed.row h.calm.1 party;
   }
 
   -- and any number of rows
@@ -197,18 +198,18 @@ module _ (below : ServiceGrounds) (group : List Party) (clocks : Party → ℕ) 
             ap (λ (u : AllocatorState). u.me) (same_server t its.server (sym runs ∙ its.up.status)) ∙ its.its.me
 
         same_ids : w.ids ≡ ids
-        same_ids = sym (ap (λ (v : Cluster). v.ids) h.reached) ∙ below.same (cluster ids) h.rows
+        same_ids = sym (ap (λ (v : Cluster). v.ids) h.reached) ∙ below.calm.same (cluster ids) h.rows
 
         shown : IsOfRun w
-        shown = subst IsOfRun h.reached (of_run below ids members h.rows h.harmless)
+        shown = subst IsOfRun h.reached (of_run below.calm ids members h.rows h.harmless)
 
         -- what comes to it tells no higher term
         pub tells_low : IsLed group n term w → (k ms : ℕ) → timed.row ≡ Rx n k ms → (d : Delivery)
             → received (setting_for t.me) t.sessions (arrival_at (frame_at w.frames k) (max t.now ms)) ≡ Gives d → TellsWithin term d
         tells_low led k ms e d gives =
             let calm : IsCalmRow group clocks pace h.traffic w timed.at (Rx n k ms) = subst (IsCalmRow group clocks pace h.traffic w timed.at) e h.calm.1 in
-            tells_within below.frame below.codec w shown
-            (below.one_transfer shown.choice shown.made w shown.run (subst AreMembers (sym same_ids) members) shown.shows) group
+            tells_within below.calm.frame below.calm.codec w shown
+            (below.calm.one_transfer shown.choice shown.made w shown.run (subst AreMembers (sym same_ids) members) shown.shows) group
             (λ p i. subst (λ (l : List ℕ). In p l) (sym same_ids) (listed p i)) nodes term
             (none_higher group n term w (all_play group n term w led running))
             n k ms t runs (subst (DoesNoHarm w) e harm) d gives
@@ -218,7 +219,7 @@ module _ (below : ServiceGrounds) (group : List Party) (clocks : Party → ℕ) 
       pub row_leaves : (accepted : List Accepted) → IsLed group n term w → ListsAll w → MissesNobody n w timed.row → IsSettled n log accepted (clock moment) w
           → StaysSettled n log accepted (clock timed.at) w timed.row
       row_leaves accepted led lists missed is =
-          stays_settled below.frame group clocks pace n term log accepted (clock moment) timed.at h.traffic w nodes member h.flies lists
+          stays_settled below.calm.frame group clocks pace n term log accepted (clock moment) timed.at h.traffic w nodes member h.flies lists
           (omega (arith, h.calm.0.moments, h.at_end)) is.settled.server (settles n term log accepted (clock moment) w is led.leader)
           (its_me is.settled.server is.settled.runs) timed.row h.calm.1 (tells_low is.settled.server is.settled.runs led) missed
 

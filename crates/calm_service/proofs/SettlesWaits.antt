@@ -19,7 +19,7 @@ use Rattle.calm_leader.proofs.TermsHeard.{IsOfRun}
 use Rattle.calm_service.proofs.SettledStays.{IsReached, LedIn, ListsAll, after_one, its_me, led_after, lists_after, nodes, tells_low}
 use Rattle.calm_service.proofs.SettlesRows.{GrowsIn, HasBlank, IsInWait, lists_all, waits_or_adds}
 use Rattle.calm_service.specs.ServiceBelow.{ServiceGrounds}
-use Rattle.calm_service.proofs.ServiceGrounds.{of_run}
+use Rattle.calm_leader.proofs.TermsRun.{of_run}
 use Rattle.cluster_spec.specs.Cluster.{AreMembers, Cluster, after_row, after_rows, cluster}
 use Rattle.cluster_spec.specs.Lawful.{DoNoHarm, DoesNoHarm}
 use Rattle.cluster_spec.specs.Members.MemberStatus.{Up}
@@ -76,10 +76,10 @@ module _ (below : ServiceGrounds) (group : List Party) (clocks : Party → ℕ) 
     t = waits.is.server
 
     same_ids : w.ids ≡ ids
-    same_ids = sym (ap (λ (v : Cluster). v.ids) h.reached) ∙ below.same (cluster ids) h.rows
+    same_ids = sym (ap (λ (v : Cluster). v.ids) h.reached) ∙ below.calm.same (cluster ids) h.rows
 
     all : IsAll (members_of t) ids
-    all = subst (IsAll (members_of t)) same_ids (lists_all below.more w (subst IsOfRun h.reached (of_run below ids members h.rows h.harmless)) (subst AreMembers (sym same_ids) members) n t
+    all = subst (IsAll (members_of t)) same_ids (lists_all below.calm.more w (subst IsOfRun h.reached (of_run below.calm ids members h.rows h.harmless)) (subst AreMembers (sym same_ids) members) n t
         (subst (λ (l : List ℕ). In n l) (sym same_ids) (listed n member)) waits.is.its.up.status waits.is.its.done.leads.0)
 
     told_then : (u : AllocatorState) → ((after_row w timed.row).member n).status ≡ Up u → IsTold u
@@ -90,7 +90,7 @@ module _ (below : ServiceGrounds) (group : List Party) (clocks : Party → ℕ) 
 
     one : (IsInWait ids n term log (clock timed.at) (after_row w timed.row) ⊎ HasBlank ids n term log (clock timed.at) (after_row w timed.row))
         ⊎ GrowsIn ids n term log (clock timed.at) w timed.row
-    one = waits_or_adds below.frame group clocks pace n term log earlier room (clock moment) timed.at h.traffic w
+    one = waits_or_adds below.calm.frame group clocks pace n term log earlier room (clock moment) timed.at h.traffic w
         (nodes below group clocks pace ids members listed) member h.flies lists
         (let m = h.calm.0.moments in let e = h.at_end in omega (arith, m, e)) ids waits.is
         (its_me below group clocks pace ids members listed n term log member moment w timed rest h harm t waits.is.its.up.status) waits.told all timed.row h.calm.1

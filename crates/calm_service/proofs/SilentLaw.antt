@@ -7,7 +7,7 @@ use Rattle.cluster_calm.specs.Calm.{Member as OfMember, no_traffic}
 use Rattle.calm_service.specs.AskingKnown.{WhoFollowsFallsSilent}
 use Rattle.calm_service.proofs.SilentRows.{GoesOn, falls_silent, goes_on}
 use Rattle.calm_service.specs.ServiceBelow.{ServiceGrounds}
-use Rattle.calm_service.proofs.ServiceGrounds.{calm_laws, well}
+use Rattle.cluster_calm.proofs.Grounds.{calm_laws, well}
 use Rattle.cluster_spec.specs.Cluster.{AreMembers, after_rows, cluster, world_of}
 use Rattle.cluster_spec.specs.Lawful.{DoNoHarm}
 
@@ -18,16 +18,16 @@ more_rows few front late rest e = ap (λ (l : List Timed). l ++ rest) e ∙ appe
 module _ (below : ServiceGrounds) (ids : List ℕ) (members : AreMembers ids) (rows : List Row) (harmless : DoNoHarm (cluster ids) rows) where
   pub who_follows_is_silent : WhoFollowsFallsSilent ids rows
   who_follows_is_silent group clocks pace start n m term first few rest server listed running calm harm led i apart runs low long =
-      falls_silent (calm_laws below) group nodes clocks pace m i (end_of start first) few rest term (after_rows (world_of ids rows) (rows_in first)) server there
+      falls_silent (calm_laws below.calm) group nodes clocks pace m i (end_of start first) few rest term (after_rows (world_of ids rows) (rows_in first)) server there
       (λ front late e. (led front (late ++ rest) (more_rows few front late rest e)).others m i apart) runs low (omega (arith, long))
     where
       nodes : (p : ℕ) → In (OfMember p) group → (1 ≤ p) × (p ≤ 125)
       nodes p j = members.nodes p (listed p j)
 
-      there : GoesOn (calm_laws below) group nodes clocks pace m i (end_of start first) (end_of start first) (after_rows (world_of ids rows) (rows_in first)) (few ++ rest)
-      there = goes_on (calm_laws below) group nodes clocks pace m i (end_of start first) first (few ++ rest) start (world_of ids rows) (record {
+      there : GoesOn (calm_laws below.calm) group nodes clocks pace m i (end_of start first) (end_of start first) (after_rows (world_of ids rows) (rows_in first)) (few ++ rest)
+      there = goes_on (calm_laws below.calm) group nodes clocks pace m i (end_of start first) first (few ++ rest) start (world_of ids rows) (record {
         traffic = no_traffic start;
         at_end = refl;
         calm = calm;
-        is = record { well = well below ids members rows harmless group listed running; since = omega arith };
+        is = record { well = well below.calm ids members rows harmless group listed running; since = omega arith };
       })

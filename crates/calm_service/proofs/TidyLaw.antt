@@ -20,7 +20,7 @@ use Rattle.calm_service.proofs.TidyCalm.{IsSteady, nobody_asks, nobody_missed}
 use Rattle.calm_service.proofs.TidyMembers.{AreKept, IsRested, rested_on}
 use Rattle.calm_service.proofs.TidyRows.{IsQuiet, number_from}
 use Rattle.calm_service.specs.ServiceBelow.{ServiceGrounds}
-use Rattle.calm_service.proofs.ServiceGrounds.{calm_laws, well}
+use Rattle.cluster_calm.proofs.Grounds.{calm_laws, well}
 use Rattle.cluster_spec.specs.Cluster.{AreMembers, Cluster, after_rows, cluster, world_of}
 use Rattle.cluster_spec.specs.Lawful.{DoNoHarm}
 
@@ -60,7 +60,7 @@ module _ (below : ServiceGrounds) (ids : List ℕ) (members : AreMembers ids) (r
     nodes p i = members.nodes p (listed p i)
 
     all_well : AreWell group w
-    all_well = well below ids members rows harmless group listed (λ p i. (needs p i).running)
+    all_well = well below.calm ids members rows harmless group listed (λ p i. (needs p i).running)
 
     -- each is quiet when the calm begins
     begins_quiet : (p : ℕ) (i : In (OfMember p) group) → IsQuiet p (needs p i).running.server w
@@ -79,7 +79,7 @@ module _ (below : ServiceGrounds) (ids : List ℕ) (members : AreMembers ids) (r
         same = same_server its.server (needs p i).running.server (sym its.up.status ∙ (needs p i).running.runs)
 
     -- so the calm is steady from there
-    begins_steady : (clocks : Party → ℕ) (pace : Pace) (start : ℕ) → IsSteady (calm_laws below) group nodes clocks pace (no_traffic start) w
+    begins_steady : (clocks : Party → ℕ) (pace : Pace) (start : ℕ) → IsSteady (calm_laws below.calm) group nodes clocks pace (no_traffic start) w
     begins_steady clocks pace start = record {
       well = all_well;
       flies = λ party. refl;
@@ -87,11 +87,11 @@ module _ (below : ServiceGrounds) (ids : List ℕ) (members : AreMembers ids) (r
     }
 
   pub miss_nobody : DiscoveriesMissNobody ids rows
-  miss_nobody group clocks pace start m front rest listed calm needs none = nobody_missed (calm_laws below) group (nodes group listed needs none) clocks pace m front rest
+  miss_nobody group clocks pace start m front rest listed calm needs none = nobody_missed (calm_laws below.calm) group (nodes group listed needs none) clocks pace m front rest
       (no_traffic start) w calm (begins_steady group listed needs none clocks pace start)
 
   pub ask_nobody : MembersAskNobody ids rows
-  ask_nobody group clocks pace start m front rest listed only calm needs none = nobody_asks (calm_laws below) group (nodes group listed needs none) clocks pace only m front rest
+  ask_nobody group clocks pace start m front rest listed only calm needs none = nobody_asks (calm_laws below.calm) group (nodes group listed needs none) clocks pace only m front rest
       (no_traffic start) w calm (begins_steady group listed needs none clocks pace start)
 
   pub tidy_miss_nobody : TidyMembersMissNobody ids rows
@@ -107,10 +107,10 @@ module _ (below : ServiceGrounds) (ids : List ℕ) (members : AreMembers ids) (r
     needs : (p : ℕ) → In (OfMember p) group → NeedsNoDiscovery p w
     needs p j = fit_needs_none p (start + clocks (OfMember p)) w (fit p j)
 
-    rests_later : (t : AllocatorState) × IsRested (calm_laws below) group (nodes group listed needs none) clocks pace Fits kept m (end_of start front + clocks (OfMember m)) t
+    rests_later : (t : AllocatorState) × IsRested (calm_laws below.calm) group (nodes group listed needs none) clocks pace Fits kept m (end_of start front + clocks (OfMember m)) t
         (after_rows w (rows_in front))
     unfolding fit_needs_none needs
-    rests_later = rested_on (calm_laws below) group (nodes group listed needs none) clocks pace Fits kept m i front rest (no_traffic start) w calm (record {
+    rests_later = rested_on (calm_laws below.calm) group (nodes group listed needs none) clocks pace Fits kept m i front rest (no_traffic start) w calm (record {
       well = all_well group listed needs none;
       flies = λ party. refl;
       rested = λ p j. (

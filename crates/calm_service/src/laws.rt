@@ -30,33 +30,24 @@ ghost use Rattle.cluster_spec.specs.Lawful.{DoNoHarm};
 ghost use Rattle.replay_text.specs.declared.row.Row.{Row};
 ghost use Rattle.std.specs.Prelude.{List, ℕ, ◌+◌};
 
-use alloc_spec_laws::laws::{
-    duty_of_a_step, members_of_a_step, steps_stay_in_range, transfers_of_a_step_are_apart,
-};
-use allocatee::laws::{
-    a_node_id_is_given_for_good, its_frames_are_anonymous, sessions_of_a_step,
-    what_is_fine_is_not_torn,
-};
+use alloc_spec_laws::laws::{duty_of_a_step, members_of_a_step};
+use allocatee::laws::{a_node_id_is_given_for_good, sessions_of_a_step, what_is_fine_is_not_torn};
 use calm_leader::laws::{
     calls_return_to_who_leads_on, entries_are_committed_in_time, entries_come_in_time,
     what_entries_stand_on,
 };
-use can_frame::laws::{frames_carry_what_is_cut, lengths_of_cuttings};
 use cluster_agreement::allocatees::the_allocatees;
-use cluster_agreement::below::{
-    what_a_step_keeps, what_is_said_of_a_step, what_is_said_of_frames, what_is_said_of_messages,
+use cluster_agreement::headline::the_headline;
+use cluster_calm::laws::{
+    allocations_come_in_calm, calm_can_be, what_calms_stand_on, who_is_listed_stays,
 };
-use cluster_agreement::headline::{a_choice_fits, rows_are_shown, rows_grow_by_one, the_headline};
-use cluster_agreement::transfers::what_a_row_delivers_is_one_transfer;
-use cluster_calm::laws::{allocations_come_in_calm, calm_can_be, who_is_listed_stays};
 use cluster_progress::laws::{
     a_leader_follows_up, a_leader_records_the_pair, requests_are_delivered,
     requests_of_devices_are_requests,
 };
 use dsdl_codec::laws::allocations_both_ways;
 use id_selector::laws::chosen_is_the_choice;
-use raft_model::laws::{law_decisions, law_every_run, law_fit, law_members};
-use transfer_rx::laws::delivers_what_comes_whole;
+use raft_model::laws::{law_decisions, law_fit, law_members};
 
 /// Who has settled stays settled in a calm in which it leads from some moment on, and the others follow: a leader that
 /// has committed and told its whole log, knows each node that is online, and owes no Discovery. So it is behind each
@@ -385,12 +376,11 @@ pub fn recorded_devices_are_served_in_calm()
     what_service_stands_on();
 }
 
-/// What the laws of service stand on: what the crates below say of steps, frames and rows that do no harm, of devices
-/// and what they are told, of the Raft model, and of what comes in calm.
+/// What the laws of service stand on: what the crates below say of a calm, of devices and what they are told, of the Raft
+/// model, and of what comes in calm.
 pub fn what_service_stands_on()
     ensures { ServiceGrounds }
 {
-    a_choice_fits();
     a_leader_follows_up();
     a_leader_records_the_pair();
     a_node_id_is_given_for_good();
@@ -398,32 +388,18 @@ pub fn what_service_stands_on()
     allocations_come_in_calm();
     calls_return_to_who_leads_on();
     chosen_is_the_choice();
-    delivers_what_comes_whole();
     duty_of_a_step();
     entries_are_committed_in_time();
     entries_come_in_time();
-    frames_carry_what_is_cut();
-    its_frames_are_anonymous();
     law_decisions();
-    law_every_run();
     law_fit();
-    lengths_of_cuttings();
-    members_of_a_step();
     requests_are_delivered();
     requests_of_devices_are_requests();
-    rows_are_shown();
-    rows_grow_by_one();
     sessions_of_a_step();
-    steps_stay_in_range();
     the_allocatees();
     the_headline();
-    transfers_of_a_step_are_apart();
-    what_a_row_delivers_is_one_transfer();
-    what_a_step_keeps();
+    what_calms_stand_on();
     what_entries_stand_on();
     what_is_fine_is_not_torn();
-    what_is_said_of_a_step();
-    what_is_said_of_frames();
-    what_is_said_of_messages();
     who_is_listed_stays();
 }

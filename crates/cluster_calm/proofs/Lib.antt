@@ -14,6 +14,7 @@ pub mod MembersHear
 pub mod Heard
 pub mod Follows
 pub mod Start
+pub mod Grounds
 pub mod Whole
 pub mod CallsKept
 pub mod Calls

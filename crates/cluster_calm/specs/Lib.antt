@@ -7,3 +7,4 @@ pub mod CalmExample
 pub mod CallsInTime
 pub mod Devices
 pub mod DevicesExample
+pub mod CalmBelow

@@ -5,6 +5,7 @@ ghost use Rattle.alloc_spec.specs.Transfers.{id_of};
 ghost use Rattle.can_frame.specs.Timing.{transfer_timeout};
 ghost use Rattle.can_frame.specs.declared.step.What.TheVariants.{Alloc};
 ghost use Rattle.cluster_calm.specs.Calls.{Calls, CallsAreHeard, CallsReadAsSaid, CalmLeavesFollowers, ListsStay};
+ghost use Rattle.cluster_calm.specs.CalmBelow.{CalmGrounds};
 ghost use Rattle.cluster_calm.specs.CallsInTime.{LeadersCallInTime};
 ghost use Rattle.cluster_calm.specs.Calm.{AreCalm, AreRunning, Device, Member, no_traffic};
 ghost use Rattle.cluster_calm.specs.CalmExample.{IsOffered, append_offer, append_rows, append_said, calm_rows};
@@ -32,10 +33,12 @@ use cluster_agreement::below::{
     what_a_step_keeps, what_is_said_of_a_step, what_is_said_of_frames, what_is_said_of_messages,
 };
 use cluster_agreement::headline::{a_choice_fits, rows_are_shown, rows_grow_by_one};
+use cluster_agreement::transfers::what_a_row_delivers_is_one_transfer;
 use cluster_progress::laws::{
     followers_follow_on, requests_are_delivered, requests_of_devices_are_requests,
     steps_are_in_time,
 };
+use raft_model::laws::law_every_run;
 use transfer_rx::laws::delivers_what_comes_whole;
 
 /// In a calm each message, each request and each response comes whole, and in time. After every list of rows that do no
@@ -53,18 +56,7 @@ pub fn each_transfer_comes_whole()
     ensures responses { (ids : List ℕ) (rows : List Row) → AreMembers ids → DoNoHarm (cluster ids) rows →
         EachResponseComesWhole ids rows }
 {
-    a_choice_fits();
-    delivers_what_comes_whole();
-    frames_carry_what_is_cut();
-    its_frames_are_anonymous();
-    lengths_of_cuttings();
-    rows_are_shown();
-    rows_grow_by_one();
-    steps_stay_in_range();
-    transfers_of_a_step_are_apart();
-    what_a_step_keeps();
-    what_is_said_of_a_step();
-    what_is_said_of_frames();
+    what_calms_stand_on();
 }
 
 /// A calm can go on: behind any calm rows, from whatever world, there are calm rows to any later moment, where the
@@ -81,12 +73,9 @@ pub fn calls_are_heard()
     ensures { (ids : List ℕ) (rows : List Row) → AreMembers ids → DoNoHarm (cluster ids) rows →
         CallsAreHeard ids rows }
 {
-    a_choice_fits();
     each_transfer_comes_whole();
-    rows_are_shown();
-    rows_grow_by_one();
     steps_are_in_time();
-    what_is_said_of_a_step();
+    what_calms_stand_on();
 }
 
 /// The bytes of a call read as the request of the Raft model that the call says. So it is behind all rows that do no
@@ -95,10 +84,7 @@ pub fn calls_read_as_said()
     ensures { (ids : List ℕ) (rows : List Row) → AreMembers ids → DoNoHarm (cluster ids) rows →
         CallsReadAsSaid ids rows }
 {
-    a_choice_fits();
-    rows_are_shown();
-    rows_grow_by_one();
-    what_is_said_of_messages();
+    what_calms_stand_on();
 }
 
 /// Who is on the list of a member that runs stays there in a calm. So a member that lists the caller when the calm
@@ -160,19 +146,9 @@ pub fn requests_come_in_calm()
     ensures { (ids : List ℕ) (rows : List Row) → AreMembers ids → DoNoHarm (cluster ids) rows →
         RequestsComeInCalm ids rows }
 {
-    a_choice_fits();
-    delivers_what_comes_whole();
-    frames_carry_what_is_cut();
-    its_frames_are_anonymous();
-    lengths_of_cuttings();
     requests_are_delivered();
     requests_of_devices_are_requests();
-    rows_are_shown();
-    rows_grow_by_one();
-    steps_stay_in_range();
-    what_a_step_keeps();
-    what_is_said_of_a_step();
-    what_is_said_of_frames();
+    what_calms_stand_on();
 }
 
 /// Each device hears the Allocations of the members, in time. In a calm as above, a member sends an Allocation, for
@@ -186,18 +162,8 @@ pub fn allocations_come_in_calm()
     ensures { (ids : List ℕ) (rows : List Row) → AreMembers ids → DoNoHarm (cluster ids) rows →
         AllocationsComeInCalm ids rows }
 {
-    a_choice_fits();
-    delivers_what_comes_whole();
-    frames_carry_what_is_cut();
-    its_frames_are_anonymous();
-    lengths_of_cuttings();
-    rows_are_shown();
-    rows_grow_by_one();
     sessions_of_a_step();
-    steps_stay_in_range();
-    what_a_step_keeps();
-    what_is_said_of_a_step();
-    what_is_said_of_frames();
+    what_calms_stand_on();
 }
 
 /// The premises on devices can be met, behind the calm rows of the example: a device asks (`asks`), the member that
@@ -217,3 +183,26 @@ pub fn devices_can_be_heard()
     ensures short { SendsShortAllocations sender asking_world asking_rows }
     ensures sends { Sends sender answering_world answering_row.row allocation_offer }
 {}
+
+/// What the laws of a calm stand on: what is said below of frames, messages and steps, of devices, of rows that do no
+/// harm, and of the runs of the Raft model. The laws of elections, rounds and service in a calm stand on it too.
+pub fn what_calms_stand_on()
+    ensures { CalmGrounds }
+{
+    a_choice_fits();
+    delivers_what_comes_whole();
+    frames_carry_what_is_cut();
+    its_frames_are_anonymous();
+    law_every_run();
+    lengths_of_cuttings();
+    members_of_a_step();
+    rows_are_shown();
+    rows_grow_by_one();
+    steps_stay_in_range();
+    transfers_of_a_step_are_apart();
+    what_a_row_delivers_is_one_transfer();
+    what_a_step_keeps();
+    what_is_said_of_a_step();
+    what_is_said_of_frames();
+    what_is_said_of_messages();
+}

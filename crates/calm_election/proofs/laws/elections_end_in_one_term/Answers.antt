@@ -14,11 +14,11 @@ returns c = λ ids rows members harmless group clocks pace start term whole r in
     let lists = all_listed below ids members rows harmless group clocks pace start whole r in
     elim (c.who_is_furthest_stands.ensures ids rows members harmless group clocks pace start whole r (omega (arith, long))) [
       | inl furthest ↦
-          let found = first_of ids rows group clocks pace start whole r below.more.size below.leave
+          let found = first_of ids rows group clocks pace start whole r below.calm.more.size below.leave
           (start + longest_wait + pace.period) furthest in
           wins_or_led ids rows group clocks pace start whole r (c.logs_stay_in_calm.ensures ids rows members harmless) (c.no_appends_come.ensures ids rows members harmless) lists (start + election_within pace)
           (start + longest_wait + pace.period) found.so
-          (stands_at_top ids rows group clocks pace start whole r below.more.size (c.terms_stay_in_calm.ensures ids rows members harmless)
+          (stands_at_top ids rows group clocks pace start whole r below.calm.more.size (c.terms_stay_in_calm.ensures ids rows members harmless)
           (c.terms_do_not_fall.ensures ids rows)
           (λ more fine. c.who_stands_asks.ensures ids (rows ++ more) members (harmless_both (cluster ids) rows more harmless fine))
           (c.vote_requests_come_back.ensures ids rows members harmless) c.who_is_listed_stays.ensures lists

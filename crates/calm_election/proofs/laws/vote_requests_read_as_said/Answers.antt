@@ -8,4 +8,4 @@ pub returns : goal.returns
 returns c = λ ids rows members harmless n row offer harm running sends.
     let below = c.what_elections_stand_on.ensures in
     let x = is_said below ids members rows harmless n row offer harm running sends in
-    requests_as_said below.codec x.ids x.made x.bag x.said x.written (sent_by n (world_of ids rows) offer) x.among
+    requests_as_said below.calm.codec x.ids x.made x.bag x.said x.written (sent_by n (world_of ids rows) offer) x.among

@@ -7,18 +7,18 @@ use Rattle.calm_leader.proofs.Exchange.{AllGiven, Exchange, given_at}
 use Rattle.calm_leader.proofs.ExchangeStart.{Fresh, all_given}
 use Rattle.calm_election.proofs.VotesAlone.{comes_alone}
 use Rattle.calm_election.proofs.VotesAsked.{fresh, voting}
-use Rattle.calm_election.proofs.ElectionGrounds.{calm_laws, its_server, well}
+use Rattle.cluster_calm.proofs.Grounds.{calm_laws, is_server, well}
 use Rattle.calm_election.proofs.laws.votes_come_alone.Goals as goal
 use Rattle.cluster_recovery.specs.Calm.{rows_in}
 use Rattle.cluster_calm.specs.Calm.{Member, no_traffic}
 use Rattle.cluster_calm.specs.Comes.{sent_by}
-use Rattle.cluster_calm.proofs.Group.{AreWell, CalmLaws}
+use Rattle.cluster_calm.proofs.Group.{AreWell}
 use Rattle.cluster_spec.specs.Cluster.{Cluster, after_rows, world_of}
 
 pub returns : goal.returns
 returns c =
-    let below = c.what_elections_stand_on.ensures in
-    let laws : CalmLaws = calm_laws below in
+    let below = c.what_elections_stand_on.ensures.calm in
+    let laws = calm_laws below in
     let answered = c.votes_are_answered.ensures in
     λ ids rows members harmless group clocks pace start n m term front rest timed offer scene in_m other sends what to.
     let w : Cluster = world_of ids rows in
@@ -29,12 +29,12 @@ returns c =
     let slow = scene.quick in
     let quick : 2 * pace.delay ≤ 2000 = omega (arith, slow) in
     let nodes : (p : ℕ) → In (Member p) group → (1 ≤ p) × (p ≤ 125) = λ p i. members.nodes p (listed p i) in
-    let is = λ (p : ℕ) (i : In (Member p) group) (t : AllocatorState). its_server below ids members rows harmless p t (listed p i) in
+    let is = λ (p : ℕ) (i : In (Member p) group) (t : AllocatorState). is_server below ids members rows harmless p t (listed p i) in
     let are : AreWell group w = well below ids members rows harmless group listed scene.running in
     let both : Exchange = voting laws below.apart below.stay answered (λ x. ⊤) group clocks pace nodes n m in_n in_m apart quick w (front ++ timed ∷ rest) can in
     let given : AllGiven both w (front ++ timed ∷ rest) = all_given both ids
     (λ done h row o. c.vote_requests_read_as_said.ensures ids done members h n row o) (λ done h row o harm runs it its_what. tt)
-    below.grown below.harmless
+    below.grows below.no_harm
     (front ++ timed ∷ rest) rows (no_traffic start) w refl harmless are scene.calm scene.harmless can.memory can.its_memory can.place in
     let at_first : Fresh both start w (front ++ timed ∷ rest) =
     fresh laws below.apart below.stay answered (λ x. ⊤) group clocks pace nodes n m in_n in_m apart quick w (front ++ timed ∷ rest) can start (is n in_n) (is m in_m) (are.members n in_n).up.quiet (are.members m in_m).up.quiet

@@ -1,6 +1,5 @@
 use Rattle.std.proofs.Common.{◌++◌}
 use Rattle.cluster_recovery.specs.Calm.{rows_in}
-use Rattle.calm_election.proofs.ElectionGrounds.{term_laws}
 use Rattle.calm_election.proofs.TermsHold.{begins, behind, two_or_more, votes_stay}
 use Rattle.calm_election.proofs.laws.votes_stay_free.Goals as goal
 use Rattle.cluster_spec.specs.Cluster.{after_rows, world_of}
@@ -8,8 +7,9 @@ use Rattle.cluster_spec.specs.Cluster.{after_rows, world_of}
 pub returns : goal.returns
 returns c =
     λ ids rows members harmless group clocks pace start q term first front rest listed running in_q calm harm within below nobody_else nobody m in_m apart.
-    let its = term_laws c.what_elections_stand_on.ensures ids members (two_or_more ids m q (listed m in_m) (listed q in_q) apart) in
-    let goes = begins ids its group listed clocks pace start rows harmless running (first ++ (front ++ rest)) calm in
-    let there = behind ids its group listed clocks pace first (front ++ rest) front (world_of ids rows) goes harm in
-    votes_stay ids its group listed clocks pace q term front rest (after_rows (world_of ids rows) (rows_in first)) there.0 there.1 within below nobody_else nobody
+    let grounds = c.what_elections_stand_on.ensures.calm in
+    let many = two_or_more ids m q (listed m in_m) (listed q in_q) apart in
+    let goes = begins grounds ids members many group listed clocks pace start rows harmless running (first ++ (front ++ rest)) calm in
+    let there = behind grounds ids members many group listed clocks pace first (front ++ rest) front (world_of ids rows) goes harm in
+    votes_stay grounds ids members many group listed clocks pace q term front rest (after_rows (world_of ids rows) (rows_in first)) there.0 there.1 within below nobody_else nobody
     m in_m apart

@@ -2,16 +2,11 @@ use Rattle.calm_election.proofs.laws.what_winners_stand_on.Goals as goal
 
 pub returns : goal.returns
 returns c = record {
-  more = c.what_elections_stand_on.ensures.more;
-  count = c.what_elections_stand_on.ensures.count;
+  election = c.what_elections_stand_on.ensures;
   ticks = c.steps_are_in_time.ensures.follows;
-  frames = c.what_elections_stand_on.ensures.leave;
   hears_anew = c.steps_are_in_time.ensures.waits;
   stay = c.who_is_listed_stays.ensures;
   granted = c.law_decisions.ensures.granted;
-  chosen = c.a_choice_fits.ensures;
-  shown = c.rows_are_shown.ensures;
-  same = c.what_elections_stand_on.ensures.same;
   taken = c.votes_are_taken.ensures;
   asked = c.who_stands_asks.ensures;
   waits_on = c.who_asked_waits_on.ensures;

@@ -2,16 +2,18 @@ use Rattle.std.proofs.Common.{◌+◌, arith, List, ◌++◌}
 use Rattle.replay_text.specs.declared.row.Row.{Row}
 use Rattle.calm_leader.proofs.Stretches.{harmless_both}
 use Rattle.calm_election.specs.Elections.{longest_wait}
-use Rattle.calm_election.proofs.ElectionGrounds.{all_know, are_well, calm_laws, choice, run, shows}
+use Rattle.calm_election.proofs.ElectionGrounds.{all_know, are_well}
 use Rattle.calm_election.proofs.ElectionsEnd.{all_run, opened_follow, over_at, some_member}
 use Rattle.calm_election.proofs.FurthestStands.{furthest_of, furthest_or_led}
 use Rattle.calm_election.proofs.laws.who_is_furthest_stands.Goals as goal
+use Rattle.cluster_calm.proofs.Grounds.{calm_laws, choice, its_run, shown}
 use Rattle.cluster_spec.specs.Cluster.{cluster, world_of}
 use Rattle.cluster_spec.specs.Lawful.{DoNoHarm}
 
 pub returns : goal.returns
 returns c =
     let below = c.what_elections_stand_on.ensures in
+    let calm = below.calm in
     λ ids rows members harmless group clocks pace start whole r long.
     let reads_said = λ (list : List Row) (fine : DoNoHarm (cluster ids) list). c.vote_requests_read_as_said.ensures ids list members fine in
     let logs_stay = c.logs_stay_in_calm.ensures ids rows members harmless in
@@ -20,10 +22,10 @@ returns c =
     let one = some_member group ids _ (omega arith) r.many in
     let best = furthest_of group (world_of ids rows) one.0 one.1 in
     let running = all_run ids rows group clocks pace start whole r best.0 best.1 in
-    furthest_or_led ids rows group clocks pace start whole r members (calm_laws below) below.leave (are_well below ids members rows harmless group clocks pace start whole r)
-    (λ more. below.same (cluster ids) (rows ++ more))
-    (λ more fine. let there = joined more fine in (choice below ids members (rows ++ more) there, run below ids members (rows ++ more) there, shows below ids members (rows ++ more) there))
-    (shows below ids members rows harmless).past below.one_transfer (λ more fine. reads_said (rows ++ more) (joined more fine)) logs_stay no_appends
+    furthest_or_led ids rows group clocks pace start whole r members (calm_laws calm) below.leave (are_well below ids members rows harmless group clocks pace start whole r)
+    (λ more. calm.same (cluster ids) (rows ++ more))
+    (λ more fine. let there = joined more fine in (choice calm ids members (rows ++ more) there, its_run calm ids members (rows ++ more) there, (shown calm ids members (rows ++ more) there).shows))
+    (shown calm ids members rows harmless).shows.past calm.one_transfer (λ more fine. reads_said (rows ++ more) (joined more fine)) logs_stay no_appends
     (λ more fine. c.waits_have_reasons.ensures ids (rows ++ more) members (joined more fine)) (start + longest_wait + pace.period) best.0 best.1 best.2
     (c.who_waits_stands.ensures ids rows members harmless group clocks pace _ best.0 (start + longest_wait) whole running (r.listed best.0 best.1) best.1 r.others
     (all_know below ids members rows harmless group clocks pace start whole r best.0 (r.opened best.0 best.1).store (r.opened best.0 best.1).moment (r.opened best.0 best.1).word best.1)

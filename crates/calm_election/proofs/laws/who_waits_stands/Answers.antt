@@ -1,5 +1,5 @@
 use Rattle.std.proofs.Common.{length, refl, arith}
-use Rattle.calm_election.proofs.ElectionGrounds.{its_node}
+use Rattle.cluster_calm.proofs.Grounds.{its_node}
 use Rattle.calm_election.proofs.WaitsStand.{stands_in_time}
 use Rattle.calm_election.proofs.laws.who_waits_stands.Goals as goal
 use Rattle.cluster_spec.specs.Cluster.{world_of}
@@ -7,8 +7,8 @@ use Rattle.cluster_spec.specs.Cluster.{world_of}
 pub returns : goal.returns
 returns c = λ ids rows members harmless group clocks pace traffic m due whole running listed in_m many knows role left calm over began ticked long.
     let below = c.what_elections_stand_on.ensures in
-    let facts = its_node below ids members rows harmless m running.server listed running.runs in
-    stands_in_time below.complete below.more.size m (length ids) running.server.times.since
+    let facts = its_node below.calm ids members rows harmless m running.server listed running.runs in
+    stands_in_time below.calm.complete below.calm.more.size m (length ids) running.server.times.since
     running.server.times.word many group clocks pace due over whole traffic (world_of ids rows) in_m
     (record {
       server = running.server;

@@ -1,48 +1,43 @@
-use Rattle.std.proofs.Common.{ℕ, List, [], ◌++◌, sym, subst}
-use Rattle.raft_model.specs.Lists.{In}
-use Rattle.raft_model.specs.Runs.{initial_world, run}
+use Rattle.std.proofs.Common.{ℕ, List, ◌++◌, subst}
 use Rattle.replay_text.specs.declared.row.Row.{Row}
 use Rattle.calm_leader.specs.EntriesBelow.{AppendsPend, CallsInside, HasWhatIsKnown, PendInTerm, PendingCallsArePast}
 use Rattle.calm_leader.proofs.EntriesHave.{appends_pend, has_known, inside, past, pend_in_term}
-use Rattle.cluster_calm.proofs.Start.{places_in, server_is}
+use Rattle.cluster_calm.proofs.Grounds.{choice, invariants, is_server, its_run, made, shown}
 use Rattle.calm_leader.proofs.Stretches.{harmless_both}
 use Rattle.calm_leader.proofs.laws.what_entries_stand_on.Goals as goal
-use Rattle.cluster_spec.specs.Cluster.{Cluster, cluster, world_of}
+use Rattle.cluster_spec.specs.Cluster.{cluster, world_of}
 use Rattle.cluster_spec.specs.Lawful.{DoNoHarm}
-use Rattle.cluster_spec.specs.Refinement.{events, transfers_of_rows}
+use Rattle.cluster_spec.specs.Refinement.{events}
 
 pub returns : goal.returns
 returns c = λ ids rows members harmless.
-    let w : Cluster = world_of ids rows in
-    let both = λ (later : List Row) (h : DoNoHarm w later). harmless_both (cluster ids) rows later harmless h in
-    let choice = λ (list : List Row) (h : DoNoHarm (cluster ids) list). (c.a_choice_fits.ensures ids list members h).0 in
-    let shown = λ (list : List Row) (h : DoNoHarm (cluster ids) list).
-    c.rows_are_shown.ensures (choice list h) ids list members h (c.a_choice_fits.ensures ids list members h).1 in
-    let its_events = λ (list : List Row) (h : DoNoHarm (cluster ids) list). events (choice list h) (cluster ids) list in
-    let same_ids = λ (list : List Row). c.rows_grow_by_one.ensures.members (cluster ids) list in
+    let below = c.what_calms_stand_on.ensures in
+    let both = λ (later : List Row) (h : DoNoHarm (world_of ids rows) later). harmless_both (cluster ids) rows later harmless h in
+    let fits = λ (list : List Row) (h : DoNoHarm (cluster ids) list) (member : ℕ).
+    c.law_fit.ensures.run ids (events (choice below ids members list h) (cluster ids) list) member (shown below ids members list h).lawful in
     let has = λ (list : List Row) (h : DoNoHarm (cluster ids) list).
-    subst (λ (l : List ℕ). HasWhatIsKnown l (world_of ids list)) (same_ids list)
-    (has_known (choice list h) (transfers_of_rows (cluster ids) list []) (world_of ids list) (run (initial_world ids) (its_events list h)) (shown list h).shows
-    c.what_is_said_of_messages.ensures (c.law_every_run.ensures.invariants ids (its_events list h) (shown list h).lawful)
-    (λ member. c.law_fit.ensures.run ids (its_events list h) member (shown list h).lawful)) in
+    subst (λ (l : List ℕ). HasWhatIsKnown l (world_of ids list)) (below.same (cluster ids) list)
+    (has_known (choice below ids members list h) (made below ids members list h) (world_of ids list) (its_run below ids members list h) (shown below ids members list h).shows
+    below.codec (invariants below ids members list h) (fits list h)) in
     let appends = λ (list : List Row) (h : DoNoHarm (cluster ids) list).
-    subst (λ (l : List ℕ). AppendsPend l (world_of ids list)) (same_ids list)
-    (appends_pend (choice list h) (transfers_of_rows (cluster ids) list []) (world_of ids list) (run (initial_world ids) (its_events list h)) (shown list h).shows
-    c.what_is_said_of_messages.ensures (c.law_every_run.ensures.invariants ids (its_events list h) (shown list h).lawful)
-    (λ member. c.law_fit.ensures.run ids (its_events list h) member (shown list h).lawful)) in
+    subst (λ (l : List ℕ). AppendsPend l (world_of ids list)) (below.same (cluster ids) list)
+    (appends_pend (choice below ids members list h) (made below ids members list h) (world_of ids list) (its_run below ids members list h) (shown below ids members list h).shows
+    below.codec (invariants below ids members list h) (fits list h)) in
     let terms = λ (list : List Row) (h : DoNoHarm (cluster ids) list).
-    subst (λ (l : List ℕ). PendInTerm l (world_of ids list)) (same_ids list)
-    (pend_in_term (choice list h) (transfers_of_rows (cluster ids) list []) (world_of ids list) (run (initial_world ids) (its_events list h)) (shown list h).shows
-    c.what_is_said_of_messages.ensures (c.law_every_run.ensures.invariants ids (its_events list h) (shown list h).lawful)
-    (λ member. c.law_fit.ensures.run ids (its_events list h) member (shown list h).lawful)) in
+    subst (λ (l : List ℕ). PendInTerm l (world_of ids list)) (below.same (cluster ids) list)
+    (pend_in_term (choice below ids members list h) (made below ids members list h) (world_of ids list) (its_run below ids members list h) (shown below ids members list h).shows
+    below.codec (invariants below ids members list h) (fits list h)) in
     let within = λ (list : List Row) (h : DoNoHarm (cluster ids) list).
-    subst (λ (l : List ℕ). CallsInside l (world_of ids list)) (same_ids list)
-    (inside (choice list h) (transfers_of_rows (cluster ids) list []) (world_of ids list) (run (initial_world ids) (its_events list h)) (shown list h).shows
-    c.what_is_said_of_messages.ensures (c.law_every_run.ensures.invariants ids (its_events list h) (shown list h).lawful)
-    (λ member. c.law_fit.ensures.run ids (its_events list h) member (shown list h).lawful)) in
+    subst (λ (l : List ℕ). CallsInside l (world_of ids list)) (below.same (cluster ids) list)
+    (inside (choice below ids members list h) (made below ids members list h) (world_of ids list) (its_run below ids members list h) (shown below ids members list h).shows
+    below.codec (invariants below ids members list h) (fits list h)) in
+    let made_before = λ (list : List Row) (h : DoNoHarm (cluster ids) list).
+    subst (λ (l : List ℕ). PendingCallsArePast l (world_of ids list)) (below.same (cluster ids) list)
+    (past (choice below ids members list h) (made below ids members list h) (world_of ids list) (its_run below ids members list h) (shown below ids members list h).shows
+    below.codec (invariants below ids members list h) (fits list h)) in
     record {
-      me = c.what_is_said_of_a_step.ensures.me;
-      made = c.what_is_said_of_a_step.ensures.called;
+      me = below.in_step.me;
+      made = below.in_step.called;
       ask = c.calls_ask_for_the_next_place.ensures;
       touch = c.steps_are_in_time.ensures.in_touch;
       stay = c.who_is_listed_stays.ensures;
@@ -53,10 +48,6 @@ returns c = λ ids rows members harmless.
       appends = λ later h. appends (rows ++ later) (both later h);
       terms = λ later h. terms (rows ++ later) (both later h);
       inside = λ later h. within (rows ++ later) (both later h);
-      past = subst (λ (l : List ℕ). PendingCallsArePast l w) (same_ids rows)
-          (past (choice rows harmless) (transfers_of_rows (cluster ids) rows []) w (run (initial_world ids) (its_events rows harmless)) (shown rows harmless).shows
-          c.what_is_said_of_messages.ensures (c.law_every_run.ensures.invariants ids (its_events rows harmless) (shown rows harmless).lawful)
-          (λ member. c.law_fit.ensures.run ids (its_events rows harmless) member (shown rows harmless).lawful));
-      node = λ p server i up. (server_is ids (choice rows harmless) (transfers_of_rows (cluster ids) rows []) w (run (initial_world ids) (its_events rows harmless))
-          (shown rows harmless).shows (places_in ids rows) p server (subst (λ (l : List ℕ). In p l) (sym (same_ids rows)) i) up).me;
+      past = made_before rows harmless;
+      node = λ p server i up. (is_server below ids members rows harmless p server i up).me;
     }

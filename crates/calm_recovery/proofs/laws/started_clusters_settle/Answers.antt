@@ -1,31 +1,28 @@
-use Rattle.std.proofs.Common.{◌≡◌, ℕ, true, arith, List, [], length, refl, sym, ◌∙◌, subst}
+use Rattle.std.proofs.Common.{◌≡◌, ℕ, true, arith, length, refl, ◌∙◌}
 use Rattle.raft_model.specs.Lists.{In}
-use Rattle.raft_model.specs.Runs.{initial_world, run}
 use Rattle.raft_model.specs.Server.{Store}
 use Rattle.cluster_calm.specs.Calm.{Member}
+use Rattle.cluster_calm.proofs.Grounds.{choice, invariants, its_run, listed_in, made, shown}
 use Rattle.calm_election.proofs.ElectionsEnd.{lists_in, told_all}
 use Rattle.calm_recovery.proofs.Returning.{comes_back, low_terms}
 use Rattle.calm_recovery.proofs.laws.started_clusters_settle.Goals as goal
-use Rattle.cluster_spec.specs.Cluster.{cluster, rules_of, world_of}
-use Rattle.cluster_spec.specs.Refinement.{events, transfers_of_rows}
+use Rattle.cluster_spec.specs.Cluster.{rules_of, world_of}
 
 pub returns : goal.returns
 returns c = λ ids rows members harmless group clocks pace start longest ended whole s ends long.
-    let chosen = c.a_choice_fits.ensures ids rows members harmless in
-    let shown = c.rows_are_shown.ensures chosen.0 ids rows members harmless chosen.1 in
+    let below = c.what_calms_stand_on.ensures in
     let r = s.restart in
     let knows = λ (p : ℕ) (store : Store) (opened word : ℕ) (i : In (Member p) group).
     c.members_of_a_step.ensures.all p (rules_of ids true) store opened word (members.nodes p (r.listed p i)).0 (told_all ids p members (r.listed p i)) in
     let many = r.others in
     comes_back c.followers_follow_on.ensures.frames ids members rows group clocks pace start longest ended whole s ends ends.others_follow long
     (λ t. t.size ≡ length ids) (λ t e. omega (arith, e, many))
-    (record { stepped = λ t number event may h. c.what_a_step_keeps.ensures.size t number event ∙ h; popped = λ t h. h })
+    (record { stepped = λ t number event may h. below.more.size t number event ∙ h; popped = λ t h. h })
     (λ m i. refl)
     (lists_in ids rows group clocks pace start whole r c.law_members.ensures.count knows c.members_of_a_step.ensures.opening)
     (c.terms_do_not_fall.ensures ids rows) (c.no_election_comes_in_calm.ensures ids rows members harmless) knows
     (c.members_stay_tidy.ensures.tidy ids rows members harmless) (c.discoveries_miss_nobody.ensures.tidy ids rows members harmless)
     (c.discoveries_miss_nobody.ensures.unasked ids rows members harmless) (c.logs_stay_in_calm.ensures ids rows members harmless)
     (c.winners_call.ensures ids rows members harmless) (c.calls_return_to_who_leads_on.ensures ids rows members harmless) (c.leaders_settle_in_calm.ensures.settle ids rows members harmless)
-    (λ m t i up. low_terms chosen.0 (transfers_of_rows (cluster ids) rows []) (world_of ids rows) (run (initial_world ids) (events chosen.0 (cluster ids) rows)) shown.shows
-    (c.law_every_run.ensures.invariants ids (events chosen.0 (cluster ids) rows) shown.lawful) m t
-    (subst (λ (l : List ℕ). In m l) (sym (c.rows_grow_by_one.ensures.members (cluster ids) rows)) (r.listed m i)) up)
+    (λ m t i up. low_terms (choice below ids members rows harmless) (made below ids members rows harmless) (world_of ids rows) (its_run below ids members rows harmless)
+    (shown below ids members rows harmless).shows (invariants below ids members rows harmless) m t (listed_in below ids rows m (r.listed m i)) up)

@@ -1,8 +1,7 @@
 use Rattle.calm_rounds.proofs.LearnsAskers.{askers_learn}
-use Rattle.calm_rounds.proofs.RoundsGrounds.{vote_grounds}
 use Rattle.calm_rounds.proofs.laws.askers_learn.Goals as goal
 
 pub returns : goal.returns
 returns c ids rows members harmless group clocks pace start n m front early late timed next other server calm in_n in_m apart asks up nobody long up_then =
-    askers_learn ids rows (vote_grounds c.what_rounds_stand_on.ensures ids members rows harmless) group
+    askers_learn ids rows (record { below = c.what_rounds_stand_on.ensures; members = members; harmless = harmless }) group
     clocks pace start n m front early late timed next calm in_n in_m apart asks other server up nobody long up_then

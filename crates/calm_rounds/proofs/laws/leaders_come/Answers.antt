@@ -1,9 +1,9 @@
-use Rattle.calm_rounds.proofs.RoundsGrounds.{given}
+use Rattle.calm_rounds.proofs.InStepBelow.{given_of}
 use Rattle.calm_rounds.proofs.Rounds.{leaders_come}
 use Rattle.calm_rounds.proofs.laws.leaders_come.Goals as goal
 
 pub returns : goal.returns
-returns c = λ ids rows members harmless. leaders_come ids rows (given c.what_rounds_stand_on.ensures ids members rows harmless (record {
+returns c = λ ids rows members harmless. leaders_come ids rows (given_of c.what_rounds_stand_on.ensures ids members rows harmless (record {
   asks = c.who_asks_stands.ensures ids rows members harmless;
   wins_asked = c.who_wins_has_asked.ensures ids rows members harmless;
   votes_asked = c.who_votes_was_asked.ensures ids rows members harmless;

@@ -1,9 +1,9 @@
 use Rattle.calm_rounds.proofs.InStep.{who_stands_at_the_top}
-use Rattle.calm_rounds.proofs.RoundsGrounds.{given}
+use Rattle.calm_rounds.proofs.InStepBelow.{given_of}
 use Rattle.calm_rounds.proofs.laws.who_stands_at_the_top.Goals as goal
 
 pub returns : goal.returns
-returns c = λ ids rows members harmless. who_stands_at_the_top ids rows (given c.what_rounds_stand_on.ensures ids members rows harmless (record {
+returns c = λ ids rows members harmless. who_stands_at_the_top ids rows (given_of c.what_rounds_stand_on.ensures ids members rows harmless (record {
   asks = c.who_asks_stands.ensures ids rows members harmless;
   wins_asked = c.who_wins_has_asked.ensures ids rows members harmless;
   votes_asked = c.who_votes_was_asked.ensures ids rows members harmless;

@@ -5,7 +5,8 @@ use Rattle.alloc_spec.specs.AllocatorState.{members_of}
 use Rattle.calm_service.specs.Settles.{LeadersAddTheirBlanks}
 use Rattle.calm_service.proofs.BlankLaw.{due_in, has_added, has_come_to_lead}
 use Rattle.calm_service.proofs.ServiceFronts.{fitting}
-use Rattle.calm_service.proofs.ServiceGrounds.{listed_in, of_run}
+use Rattle.cluster_calm.proofs.Grounds.{listed_in}
+use Rattle.calm_leader.proofs.TermsRun.{of_run}
 use Rattle.calm_service.proofs.SettlesRows.{its_server, lists_all}
 use Rattle.calm_service.proofs.laws.who_leads_has_come_to_lead.Goals as goal
 use Rattle.cluster_spec.specs.Cluster.{AreMembers, cluster, world_of}
@@ -17,12 +18,12 @@ returns c =
     let blank : (ids : List ℕ) (rows : List Row) → AreMembers ids → DoNoHarm (cluster ids) rows → LeadersAddTheirBlanks ids rows
     = λ ids rows members harmless n t listed up leads room.
     let w = world_of ids rows in
-    let shown = of_run below ids members rows harmless in
-    let same = below.same (cluster ids) rows in
-    let inside = listed_in below ids members rows n listed in
-    has_added below.judged ids n t (due_in below.judged below.more below.in_step below.complete ids rows n t up)
+    let shown = of_run below.calm ids members rows harmless in
+    let same = below.calm.same (cluster ids) rows in
+    let inside = listed_in below.calm ids rows n listed in
+    has_added below.judged ids n t (due_in below.judged below.calm.more below.calm.in_step below.calm.complete ids rows n t up)
     (fitting below ids members rows harmless n t listed up) (its_server w shown n t inside up).runs.me leads
-    (subst (IsAll (members_of t)) same (lists_all below.more w shown (subst AreMembers (sym same) members) n t inside up leads)) room in
+    (subst (IsAll (members_of t)) same (lists_all below.calm.more w shown (subst AreMembers (sym same) members) n t inside up leads)) room in
     record {
       blank = blank;
       comes = λ ids rows members harmless. has_come_to_lead ids rows harmless (λ list fine. fitting below ids members list fine)

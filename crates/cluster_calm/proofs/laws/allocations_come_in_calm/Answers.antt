@@ -1,34 +1,14 @@
-use Rattle.std.proofs.Common.{[]}
-use Rattle.raft_model.specs.Runs.{initial_world, run}
 use Rattle.cluster_calm.proofs.DevicesTold.{allocation_comes}
-use Rattle.cluster_calm.proofs.Group.{CalmLaws}
+use Rattle.cluster_calm.proofs.Grounds.{calm_laws, choice, its_run, made, shown}
 use Rattle.cluster_calm.proofs.Start.{places_in}
 use Rattle.cluster_calm.proofs.laws.allocations_come_in_calm.Goals as goal
 use Rattle.cluster_spec.specs.Cluster.{cluster, world_of}
-use Rattle.cluster_spec.specs.Refinement.{events, transfers_of_rows}
 
 pub returns : goal.returns
 returns c =
-    let frame = c.what_is_said_of_frames.ensures in
-    let laws : CalmLaws = record {
-      frame = frame;
-      in_step = c.what_is_said_of_a_step.ensures;
-      more = c.what_a_step_keeps.ensures;
-      cutting = record {
-        piece_read = frame.piece_read;
-        carried = c.frames_carry_what_is_cut.ensures.carried;
-        cut = c.lengths_of_cuttings.ensures.cut;
-        count = frame.cut_count;
-      };
-      whole = c.delivers_what_comes_whole.ensures;
-      popped = c.steps_stay_in_range.ensures.popped;
-      device_step = c.its_frames_are_anonymous.ensures.step;
-      device_popped = c.its_frames_are_anonymous.ensures.popped;
-    } in
+    let below = c.what_calms_stand_on.ensures in
     λ ids rows members harmless group clocks pace start n a front rest timed offer listed running in_n in_a quick ready may calm memory short sends what long.
-    let chosen = c.a_choice_fits.ensures ids rows members harmless in
-    allocation_comes laws (record { frame = c.sessions_of_a_step.ensures.frame; tick = c.sessions_of_a_step.ensures.tick }) ids members.nodes chosen.0
-    (transfers_of_rows (cluster ids) rows []) (world_of ids rows)
-    (run (initial_world ids) (events chosen.0 (cluster ids) rows)) (c.rows_are_shown.ensures chosen.0 ids rows members harmless chosen.1).shows
-    (c.rows_grow_by_one.ensures.members (cluster ids) rows) (places_in ids rows)
+    allocation_comes (calm_laws below) (record { frame = c.sessions_of_a_step.ensures.frame; tick = c.sessions_of_a_step.ensures.tick }) ids members.nodes
+    (choice below ids members rows harmless) (made below ids members rows harmless) (world_of ids rows) (its_run below ids members rows harmless)
+    (shown below ids members rows harmless).shows (below.same (cluster ids) rows) (places_in ids rows)
     group clocks pace start n a front rest timed offer listed running in_n in_a quick ready may calm memory short sends what long
