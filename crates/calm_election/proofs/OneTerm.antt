@@ -302,9 +302,6 @@ module _ (ids : List ℕ) (rows : List Row) (group : List Party) (clocks : Party
       cut_next : whole ≡ (front ++ timed ∷ []) ++ rest
       cut_next = cut ∙ one_more front rest timed
 
-      harm_next : DoNoHarm (world_of ids rows) (rows_in (front ++ timed ∷ []))
-      harm_next = harmless_at (front ++ timed ∷ []) rest (cut ∙ one_more front rest timed)
-
       then_run : AllRun keeps_size (length ids) r.others group clocks pace (after_row (after_rows (world_of ids rows) (rows_in front)) timed.row)
       then_run p i = subst (λ (u : Cluster). RunsWith (IsOfSize (length ids)) (u.member p)) (world_both (world_of ids rows) front (timed ∷ []))
           (runs_at (front ++ timed ∷ []) rest (cut ∙ one_more front rest timed) p i)

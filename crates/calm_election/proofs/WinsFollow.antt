@@ -211,9 +211,6 @@ module _ (s : Scene) (k : Contest s) where
         (subst (λ (l : List _). NotAbove (last_term l) (length l) (last_term s.calm.stands.before.raft_server.store.log) (length s.calm.stands.before.raft_server.store.log))
         (sym same) its))
 
-    request_from : request.from ≡ s.c
-    request_from = refl
-
     may_grant : hearer.raft_server.store.log ≡ first.raft_server.store.log → MayGrant (with_term hearer.raft_server.store request.term) request
     may_grant same = elim free [
       | inl below ↦ subst (λ (store : Store). MayGrant store request)

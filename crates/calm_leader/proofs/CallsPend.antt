@@ -126,25 +126,6 @@ unfolding step
 is_called t number event m leads has = (all number m (drop 1 (members_of (when_told t number event).allocator)) (when_told t number event)
     (sym (same_after t number event).0 ∙ leads, λ c. absurd (none_before t number event m c))).1 has
 
--- so is what it says
-pub call_pends : (t : AllocatorState) (number : ℕ) (event : Event) (m : ℕ) → (step t number event).step_state.allocator.raft_server.memory.role ≡ Leader
-    → HasCall number m (step t number event).step_state.offers → IsKept number m (step t number event).step_state
-call_pends t number event m leads has = let k = is_called t number event m leads has in record {
-  offer = k.offer;
-  offered = k.offered;
-  what = k.what_is;
-  to = k.to;
-  fitted = k.fitted;
-  asked = k.asked;
-  is = k.asks;
-  says = k.says;
-  step = ap (λ (r : Request). r.step) k.asks;
-  append = ap (λ (r : Request). r.append) k.asks;
-  term = ap (λ (r : Request). r.term) k.asks;
-  pending = k.pending_is;
-  sending = k.kept;
-}
-
 -- ---- who does not lead calls nobody to append
 
 module _ (number m : ℕ) (role : Role) (other : role ≢ Leader) where

@@ -17,13 +17,12 @@ use Rattle.raft_model.specs.Server.{Memory, Put, RaftServer, Role, Store, put_al
 use Rattle.raft_model.specs.Server.Role.{Follower, Leader}
 use Rattle.raft_model.proofs.Handled.{put_then}
 use Rattle.alloc_spec.specs.AllocatorState.{AllocatorState, members_of}
-use Rattle.alloc_spec.specs.Step.{Event, at_moment, begin_phase, moment_of, step}
-use Rattle.alloc_spec.specs.StepState.{StepState, initial_state}
-use Rattle.alloc_spec_laws.specs.Phases.{when_seen}
+use Rattle.alloc_spec.specs.Step.{Event, step}
+use Rattle.alloc_spec.specs.StepState.{StepState}
 use Rattle.alloc_spec_laws.proofs.CalledPeers.{AreQuiet, IsQuiet}
 use Rattle.alloc_spec_laws.proofs.Choices.{either, lt_tells}
 use Rattle.alloc_spec_laws.proofs.KeptByChanges.{Keeping}
-use Rattle.alloc_spec_laws.proofs.KeptBySteps.{event_keeps, gives_up_keeps, step_keeps}
+use Rattle.alloc_spec_laws.proofs.KeptBySteps.{step_keeps}
 use Rattle.alloc_spec_laws.proofs.LogGrowth.{AreDecided, IsDecided}
 use Rattle.calm_leader.proofs.TermsSaid.{answered, append_rises, grant_rises, puts_rise, risen}
 
@@ -270,11 +269,6 @@ module _ (m term matched : ℕ) (base : List Entry) (left over : ℕ) where
       tells_keep = λ g h. h;
       hears_keep = λ d message g comes kind other read h. h;
     }
-
-    -- when the event of a step is done
-    pub seen_knows : (t : AllocatorState) (event : Event) → Knows t.raft_server → Knows (when_seen t number event).allocator.raft_server
-    seen_knows t event h = event_keeps number event Keeps (λ d. ⊤) (keeping event) (begin_phase number (moment_of event) t) (λ arrival is d e. tt)
-        (gives_up_keeps number event Keeps (λ d. ⊤) (keeping event) (initial_state (at_moment (moment_of event) t)) h)
 
     -- when the step is over
     pub step_knows : (t : AllocatorState) (event : Event) → Knows t.raft_server → Knows (step t number event).step_state.allocator.raft_server

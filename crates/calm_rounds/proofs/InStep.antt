@@ -140,11 +140,6 @@ module _ (g : Ground) (front rest : List Timed) (timed : Timed) (cut : g.whole �
         let e = end_both g.start (front ++ timed ∷ []) l.front ∙ ap (λ (k : ℕ). end_of k l.front) (end_last g.start front timed) in
         let h = l.soon in omega (arith, e, h)
 
-    begun_low : timed.at ≤ end_of g.start ((front ++ timed ∷ []) ++ l.front)
-    begun_low = let h = row_before g front l.front l.rest timed
-        (begun_cut ∙ ap (λ (r : List Timed). r ++ l.rest) (append_assoc front (timed ∷ []) l.front)) in
-        let e = ap (end_of g.start) (append_assoc front (timed ∷ []) l.front) in omega (arith, h, e)
-
     -- who stood by then stood no later
     fresh : (x y : List Timed) (z : Timed) (n its : ℕ) → (front ++ timed ∷ []) ++ l.front ≡ x ++ z ∷ y → In (OfMember n) g.group → Stands n its (there g x) z.row
         → z.at ≤ timed.at

@@ -1,12 +1,12 @@
 -- Who stands for election in a calm that goes on is heard.
-use Rattle.std.proofs.Common.{◌≡◌, ℕ, ◌+◌, ◌*◌, ◌<◌, ◌≤◌, arith, List, [], ◌∷◌, ◌++◌, inl, inr, sym, ◌∙◌, ap, subst}
+use Rattle.std.proofs.Common.{◌≡◌, ℕ, ◌+◌, ◌*◌, ◌<◌, ◌≤◌, arith, List, [], ◌∷◌, ◌++◌, sym, ◌∙◌, subst}
 use Rattle.std.proofs.lemmas.List.{append_assoc}
 use Rattle.raft_model.specs.Lists.{In}
 use Rattle.replay_text.specs.declared.row.Row.{Row}
 use Rattle.alloc_spec.specs.AllocatorState.{AllocatorState}
 use Rattle.calm_election.specs.Votes.{Stands}
 use Rattle.calm_election.specs.Wins.{WhoStandsIsHeard}
-use Rattle.calm_leader.proofs.Stretches.{GoesOnFrom, end_both, end_last, in_between, not_before}
+use Rattle.calm_leader.proofs.Stretches.{GoesOnFrom, end_both, in_between, not_before}
 use Rattle.calm_rounds.specs.Running.{IsCalmOf}
 use Rattle.calm_rounds.specs.Sent.{StandersAreHeard}
 use Rattle.calm_rounds.proofs.CalmFronts.{Calm, at, calm_of, goes_at}
@@ -62,27 +62,3 @@ standers_are_heard ids rows heard group clocks pace start c m term front early l
 
     ends : end_of start (front ++ timed ∷ early) ≡ end_of timed.at early
     ends = end_both start front (timed ∷ early)
-
--- So it is before a row that is later than two delays.
-pub standers_are_heard_by_next : (ids : List ℕ) (rows : List Row) → WhoStandsIsHeard ids rows → (group : List Party) (clocks : Party → ℕ) (pace : Pace)
-    (start c m term : ℕ) (front early late : List Timed) (timed next : Timed) (server : AllocatorState)
-    → IsCalmOf ids rows group clocks pace start (front ++ timed ∷ (early ++ next ∷ late)) → In (OfMember c) group → In (OfMember m) group
-    → Stands c term (after_rows (world_of ids rows) (rows_in front)) timed.row → timed.at + 2 * pace.delay < next.at
-    → ((after_rows (after_row (after_rows (world_of ids rows) (rows_in front)) timed.row) (rows_in early)).member m).status ≡ Up server
-    → term ≤ server.raft_server.store.term
-standers_are_heard_by_next ids rows heard group clocks pace start c m term front early late timed next server calm in_c in_m s soon up =
-    is_heard ids rows heard group clocks pace start c m term front early (next ∷ late) timed server calm in_c in_m s
-    (λ x i. elim i [
-      | inl e ↦ let same = ap (λ (t : Timed). t.at) e in omega (arith, same, soon)
-      | inr j ↦
-          let k = no_earlier ids rows group clocks pace start (front ++ timed ∷ (early ++ next ∷ late)) calm ((front ++ timed ∷ early) ++ next ∷ []) late next.at cut ends x j in
-          omega (arith, k, soon)
-    ])
-    (let k = ends_later ids rows group clocks pace start (front ++ timed ∷ (early ++ next ∷ late)) calm ((front ++ timed ∷ early) ++ next ∷ []) late next.at cut ends in
-    let l = end_both timed.at early (next ∷ late) in omega (arith, k, l, soon)) up
-  where
-    cut : front ++ timed ∷ (early ++ next ∷ late) ≡ ((front ++ timed ∷ early) ++ next ∷ []) ++ late
-    cut = sym (append_assoc front (timed ∷ early) (next ∷ late)) ∙ sym (append_assoc (front ++ timed ∷ early) (next ∷ []) late)
-
-    ends : end_of start ((front ++ timed ∷ early) ++ next ∷ []) ≡ next.at
-    ends = end_last start (front ++ timed ∷ early) next

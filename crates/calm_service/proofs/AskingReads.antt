@@ -6,7 +6,7 @@ use Rattle.raft_model.specs.Lists.{In}
 use Rattle.replay_text.specs.declared.row.Row.{Row}
 use Rattle.replay_text.specs.declared.row.Row.TheVariants.{ATick}
 use Rattle.transfer_tx.specs.Queue.{Queued}
-use Rattle.allocatee.specs.Allocatee.{Device, after_receiver_answer, step}
+use Rattle.allocatee.specs.Allocatee.{Device, step}
 use Rattle.allocatee.specs.Allocatee as device
 use Rattle.allocatee.specs.Asking.{due as is_due, has_passed, request_wait, timer_from}
 use Rattle.allocatee.specs.declared.timer.FollowUp.{FollowUp}
@@ -20,7 +20,7 @@ use Rattle.cluster_recovery.proofs.CalmStages.{device_steps, right_at_first}
 use Rattle.cluster_calm.specs.Calm.{Device as OfDevice, IsCalmRow, IsInTime, Member as OfMember, Traffic, queue_in, traffic_after}
 use Rattle.calm_service.proofs.AskingDevice as own
 use Rattle.calm_service.proofs.AskingRoad.{AreFew, Road, as_scene, road_late, road_on}
-use Rattle.calm_service.proofs.AskingTimes.{IsNoFirst, Times, forgotten, moment, moment_by, moment_is, moment_near, moment_past, none_made, none_queued, none_sent, none_waits, stale, times_first, times_follow, times_full, times_not, times_quiet}
+use Rattle.calm_service.proofs.AskingTimes.{IsNoFirst, Times, forgotten, moment, moment_by, moment_near, moment_past, none_made, none_queued, none_sent, none_waits, stale, times_first, times_follow, times_full, times_not, times_quiet}
 use Rattle.calm_service.proofs.DialogAsked.{frames_on}
 use Rattle.calm_service.proofs.DialogFrames.{HasSource, IsBearable}
 use Rattle.calm_service.proofs.DialogPhases.{ahead, its_clock}
@@ -152,12 +152,6 @@ module _ (g : Talk) (from : ℕ)
 
       abbrev start : ℕ
       start = due_at - 1000
-
-      abbrev dialog : Talk
-      dialog = record g { start = start }
-
-      is_at : due_at + its_clock g ≡ l.request.since + l.request.length
-      is_at = moment_is g from l.accepted l.xs l.cs l.queue l.request l.follow_up traffic.at ticked waits l.times at_ in_time.moments late (in_time.ticks (OfDevice g.a) g.in_a) g.quick passed
 
       is_past : due_at ≤ at_
       is_past = moment_past g from l.accepted l.xs l.cs l.queue l.request l.follow_up traffic.at ticked waits l.times at_ in_time.moments late (in_time.ticks (OfDevice g.a) g.in_a) g.quick passed

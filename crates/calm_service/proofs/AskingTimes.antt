@@ -1,6 +1,6 @@
 -- The times of a device that asks already, and of what is under way between it and the leader: by when the leader answers
 -- what it asks, however it goes on, until it asks anew and nothing else is under way.
-use Rattle.std.proofs.Common.{◌≡◌, ◌≢◌, ◌⊎◌, ℕ, zero, suc, ◌+◌, ◌*◌, ◌-◌, ◌<◌, ◌≤◌, Bool, true, false, List, [], ◌∷◌, ◌++◌, length, refl, sym, ◌∙◌, ap, subst, arith, inl, inr, Option, None, Some}
+use Rattle.std.proofs.Common.{◌≡◌, ◌≢◌, ◌⊎◌, ℕ, zero, suc, ◌+◌, ◌*◌, ◌-◌, ◌<◌, ◌≤◌, true, false, List, [], ◌∷◌, ◌++◌, length, refl, sym, ◌∙◌, ap, subst, arith, inl, inr, Option, None, Some}
 use Rattle.std.proofs.lemmas.Option.{none-some}
 use Rattle.std.specs.Prelude.{if◌then◌else◌}
 use Rattle.alloc_exchange.specs.Exchange.{Accepted, last_moment}
@@ -22,14 +22,6 @@ use Rattle.calm_service.proofs.AskingExchange.{rank, rank_most}
 use Rattle.calm_service.proofs.DialogPhases.{ahead, its_clock}
 use Rattle.calm_service.proofs.DialogScene.{Talk}
 use Rattle.cluster_calm.proofs.Pending.{Coming, Made}
-
--- a follow-up that is due has passed
-pub now_due : (now : ℕ) (f : FollowUp) (known : ℕ) → due now (Some f) ≡ Some known → f.timer.length ≤ now - f.timer.since
-now_due now f known e = le_from f.timer.length (now - f.timer.since) (by (has_passed now f.timer) e)
-  where
-    by : (b : Bool) → (if b then Some f.known else None) ≡ Some known → b ≡ true
-    by true e = refl
-    by false e = absurd (none-some known e)
 
 -- a frame is a request that is no first one
 abbrev pub IsNoFirst : Queued → Type 0

@@ -9,10 +9,9 @@ use Rattle.dsdl_codec.specs.Allocation.{allocation_of}
 use Rattle.replay_text.specs.declared.row.Row.{Row}
 use Rattle.replay_text.specs.declared.row.Row.TheVariants.{ARx, ATick, Rx}
 use Rattle.transfer_rx.specs.Reassembly.{Answer, Arrival, Gives, answer as received, next as next_sessions}
-use Rattle.transfer_rx.specs.Sessions.{Session}
 use Rattle.transfer_tx.specs.Queue.{Queued}
 use Rattle.allocatee.specs.Accepted.{setting}
-use Rattle.allocatee.specs.Allocatee.{Device, after_reading, after_receiver_answer, step}
+use Rattle.allocatee.specs.Allocatee.{Device, after_reading, after_receiver_answer}
 use Rattle.allocatee.specs.Allocatee as device
 use Rattle.allocatee.specs.Asking.{Asking, after_allocation, follow_up_wait, request_wait, timer_from}
 use Rattle.allocatee.specs.declared.timer.Timer.{Timer}
@@ -257,9 +256,6 @@ module _ (g : Talk) where
 
       message : Allocation
       message = record { node = 0; first_part = false; uid = record { items = take (known_of i) g.uid } }
-
-      then_sessions : List Session
-      then_sessions = next_sessions setting p.asker.sessions (arrival_at (frame_at w.frames k) ms)
 
       asking : Asking
       asking = asking_as g.uid g.preferred [] p.asker.id ms p.request None

@@ -33,7 +33,6 @@ pub mod FramesPut
 pub mod FollowersSay
 pub mod SilentSteps
 pub mod DialogOthers
-pub mod Asked
 pub mod AskingDevice
 pub mod AskingExchange
 pub mod AskingTimes
@@ -72,7 +71,6 @@ pub mod SettlesHeard
 pub mod SettlesCommits
 pub mod SettlesTells
 pub mod SettlesLaw
-pub mod SettlesNew
 pub mod ServedBehind
 pub mod ServedPairs
 pub mod AskingServed

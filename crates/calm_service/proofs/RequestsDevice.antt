@@ -110,9 +110,6 @@ module _ (requests : RequestsAreRequests) (uid : List ℕ) (whole : length uid �
 
   -- ---- what it hears
 
-  abbrev interrupted_by : ℕ → Asking → Asking
-  interrupted_by word a = after_interruption word a
-
   interrupted : (word : ℕ) (a : Asking) → Tells a → Tells (after_interruption word a)
   interrupted word a h = record { its_uid = h.its_uid; small = h.small; id = h.id; follows = λ follow_up e. absurd (cc (e)); waits = h.waits }
 
