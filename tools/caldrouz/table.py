@@ -65,7 +65,7 @@ DATAGRAM_MOST_DATA = 8  # The most data bytes of a frame.
 # The highest node ID of a member (udp_link)
 LAST = 125  # The highest node ID that has a port.
 
-# How long a frame may wait in a link, in ms (node_clock_and_links)
+# How long a frame may wait in a link, in ms (host_pace)
 LONGEST_WAIT = 1000
 
 # How long a process rests before its first turn, in ms (allocator_app)

@@ -16,7 +16,7 @@
 use allocator_app::{Plan, Status, Told, plan, run};
 use can_link::{CanBus, CanLink};
 use disk_model::{Disk, FileDisk, IMAGE};
-use node_clock_and_links::{PacedClock, TimelyLink};
+use host_pace::{PacedClock, TimelyLink};
 use outside::{Link, StdClock, StdSink, StdSource};
 use std::alloc::{AllocError, Global};
 use std::cell::{Cell, RefCell};

@@ -3,12 +3,12 @@ use Rattle.std.proofs.Common.{◌≡◌, ◌<◌, ℕ, ◌+◌, List, [], ◌∷
 use Rattle.replay_text.specs.declared.row.Row.{Row}
 use Rattle.replay_text.specs.declared.told.Told.{Told}
 use Rattle.replay_text.specs.Lines.{BeginsWith, BeginsWithNoRow, ReadsRows}
-use Rattle.cluster_spec.specs.Cluster.{Cluster, after_rows, after_row}
-use Rattle.cluster_spec.specs.Lawful.{AreLawful, cause}
-use Rattle.cluster_spec.specs.OwnLogs.{GivesOnce, KeepsItsWord, OffersItsOwn}
-use Rattle.cluster_spec.specs.Report.{row_lines, line_of_row}
+use Rattle.bus_spec.specs.Cluster.{Cluster, after_rows, after_row}
+use Rattle.bus_spec.specs.Lawful.{AreLawful, cause}
+use Rattle.bus_spec.specs.OwnLogs.{GivesOnce, KeepsItsWord, OffersItsOwn}
+use Rattle.bus_spec.specs.Report.{row_lines, line_of_row}
 use Rattle.replay_text.specs.ReportLine.{text_of_line, report_line_of}
-use Rattle.cluster_spec.specs.declared.unlawful.Unlawful.{Unlawful}
+use Rattle.bus_spec.specs.declared.unlawful.Unlawful.{Unlawful}
 use Rattle.allocator_app.specs.Input.{FindsRow}
 use Rattle.allocator_app.specs.Report.{ReadsUpTo, ReadsKeepingWord, IsBadRow, IsBeyond, IsRefused}
 

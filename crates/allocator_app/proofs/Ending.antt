@@ -4,13 +4,13 @@ use Rattle.std.specs.declared.option.Option.{Option}
 use Rattle.replay_text.specs.declared.row.Row.{Row}
 use Rattle.replay_text.specs.Lines.{ReadsRows}
 use Rattle.replay_text.specs.Schedule.{Reads}
-use Rattle.cluster_spec.specs.Cluster.{AreMembers, Cluster, after_rows, cluster}
-use Rattle.cluster_spec.specs.Lawful.{AreLawful}
-use Rattle.cluster_spec.specs.Report.{end_lines, row_lines}
+use Rattle.bus_spec.specs.Cluster.{AreMembers, Cluster, after_rows, cluster}
+use Rattle.bus_spec.specs.Lawful.{AreLawful}
+use Rattle.bus_spec.specs.Report.{end_lines, row_lines}
 use Rattle.allocator_app.specs.Report.{IsReport, IsToTheEnd}
 use Rattle.allocator_app.specs.Rows.{Ends, IsTold}
-use Rattle.cmd_base.specs.declared.status.Status.{Status}
-use Rattle.cmd_base.specs.declared.status.Status.TheVariants.{Done, ReadFault, WriteFault, Memory}
+use Rattle.cmd_io.specs.declared.status.Status.{Status}
+use Rattle.cmd_io.specs.declared.status.Status.TheVariants.{Done, ReadFault, WriteFault, Memory}
 use Rattle.allocator_app.proofs.OneReport.{one_report, rows-grow}
 
 -- ---- the answers, each by itself

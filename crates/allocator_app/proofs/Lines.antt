@@ -5,7 +5,7 @@ use Rattle.std.proofs.lemmas.List.{get_or-take, length-take-le}
 use Rattle.replay_text.specs.declared.row.Row.{Row}
 use Rattle.replay_text.specs.Schedule.{Reads}
 use Rattle.replay_text.specs.Lines.{BeginsWithNoRow, after_line, first_line}
-use Rattle.cmd_base.specs.Input.{HasNoLineEnd, HasTooLongLine, IsLineEnd}
+use Rattle.cmd_io.specs.Input.{HasNoLineEnd, HasTooLongLine, IsLineEnd}
 use Rattle.allocator_app.specs.Input.{FindsRow}
 
 shifted : (b : ℕ) (bytes : List ℕ) (i : ℕ) → IsLineEnd 10 (b ∷ bytes) (suc i) → IsLineEnd 10 bytes i

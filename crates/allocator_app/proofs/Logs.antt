@@ -3,10 +3,10 @@ use Rattle.std.proofs.Common.{◌≡◌, ℕ, Bool, true, false, List, [], ◌++
 use Rattle.std.specs.Prelude.{Option, Some, None, if◌then◌else◌}
 use Rattle.can_frame.specs.declared.entry.Entry.{Entry}
 use Rattle.alloc_spec.specs.declared.event.View.{View}
-use Rattle.cluster_spec.specs.Cluster.{Cluster, is_member}
-use Rattle.cluster_spec.specs.Members.{MemberStatus}
-use Rattle.cluster_spec.specs.Members.MemberStatus.{Down, Up, Failed}
-use Rattle.cluster_spec.specs.Report.{entry_lines, running_entry, running_lines, running_view, member_lines, view_at}
+use Rattle.bus_spec.specs.Cluster.{Cluster, is_member}
+use Rattle.bus_spec.specs.Members.{MemberStatus}
+use Rattle.bus_spec.specs.Members.MemberStatus.{Down, Up, Failed}
+use Rattle.bus_spec.specs.Report.{entry_lines, running_entry, running_lines, running_view, member_lines, view_at}
 use Rattle.allocator_app.specs.Logs.{HasLog, entry_in, log_head}
 
 log_head_of : (id commit : ℕ) (lines : List ℕ) →

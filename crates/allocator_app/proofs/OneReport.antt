@@ -4,18 +4,18 @@ use Rattle.std.specs.declared.option.Option.{Option}
 use Rattle.replay_text.specs.declared.row.Row.{Row}
 use Rattle.replay_text.specs.Lines.{BeginsWith, ReadsRows, after_line, first_line}
 use Rattle.replay_text.specs.Schedule.{Reads}
-use Rattle.cluster_spec.specs.Cluster.{Cluster, after_rows, after_row}
-use Rattle.cluster_spec.specs.Lawful.{AreLawful, cause, number_of}
-use Rattle.cluster_spec.specs.Report.{row_lines, line_of_row}
+use Rattle.bus_spec.specs.Cluster.{Cluster, after_rows, after_row}
+use Rattle.bus_spec.specs.Lawful.{AreLawful, cause, number_of}
+use Rattle.bus_spec.specs.Report.{row_lines, line_of_row}
 use Rattle.replay_text.specs.ReportLine.{text_of_line}
-use Rattle.cluster_spec.specs.declared.unlawful.Unlawful.{Unlawful}
+use Rattle.bus_spec.specs.declared.unlawful.Unlawful.{Unlawful}
 use Rattle.allocator_app.specs.InPart.{IsText, IsWrittenInPart}
 use Rattle.allocator_app.specs.InPart.IsText.{OfRows, OfAll}
-use Rattle.cmd_base.specs.Output.{WritesFront}
+use Rattle.cmd_io.specs.Output.{WritesFront}
 use Rattle.allocator_app.specs.Report.{IsBadRow, IsBeyond, IsRefused, IsReport, Says, bad_row_line, limit_line, unlawful_line}
-use Rattle.cmd_base.specs.declared.status.Status.{Status}
-use Rattle.cmd_base.specs.declared.status.Status.TheVariants.{Done, Usage, BadRow, Unlawful as IsUnlawful, ReadFault, WriteFault, Memory, Limit, LinkFault, DiskFault, Damaged, Differ, NoPart, NoValue}
-use Rattle.cmd_base.proofs.Written.{front-of_more}
+use Rattle.cmd_io.specs.declared.status.Status.{Status}
+use Rattle.cmd_io.specs.declared.status.Status.TheVariants.{Done, Usage, BadRow, Unlawful as IsUnlawful, ReadFault, WriteFault, Memory, Limit, LinkFault, DiskFault, Damaged, Differ, NoPart, NoValue}
+use Rattle.cmd_io.proofs.Written.{front-of_more}
 
 -- ---- rows are taken up to where none can be
 

@@ -6,18 +6,18 @@ use Rattle.std.proofs.KnownBytes.{Appends-trans}
 use Rattle.replay_text.specs.Lines.{after_line}
 use Rattle.allocator_app.specs.InPart.{HasRead, IsReadInPart, IsWrittenInPart, ReadsAhead}
 use Rattle.allocator_app.specs.InPart.IsText.{OfRows, OfAll}
-use Rattle.cmd_base.specs.Input.{ReadsMore}
-use Rattle.cmd_base.specs.NoFurther.{ReadsNoFurther}
-use Rattle.cmd_base.specs.Output.{Grows, WritesFront}
-use Rattle.cluster_spec.specs.Cluster.{Cluster}
-use Rattle.cluster_spec.specs.OwnLogs.{GivesOnce}
+use Rattle.cmd_io.specs.Input.{ReadsMore}
+use Rattle.cmd_io.specs.NoFurther.{ReadsNoFurther}
+use Rattle.cmd_io.specs.Output.{Grows, WritesFront}
+use Rattle.bus_spec.specs.Cluster.{Cluster}
+use Rattle.bus_spec.specs.OwnLogs.{GivesOnce}
 use Rattle.allocator_app.specs.Report.{ReadsKeepingWord, IsOfSchedule, IsReport, Says}
 use Rattle.allocator_app.specs.Rows.{BreaksOff, Ends, ScheduleEndsAt, IsTold, ReadsRows, StopsAt, TakesRows, Waits, WaitsOn, last_of, status_of}
-use Rattle.cmd_base.specs.declared.status.Status.TheVariants.{Memory, ReadFault, WriteFault}
+use Rattle.cmd_io.specs.declared.status.Status.TheVariants.{Memory, ReadFault, WriteFault}
 use Rattle.allocator_app.specs.declared.rows.Rows.{Rows}
 use Rattle.allocator_app.specs.declared.rows.Rows.TheVariants.{Taken, NoRow, Refused, Full}
 use Rattle.allocator_app.proofs.Coming.{goes-join, goes-nil}
-use Rattle.cmd_base.proofs.Written.{flushed, front-behind, grows-front, grows-refl, grows-trans}
+use Rattle.cmd_io.proofs.Written.{flushed, front-behind, grows-front, grows-refl, grows-trans}
 
 consumed : (ahead came : List ℕ) (left : Option (List ℕ)) → Consumes (Some ahead) left came →
     (rest : List ℕ) × (left ≡ Some rest) × (ahead ≡ came ++ rest)

@@ -10,7 +10,7 @@ use Rattle.replay_text.specs.declared.row.Row.TheVariants.{AOpen, Crash}
 use Rattle.replay_text.specs.Schedule.{IsPattern, IsRow}
 use Rattle.bus_world.specs.declared.world.World.{World}
 use Rattle.bus_world.specs.World.{StandsFor}
-use Rattle.cluster_spec.specs.Cluster.{Cluster}
+use Rattle.bus_spec.specs.Cluster.{Cluster}
 use Rattle.allocator_app.specs.Input.{Finds, FindsRow}
 use Rattle.allocator_app.specs.declared.input.Next.{Next}
 use Rattle.allocator_app.specs.Reaching.{Reaches}

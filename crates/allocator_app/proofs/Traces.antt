@@ -3,11 +3,11 @@ use Rattle.std.proofs.Common.{ℕ, ◌<◌, ◌⊎◌, List, ◌++◌, length, O
 use Rattle.disk_model.specs.declared.disk.Disk.{Ghosts}
 use Rattle.outside.specs.declared.received.RawFrame.{RawFrame}
 use Rattle.outside.specs.declared.received.Received.{Received}
-use Rattle.cmd_base.specs.declared.status.Status.{Status}
+use Rattle.cmd_io.specs.declared.status.Status.{Status}
 use Rattle.alloc_spec.specs.Rules.{Rules}
 use Rattle.bus_physics.specs.Runs.{StandOnBus}
-use Rattle.cluster_spec.specs.Cluster.{AreMembers, cluster}
-use Rattle.cmd_base.specs.declared.status.Status.TheVariants.{Done, Usage, BadRow, Unlawful, ReadFault, WriteFault, Memory, Limit, LinkFault, DiskFault, Damaged, Differ, NoPart, NoValue}
+use Rattle.bus_spec.specs.Cluster.{AreMembers, cluster}
+use Rattle.cmd_io.specs.declared.status.Status.TheVariants.{Done, Usage, BadRow, Unlawful, ReadFault, WriteFault, Memory, Limit, LinkFault, DiskFault, Damaged, Differ, NoPart, NoValue}
 use Rattle.cmd_node.specs.CutRun.{IsCutAtOpening, IsCutAtTurn, KeepsImages, KeepsOrOpens}
 use Rattle.cmd_node.specs.Nodes.{IsCutInTurn, IsDone, IsEnd, LeavesWith, RunsNodes}
 use Rattle.cmd_node.specs.Opening.{RunInput}

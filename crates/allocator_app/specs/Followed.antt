@@ -4,11 +4,11 @@ use Rattle.disk_model.specs.declared.disk.Disk.{Ghosts}
 use Rattle.outside.specs.declared.received.RawFrame.{RawFrame}
 use Rattle.outside.specs.declared.received.Received.{Received}
 use Rattle.cmd_decode.specs.Ends.{Decodes}
-use Rattle.cmd_bus_logs.specs.Converted.{Converts}
-use Rattle.cmd_bus_logs.specs.Watched.{Watches}
+use Rattle.cmd_logs.specs.Converted.{Converts}
+use Rattle.cmd_logs.specs.Watched.{Watches}
 use Rattle.cmd_new.specs.Made.{MakesStores}
 use Rattle.cmd_node.specs.Nodes.{RunsNodes}
-use Rattle.cmd_base.specs.declared.status.Status.{Status}
+use Rattle.cmd_io.specs.declared.status.Status.{Status}
 use Rattle.store_audit.specs.Audits.{Audits}
 use Rattle.allocator_app.specs.declared.plans.Plan.{Plan}
 use Rattle.allocator_app.specs.declared.plans.Plan.TheVariants.{Replay, Node, Soak, New, Audit, Watch, Convert, Decode}

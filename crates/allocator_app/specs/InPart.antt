@@ -2,11 +2,11 @@
 use Rattle.std.specs.Prelude.{◌≡◌, ◌≤◌, ◌<◌, ◌⊎◌, ℕ, List, [], ◌++◌, length, Option, Some, None}
 use Rattle.std.specs.Io.KnownBytes.{Appends}
 use Rattle.replay_text.specs.Lines.{after_line}
-use Rattle.cmd_base.specs.Output.{WritesFront}
-use Rattle.cmd_base.specs.NoFurther.{ReadsNoFurther}
+use Rattle.cmd_io.specs.Output.{WritesFront}
+use Rattle.cmd_io.specs.NoFurther.{ReadsNoFurther}
 use Rattle.allocator_app.specs.Report.{ReadsUpTo, ReadsKeepingWord, IsReport}
-use Rattle.cluster_spec.specs.Cluster.{Cluster}
-use Rattle.cmd_base.specs.declared.status.Status.{Status}
+use Rattle.bus_spec.specs.Cluster.{Cluster}
+use Rattle.cmd_io.specs.declared.status.Status.{Status}
 
 -- so far: some of the schedule's bytes were read, and all that their rows tell was written; some bytes
 -- behind these rows were read too and wait, and the others are left in the source

@@ -2,8 +2,8 @@
 use Rattle.std.specs.Prelude.{◌≡◌, ℕ, nat_lt, List, ◌++◌, codes, decimal, length, Option, None, Some, if◌then◌else◌}
 use Rattle.can_frame.specs.declared.entry.Entry.{Entry}
 use Rattle.can_frame.specs.Log.{entry_at}
-use Rattle.cluster_spec.specs.Cluster.{Cluster}
-use Rattle.cluster_spec.specs.Report as world
+use Rattle.bus_spec.specs.Cluster.{Cluster}
+use Rattle.bus_spec.specs.Report as world
 
 -- the entry at a place of 0 to last
 abbrev pub entry_in : List Entry → ℕ → Option Entry

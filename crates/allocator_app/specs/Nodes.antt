@@ -3,8 +3,8 @@ use Rattle.std.specs.Prelude.{◌≡◌, ◌⊎◌, ◌<◌, ℕ, List, ◌++◌
 use Rattle.disk_model.specs.declared.disk.Disk.{Ghosts}
 use Rattle.outside.specs.declared.received.RawFrame.{RawFrame}
 use Rattle.outside.specs.declared.received.Received.{Received}
-use Rattle.cmd_base.specs.declared.status.Status.{Status}
-use Rattle.cmd_base.specs.declared.status.Status.TheVariants.{Done, WriteFault}
+use Rattle.cmd_io.specs.declared.status.Status.{Status}
+use Rattle.cmd_io.specs.declared.status.Status.TheVariants.{Done, WriteFault}
 use Rattle.alloc_spec.specs.Rules.{Rules}
 use Rattle.cmd_node.specs.CutRun.{RunEndsAtNode, IsCutAtOpening, KeepsOrOpens}
 use Rattle.cmd_node.specs.Nodes.{RunsNodes}
@@ -14,7 +14,7 @@ use Rattle.cmd_node_laws.specs.Processes.{Opening, Point, Turning, together_at}
 use Rattle.cmd_node_laws.specs.Stands.{IsCutAsInWorld, IsCutOpeningAsInWorld, IsRunIn, LeavesAsInWorld, world_after}
 use Rattle.cmd_node_laws.specs.Traces.{Event, all_rows}
 use Rattle.bus_physics.specs.Runs.{StandOnBus}
-use Rattle.cluster_spec.specs.Cluster.{cluster}
+use Rattle.bus_spec.specs.Cluster.{cluster}
 use Rattle.allocator_app.specs.Promise.{KeepsPromise}
 
 -- ---- the traces of a cluster in which the run of these members stands, which went on to a point

@@ -1,9 +1,9 @@
 -- What holds along the rows of every world.
 use Rattle.std.specs.Prelude.{ℕ, List}
 use Rattle.replay_text.specs.declared.row.Row.{Row}
-use Rattle.cluster_agreement.specs.Allocatees.{HasAllocatees}
-use Rattle.cluster_agreement.specs.Headline.{HasHeadline}
-use Rattle.cluster_agreement.specs.Safe.{AreSafe}
+use Rattle.bus_agreement.specs.Allocatees.{HasAllocatees}
+use Rattle.bus_agreement.specs.Headline.{HasHeadline}
+use Rattle.bus_agreement.specs.Safe.{AreSafe}
 
 pub record KeepsPromise (ids : List ℕ) (rows : List Row) : Type 0 where
   -- what allocators have committed is always a prefix of one list, which only grows and gives nothing twice

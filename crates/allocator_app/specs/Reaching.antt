@@ -2,7 +2,7 @@
 use Rattle.std.specs.Prelude.{◌≤◌, ◌+◌, ℕ}
 use Rattle.bus_world.specs.declared.world.World.{World}
 use Rattle.bus_world.specs.World.{StandsFor, frames_left, rows_taken}
-use Rattle.cluster_spec.specs.Cluster.{Cluster}
+use Rattle.bus_spec.specs.Cluster.{Cluster}
 
 module _ {F G : Type 0} where
   -- for whatever cluster the world stood for, it now stands for one that is reached from it

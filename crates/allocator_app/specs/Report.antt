@@ -2,13 +2,13 @@
 use Rattle.std.specs.Prelude.{◌≡◌, ◌≢◌, ◌≤◌, ◌<◌, ℕ, ◌+◌, List, [], ◌++◌, codes, decimal, Some}
 use Rattle.replay_text.specs.declared.row.Row.{Row}
 use Rattle.replay_text.specs.Lines.{BeginsWith, BeginsWithNoRow, ReadsRows}
-use Rattle.cluster_spec.specs.Cluster.{Cluster, after_rows}
-use Rattle.cluster_spec.specs.Lawful.{AreLawful, cause, number_of}
-use Rattle.cluster_spec.specs.OwnLogs.{KeepsItsWord}
-use Rattle.cluster_spec.specs.Report.{end_lines, row_lines}
-use Rattle.cluster_spec.specs.declared.unlawful.Unlawful.{Unlawful}
-use Rattle.cmd_base.specs.declared.status.Status.{Status}
-use Rattle.cmd_base.specs.declared.status.Status.TheVariants.{Done, Usage, BadRow, Unlawful as IsUnlawful, Limit, LinkFault, DiskFault, Damaged, Differ, NoPart, NoValue}
+use Rattle.bus_spec.specs.Cluster.{Cluster, after_rows}
+use Rattle.bus_spec.specs.Lawful.{AreLawful, cause, number_of}
+use Rattle.bus_spec.specs.OwnLogs.{KeepsItsWord}
+use Rattle.bus_spec.specs.Report.{end_lines, row_lines}
+use Rattle.bus_spec.specs.declared.unlawful.Unlawful.{Unlawful}
+use Rattle.cmd_io.specs.declared.status.Status.{Status}
+use Rattle.cmd_io.specs.declared.status.Status.TheVariants.{Done, Usage, BadRow, Unlawful as IsUnlawful, Limit, LinkFault, DiskFault, Damaged, Differ, NoPart, NoValue}
 
 -- lawful rows were taken from the front of the bytes, up to a world and the rest of the bytes, and these lines tell
 -- of them

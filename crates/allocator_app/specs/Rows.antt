@@ -3,20 +3,20 @@ use Rattle.std.specs.Prelude.{⊤, ◌≡◌, ◌≤◌, ◌<◌, ◌⊎◌, ℕ
 use Rattle.std.specs.Io.KnownBytes.{Appends, append_known}
 use Rattle.outside.specs.Faults.{Rose}
 use Rattle.replay_text.specs.Lines.{after_line}
-use Rattle.cluster_spec.specs.Cluster.{Cluster, cluster}
-use Rattle.cluster_spec.specs.Lawful.{number_of}
-use Rattle.cluster_spec.specs.OwnLogs.{KeepsItsWord}
-use Rattle.cluster_spec.specs.Report.{all_logs, end_line}
+use Rattle.bus_spec.specs.Cluster.{Cluster, cluster}
+use Rattle.bus_spec.specs.Lawful.{number_of}
+use Rattle.bus_spec.specs.OwnLogs.{KeepsItsWord}
+use Rattle.bus_spec.specs.Report.{all_logs, end_line}
 use Rattle.allocator_app.specs.InPart.{IsReadInPart, IsWrittenInPart, ReadsAhead}
-use Rattle.cmd_base.specs.NoFurther.{ReadsNoFurther}
-use Rattle.cmd_base.specs.Output.{WritesFront}
+use Rattle.cmd_io.specs.NoFurther.{ReadsNoFurther}
+use Rattle.cmd_io.specs.Output.{WritesFront}
 use Rattle.allocator_app.specs.Report.{ReadsKeepingWord, IsBadRow, IsBeyond, IsOfSchedule, IsRefused, IsReport, bad_row_line, limit_line, unlawful_line}
 use Rattle.allocator_app.specs.declared.rows.Rows.{Rows}
 use Rattle.allocator_app.specs.declared.rows.Rows.TheVariants.{Taken, NoRow, Refused, Full}
 use Rattle.allocator_app.specs.declared.rows.Fault.{Fault}
 use Rattle.allocator_app.specs.declared.rows.Fault.TheVariants.{Source, Sink}
-use Rattle.cmd_base.specs.declared.status.Status.{Status}
-use Rattle.cmd_base.specs.declared.status.Status.TheVariants.{Done, BadRow, Unlawful, ReadFault, WriteFault, Memory, Limit}
+use Rattle.cmd_io.specs.declared.status.Status.{Status}
+use Rattle.cmd_io.specs.declared.status.Status.TheVariants.{Done, BadRow, Unlawful, ReadFault, WriteFault, Memory, Limit}
 
 -- where a schedule ends
 abbrev pub ScheduleEndsAt : ℕ → Cluster → List ℕ → Rows → Type 0

@@ -2,9 +2,9 @@
 use Rattle.std.specs.Prelude.{◌≡◌, ◌⊎◌, ℕ, Bool, List, Option}
 use Rattle.std.specs.Io.KnownBytes.{Appends}
 use Rattle.outside.specs.Faults.{Rose}
-use Rattle.cmd_base.specs.Output.{WritesFront}
-use Rattle.cmd_base.specs.declared.status.Status.{Status}
-use Rattle.cmd_base.specs.declared.status.Status.TheVariants.{Done, Memory, WriteFault}
+use Rattle.cmd_io.specs.Output.{WritesFront}
+use Rattle.cmd_io.specs.declared.status.Status.{Status}
+use Rattle.cmd_io.specs.declared.status.Status.TheVariants.{Done, Memory, WriteFault}
 use Rattle.cmd_soak.specs.Counts.{IsEnd, soak_report}
 
 -- A soak's lines were written, or a prefix of them where the sink failed. The two numbers and the two lists behind are

@@ -1,11 +1,11 @@
 //! What holds of every run, each the contract of a function that does nothing.
 
 ghost use Rattle.std.specs.Prelude.{◌≡◌, ℕ, List, Option};
-ghost use Rattle.cluster_spec.specs.Cluster.{Cluster};
+ghost use Rattle.bus_spec.specs.Cluster.{Cluster};
 ghost use Rattle.allocator_app.specs.InPart.{IsWrittenInPart};
-ghost use Rattle.cmd_base.specs.Output.{WritesFront};
+ghost use Rattle.cmd_io.specs.Output.{WritesFront};
 ghost use Rattle.allocator_app.specs.Report.{IsReport};
-ghost use Rattle.cmd_base.specs.declared.status.Status.{Status};
+ghost use Rattle.cmd_io.specs.declared.status.Status.{Status};
 
 use replay_text::laws::a_line_has_one_row;
 

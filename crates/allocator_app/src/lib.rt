@@ -19,7 +19,7 @@ mod rows;
 mod told;
 mod words;
 
-pub use cmd_base::Status;
+pub use cmd_io::Status;
 pub use plans::Plan;
 pub use program::run;
 pub use told::{REST, Told};

@@ -1,16 +1,16 @@
 ghost use Rattle.std.specs.Prelude.{◌≡◌, ◌≤◌, ◌↔◌, ◌⊎◌, ℕ, Bool, List, [], Some, length, map, string_bytes, IsTrue};
 ghost use Rattle.can_logs.specs.declared.form.Form.{Form};
 ghost use Rattle.cmd_decode.specs.Ends.{Decodes};
-ghost use Rattle.cmd_bus_logs.specs.Converted.{Converts};
-ghost use Rattle.cmd_bus_logs.specs.Watched.{Watches};
+ghost use Rattle.cmd_logs.specs.Converted.{Converts};
+ghost use Rattle.cmd_logs.specs.Watched.{Watches};
 ghost use Rattle.outside.specs.Faults.{Rose};
 ghost use Rattle.replay_text.specs.declared.row.Row.{Row};
 ghost use Rattle.replay_text.specs.Lines.{ReadsRows};
 ghost use Rattle.cmd_new.specs.Made.{MakesStores};
 ghost use Rattle.cmd_soak.specs.Rounds.{members, soaked};
 ghost use Rattle.store_audit.specs.Audits.{Audits};
-ghost use Rattle.cluster_spec.specs.Cluster.{cluster};
-ghost use Rattle.cluster_spec.specs.Lawful.{AreLawful};
+ghost use Rattle.bus_spec.specs.Cluster.{cluster};
+ghost use Rattle.bus_spec.specs.Lawful.{AreLawful};
 ghost use Rattle.allocator_app.specs.Faults.{NamesFault};
 ghost use Rattle.allocator_app.specs.Followed.{IsFollowed};
 ghost use Rattle.allocator_app.specs.Nodes.{RunsInTraces};
@@ -26,12 +26,12 @@ ghost use Rattle.allocator_app.specs.declared.told.Told.{Told};
 use crate::plans::Plan;
 use crate::replay::replay;
 use crate::words::plan;
+use bus_agreement::allocatees::the_allocatees;
+use bus_agreement::headline::{lawful_rows_do_no_harm, rows_are_safe, the_headline};
 use bus_physics::laws::runs_stand_on_a_bus;
-use cluster_agreement::allocatees::the_allocatees;
-use cluster_agreement::headline::{lawful_rows_do_no_harm, rows_are_safe, the_headline};
-use cmd_base::Status;
-use cmd_bus_logs::{convert, watch};
 use cmd_decode::decode;
+use cmd_io::Status;
+use cmd_logs::{convert, watch};
 use cmd_new::make_stores;
 use cmd_node::node;
 use cmd_node_laws::laws::{runs_of_node_are_rows, traces_do_no_harm};
@@ -49,7 +49,7 @@ use store_audit::audit_stores;
 /// has one report, and one status that it comes with (`specs/Report.antt`): `Done`, or `BadRow`,
 /// `Unlawful` or `Limit` with the number of the first row that is not taken. The run comes to them unless
 /// something fails, or there is not enough memory to begin with. Of the bytes behind the rows that were
-/// taken at most 4,096 are read (`NoFurther` of `cmd_base`). `ReadFault` comes exactly where the source
+/// taken at most 4,096 are read (`NoFurther` of `cmd_io`). `ReadFault` comes exactly where the source
 /// counted a fault, `WriteFault` exactly where the sink did. Where the source failed, the lines of exactly
 /// the rows whose line feeds were read are written; where the sink failed, it has a front of the report
 /// (`specs/InPart.antt`).
@@ -80,7 +80,7 @@ use store_audit::audit_stores;
 /// what they agree on, or `Differ` with the line that names two that differ (`Audits` of `store_audit`).
 ///
 /// `watch <format> <lines> <id>..` lists the transfers of a log that comes from the source (`Watches` of
-/// `cmd_bus_logs`), and `convert <format> <format> <lines>` writes the log in the other form or the same
+/// `cmd_logs`), and `convert <format> <format> <lines>` writes the log in the other form or the same
 /// (`Converts`). `decode <name> <part> <hex>` writes the numbers of a payload under the part of a type that the
 /// text of the source describes (`Decodes` of `cmd_decode`); it is `NoPart` where the text has no such part, and
 /// `NoValue` where the payload has no reading. `new`, `audit`, `watch`, `convert` and `decode` take no memory,
@@ -95,7 +95,7 @@ use store_audit::audit_stores;
 /// was on it, is a pair of the list by then; and the log of every later leader whose term is at least a member's
 /// stored one begins with what that member has committed. What a device has that takes a node ID by the standard's
 /// rule is a pair of that list, so two with different unique IDs never have one node ID, and one unique ID never has
-/// two. Along the rows of a report each allocator by itself keeps its word, too (`KeepsItsWord` of `cluster_spec`):
+/// two. Along the rows of a report each allocator by itself keeps its word, too (`KeepsItsWord` of `bus_spec`):
 /// its whole log gives nothing twice, and whatever pair it offers is one of its own committed log.
 pub fn run<S: Source, K: Sink, L: Link, D: Disk, C: Clock>(
     alloc: Global,

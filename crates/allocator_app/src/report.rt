@@ -1,18 +1,18 @@
 ghost use Rattle.std.specs.Prelude.{◌≡◌, ◌≤◌, ◌<◌, ◌+◌, ◌++◌, ℕ, List, length, take, IfOk, codes, decimal};
 ghost use Rattle.can_frame.specs.declared.entry.Entry.{Entry};
 ghost use Rattle.bus_world.specs.World.{StandsFor, rows_taken};
-ghost use Rattle.cluster_spec.specs.Cluster.{Cluster};
-ghost use Rattle.cluster_spec.specs.Report.{all_logs, entry_line, entry_lines, member_lines};
+ghost use Rattle.bus_spec.specs.Cluster.{Cluster};
+ghost use Rattle.bus_spec.specs.Report.{all_logs, entry_line, entry_lines, member_lines};
 ghost use Rattle.allocator_app.specs.Logs.{HasLog, log_head};
-ghost use Rattle.cmd_base.specs.Counting.{CountsFaults};
-ghost use Rattle.cmd_base.specs.Output.{Grows, Writes, WritesLast};
+ghost use Rattle.cmd_io.specs.Counting.{CountsFaults};
+ghost use Rattle.cmd_io.specs.Output.{Grows, Writes, WritesLast};
 ghost use Rattle.allocator_app.specs.Rows.{last_line_of, last_of, logs_before, status_of};
 
 use crate::replay::taken;
 use crate::rows::Rows;
 use bus_world::World;
 use can_frame::{Entry, Kind};
-use cmd_base::{Output, Status, number_line, numbers_line};
+use cmd_io::{Output, Status, number_line, numbers_line};
 use outside::{Failed, Sink};
 use replay_text::Line;
 

@@ -7,8 +7,8 @@ ghost use Rattle.allocator_app.specs.Told.{AreAmong, IsCluster, Spells, commas, 
 
 use crate::words::number_within;
 use arrayvec::ArrayVec;
+use bus_spec::are_members;
 use can_frame::sizes::MOST_MEMBERS;
-use cluster_spec::are_members;
 use replay_text::read_number;
 
 /// How long a process that is told its members, and ran one of them before, rests before its first turn, in

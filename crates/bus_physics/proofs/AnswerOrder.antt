@@ -32,24 +32,24 @@ use Rattle.alloc_spec.specs.Step.Event.{Rx as Receives}
 use Rattle.alloc_spec.specs.StepState.{StepState}
 use Rattle.alloc_spec.specs.Transfers.{Offer, SentTransfer, ident_of, kind_of, number_of, signature_of}
 use Rattle.alloc_spec_laws.specs.Responses.{AnswersAsked, IsResponse, ResponsesAnswer}
-use Rattle.cluster_spec.specs.declared.unlawful.Unlawful.{Unlawful}
-use Rattle.cluster_spec.specs.Cluster.{AreMembers, Cluster, after_row, after_rows, arrival_at, cluster, frame_at, receipt_of, tick_of, world_of}
-use Rattle.cluster_spec.specs.Lawful.{AreLawful, arrival_refusal, cause, no_node, no_such_frame, not_running, or_else}
-use Rattle.cluster_spec.specs.Members.{Member, MemberStatus, puts_of}
-use Rattle.cluster_spec.specs.Members.MemberStatus.{Down, Failed, Up}
-use Rattle.cluster_spec.specs.Refinement.{transfers_of_offers, transfers_of_row, transfers_of_rows, transfers_of_step}
-use Rattle.cluster_agreement.specs.LawsBelow.{FrameLaws}
-use Rattle.cluster_agreement.specs.Said.{carrier}
-use Rattle.cluster_agreement.specs.Shows.{Shows, ShowsMember, ShowsUp}
-use Rattle.cluster_agreement.proofs.Deliveries.{listed_in}
-use Rattle.cluster_agreement.proofs.Idents.{IsWanted, one_what, to_for, wanted_is}
-use Rattle.cluster_agreement.proofs.Lists.{in_back, in_front, never}
-use Rattle.cluster_agreement.proofs.MadeTransfers.{IsNew, made_when, still_made}
-use Rattle.cluster_agreement.proofs.OneRow.{stands}
-use Rattle.cluster_agreement.proofs.OneRowMore.{lawful as one_more}
-use Rattle.cluster_agreement.proofs.Pieces.{no_piece, piece_read, theirs}
-use Rattle.cluster_agreement.proofs.RowsWithoutEvents.{is_one, past_first}
-use Rattle.cluster_agreement.proofs.WholeTransfers.{IsFrom, from_bus, members_own}
+use Rattle.bus_spec.specs.declared.unlawful.Unlawful.{Unlawful}
+use Rattle.bus_spec.specs.Cluster.{AreMembers, Cluster, after_row, after_rows, arrival_at, cluster, frame_at, receipt_of, tick_of, world_of}
+use Rattle.bus_spec.specs.Lawful.{AreLawful, arrival_refusal, cause, no_node, no_such_frame, not_running, or_else}
+use Rattle.bus_spec.specs.Members.{Member, MemberStatus, puts_of}
+use Rattle.bus_spec.specs.Members.MemberStatus.{Down, Failed, Up}
+use Rattle.bus_spec.specs.Refinement.{transfers_of_offers, transfers_of_row, transfers_of_rows, transfers_of_step}
+use Rattle.bus_agreement.specs.LawsBelow.{FrameLaws}
+use Rattle.bus_agreement.specs.Said.{carrier}
+use Rattle.bus_agreement.specs.Shows.{Shows, ShowsMember, ShowsUp}
+use Rattle.bus_agreement.proofs.Deliveries.{listed_in}
+use Rattle.bus_agreement.proofs.Idents.{IsWanted, one_what, to_for, wanted_is}
+use Rattle.bus_agreement.proofs.Lists.{in_back, in_front, never}
+use Rattle.bus_agreement.proofs.MadeTransfers.{IsNew, made_when, still_made}
+use Rattle.bus_agreement.proofs.OneRow.{stands}
+use Rattle.bus_agreement.proofs.OneRowMore.{lawful as one_more}
+use Rattle.bus_agreement.proofs.Pieces.{no_piece, piece_read, theirs}
+use Rattle.bus_agreement.proofs.RowsWithoutEvents.{is_one, past_first}
+use Rattle.bus_agreement.proofs.WholeTransfers.{IsFrom, from_bus, members_own}
 use Rattle.bus_physics.specs.Physics.{Come, ComesAt, ComesInTurn, HasKeyAt, WhereIts, heard_by, heard_in}
 use Rattle.bus_physics.proofs.OncePerStep.{AreOnce}
 use Rattle.bus_physics.proofs.Short.{tail_is}

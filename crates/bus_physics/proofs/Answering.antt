@@ -14,12 +14,12 @@ use Rattle.alloc_spec.specs.AllocatorState.{AllocatorState}
 use Rattle.alloc_spec.specs.Step.{Event, at_step, begin_phase, step}
 use Rattle.alloc_spec.specs.Step.Event.{Rx as Receives}
 use Rattle.alloc_spec.specs.Transfers.{Offer, SentTransfer, kind_of}
-use Rattle.cluster_spec.specs.Cluster.{Cluster, after_row, arrival_at, frame_at, receipt_of, tick_of}
-use Rattle.cluster_spec.specs.Members.{Member, MemberStatus, puts_of}
-use Rattle.cluster_spec.specs.Members.MemberStatus.{Down, Failed, Up}
-use Rattle.cluster_spec.specs.Refinement.{transfers_of_offers, transfers_of_row, transfers_of_rows, transfers_of_step}
-use Rattle.cluster_agreement.specs.LawsBelow.{FrameLaws}
-use Rattle.cluster_agreement.proofs.MadeTransfers.{IsNew, made_when}
+use Rattle.bus_spec.specs.Cluster.{Cluster, after_row, arrival_at, frame_at, receipt_of, tick_of}
+use Rattle.bus_spec.specs.Members.{Member, MemberStatus, puts_of}
+use Rattle.bus_spec.specs.Members.MemberStatus.{Down, Failed, Up}
+use Rattle.bus_spec.specs.Refinement.{transfers_of_offers, transfers_of_row, transfers_of_rows, transfers_of_step}
+use Rattle.bus_agreement.specs.LawsBelow.{FrameLaws}
+use Rattle.bus_agreement.proofs.MadeTransfers.{IsNew, made_when}
 use Rattle.bus_physics.specs.Physics.{ComesInTime, FrameComesInTime, FramesComeInTime, Limits, Timed, rows_in, time_of}
 
 one_arrival : (a b : Arrival) → Receives a ≡ Receives b → a ≡ b

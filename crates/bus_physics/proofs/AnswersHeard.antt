@@ -24,20 +24,20 @@ use Rattle.transfer_tx.specs.Queue.{Queued}
 use Rattle.alloc_spec.specs.Accepted.{rows}
 use Rattle.alloc_spec.specs.Transfers.{SentTransfer, ident_of, kind_of, number_of, signature_of}
 use Rattle.alloc_spec_laws.specs.Saying.{IsSaid}
-use Rattle.cluster_spec.specs.Allocatees.{next_from}
-use Rattle.cluster_spec.specs.Cluster.{AreMembers, Cluster, after_row, after_rows, arrival_at, frame_at, from_outside, in_list, is_member}
-use Rattle.cluster_spec.specs.Lawful.{AreLawful, arrival_refusal, cause, is_forged, is_forged_by, no_node, no_such_frame, not_running, or_else}
+use Rattle.bus_spec.specs.Allocatees.{next_from}
+use Rattle.bus_spec.specs.Cluster.{AreMembers, Cluster, after_row, after_rows, arrival_at, frame_at, from_outside, in_list, is_member}
+use Rattle.bus_spec.specs.Lawful.{AreLawful, arrival_refusal, cause, is_forged, is_forged_by, no_node, no_such_frame, not_running, or_else}
 use Rattle.alloc_spec.specs.Accepted.{is_members_service}
-use Rattle.cluster_spec.specs.Members.{next_frame}
-use Rattle.cluster_agreement.specs.Frames.{IsOnBus}
-use Rattle.cluster_agreement.specs.LawsBelow.{FrameLaws}
-use Rattle.cluster_agreement.specs.Shows.{Shows}
-use Rattle.cluster_agreement.proofs.Idents.{one_what}
-use Rattle.cluster_agreement.proofs.Lists.{in_append, in_front, never}
-use Rattle.cluster_agreement.proofs.OneRow.{stands}
-use Rattle.cluster_agreement.proofs.Pieces.{IsPieceOf, piece_of}
-use Rattle.cluster_agreement.proofs.RowsWithoutEvents.{past_first}
-use Rattle.cluster_agreement.proofs.WholeTransfers.{read_back, some_is}
+use Rattle.bus_spec.specs.Members.{next_frame}
+use Rattle.bus_agreement.specs.Frames.{IsOnBus}
+use Rattle.bus_agreement.specs.LawsBelow.{FrameLaws}
+use Rattle.bus_agreement.specs.Shows.{Shows}
+use Rattle.bus_agreement.proofs.Idents.{one_what}
+use Rattle.bus_agreement.proofs.Lists.{in_append, in_front, never}
+use Rattle.bus_agreement.proofs.OneRow.{stands}
+use Rattle.bus_agreement.proofs.Pieces.{IsPieceOf, piece_of}
+use Rattle.bus_agreement.proofs.RowsWithoutEvents.{past_first}
+use Rattle.bus_agreement.proofs.WholeTransfers.{read_back, some_is}
 use Rattle.bus_physics.specs.Physics.{ComesInTurn, HasKeyAt, IsResponseOf, heard_by, heard_in}
 use Rattle.bus_physics.proofs.AnswerOrder.{AreOrdered, answerer, mark_is}
 use Rattle.bus_physics.proofs.OncePerStep.{AreOnce}

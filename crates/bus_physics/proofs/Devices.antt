@@ -13,15 +13,15 @@ use Rattle.transfer_tx.specs.Queue.{Queued}
 use Rattle.allocatee.specs.Accepted as device
 use Rattle.allocatee.specs.Allocatee.{Device, at_step, opening, step}
 use Rattle.allocatee.specs.Allocatee.Event.{Rx as Receives, Tick as Ticks}
-use Rattle.cluster_spec.specs.Allocatees.{after_sending_from, device_after_step, next_from}
-use Rattle.cluster_spec.specs.Cluster.{Cluster, after_row, after_rows, arrival_at, frame_at, from_outside, in_list, receipt_at}
-use Rattle.cluster_spec.specs.Lawful.{AreLawful, absent, arrival_refusal_at, cause, no_allocatee, no_such_frame, or_else}
-use Rattle.cluster_spec.specs.Members.{next_frame}
-use Rattle.cluster_agreement.specs.Frames.{CameFrom}
-use Rattle.cluster_agreement.proofs.DeliveredTransfers.{IsOfKey}
-use Rattle.cluster_agreement.proofs.Lists.{in_front}
-use Rattle.cluster_agreement.proofs.OneRow.{stands}
-use Rattle.cluster_agreement.proofs.RowsWithoutEvents.{past_first}
+use Rattle.bus_spec.specs.Allocatees.{after_sending_from, device_after_step, next_from}
+use Rattle.bus_spec.specs.Cluster.{Cluster, after_row, after_rows, arrival_at, frame_at, from_outside, in_list, receipt_at}
+use Rattle.bus_spec.specs.Lawful.{AreLawful, absent, arrival_refusal_at, cause, no_allocatee, no_such_frame, or_else}
+use Rattle.bus_spec.specs.Members.{next_frame}
+use Rattle.bus_agreement.specs.Frames.{CameFrom}
+use Rattle.bus_agreement.proofs.DeliveredTransfers.{IsOfKey}
+use Rattle.bus_agreement.proofs.Lists.{in_front}
+use Rattle.bus_agreement.proofs.OneRow.{stands}
+use Rattle.bus_agreement.proofs.RowsWithoutEvents.{past_first}
 use Rattle.bus_physics.specs.Physics.{DeviceRowsArePhysical, ComesInTime, GoesOn, Limits, WhereIts, Reading, RowIsPhysical, Timed, now_of, readings_after, rows_in, time_of}
 use Rattle.bus_physics.proofs.InTime.{Heard, IsInTime, still, stepped}
 

@@ -15,9 +15,9 @@ use Rattle.alloc_spec.specs.Rules.{Rules, opening_by}
 use Rattle.alloc_spec.specs.Step.{Event, after_pop, step}
 use Rattle.alloc_spec.specs.Step.Event.{Rx as Receives, Tick as Ticks}
 use Rattle.alloc_spec.specs.StepState.{StepState}
-use Rattle.cluster_spec.specs.Cluster.{Cluster, after_row, after_rows, arrival_at, frame_at, receipt_of, rules_of, tick_of}
-use Rattle.cluster_spec.specs.Members.{Member, MemberStatus, after_crash, after_cut_off, after_failed_opening, after_opening, after_sending, member_after_step, puts_of, stopped_with, with_stop_armed}
-use Rattle.cluster_spec.specs.Members.MemberStatus.{Down, Failed, Up}
+use Rattle.bus_spec.specs.Cluster.{Cluster, after_row, after_rows, arrival_at, frame_at, receipt_of, rules_of, tick_of}
+use Rattle.bus_spec.specs.Members.{Member, MemberStatus, after_crash, after_cut_off, after_failed_opening, after_opening, after_sending, member_after_step, puts_of, stopped_with, with_stop_armed}
+use Rattle.bus_spec.specs.Members.MemberStatus.{Down, Failed, Up}
 use Rattle.bus_physics.specs.Physics.{ComeInOrder, ComesInOrder, IsInOrder, WhereIts, heard_by, heard_in}
 use Rattle.bus_physics.proofs.Members.{MemberLaws}
 use Rattle.bus_physics.proofs.Restarts.{NoneLater, restarted}

@@ -10,8 +10,8 @@ use Rattle.transfer_tx.specs.Queue.{Queued}
 use Rattle.allocatee.specs.Accepted as device
 use Rattle.allocatee.specs.Allocatee.{Device, opening, step}
 use Rattle.allocatee.specs.Allocatee.Event.{Tick as Ticks}
-use Rattle.cluster_spec.specs.Allocatees.{after_sending_from, device_after_step}
-use Rattle.cluster_spec.specs.Cluster.{Cluster, after_row, after_rows, arrival_at, frame_at, receipt_at}
+use Rattle.bus_spec.specs.Allocatees.{after_sending_from, device_after_step}
+use Rattle.bus_spec.specs.Cluster.{Cluster, after_row, after_rows, arrival_at, frame_at, receipt_at}
 use Rattle.bus_physics.specs.Physics.{ComeInOrderToDevice, ComesInOrderToDevice, IsInOrderToDevice, WhereIts, device_heard_by, device_heard_in}
 use Rattle.bus_physics.proofs.Devices.{SessionLaws}
 use Rattle.bus_physics.proofs.Restarts.{NoneLater, restarted}

@@ -26,24 +26,24 @@ use Rattle.alloc_spec.specs.Step.{begin_phase}
 use Rattle.alloc_spec.specs.Transfers.{SentTransfer, number_of}
 use Rattle.alloc_spec_laws.proofs.Choices.{eq_false, eq_true}
 use Rattle.alloc_spec_laws.proofs.DistinctTransfers.{rank}
-use Rattle.cluster_spec.specs.declared.unlawful.Unlawful.{Unlawful}
-use Rattle.cluster_spec.specs.Cluster.{AreMembers, Cluster, arrival_at, frame_at, receipt_of}
-use Rattle.cluster_spec.specs.Lawful.{arrival_refusal, cause, no_node, no_such_frame, not_running, or_else}
-use Rattle.cluster_spec.specs.Members.{MemberStatus}
-use Rattle.cluster_spec.specs.Members.MemberStatus.{Up}
-use Rattle.cluster_agreement.specs.Frames.{WasMade}
-use Rattle.cluster_agreement.specs.LawsBelow.{FrameLaws}
-use Rattle.cluster_agreement.specs.Said.{IsCalled, carrier}
-use Rattle.cluster_agreement.specs.Shows.{Shows, ShowsMember, ShowsUp}
-use Rattle.cluster_agreement.proofs.Deliveries.{listed_in}
-use Rattle.cluster_agreement.proofs.DeliveredTransfers.{was_made}
-use Rattle.cluster_agreement.proofs.Idents.{IsWanted, service_is, wanted_is}
-use Rattle.cluster_agreement.proofs.Lists.{in_back, never}
-use Rattle.cluster_agreement.proofs.OneRow.{is_fine, stands}
-use Rattle.cluster_agreement.proofs.RowsWithoutEvents.{is_one, past_first}
-use Rattle.cluster_agreement.proofs.TakenMessages.{IsAwaited, awaited_by, is_vote}
-use Rattle.cluster_agreement.proofs.WaitingCalls.{Waits, waited}
-use Rattle.cluster_agreement.proofs.WholeTransfers.{members_own}
+use Rattle.bus_spec.specs.declared.unlawful.Unlawful.{Unlawful}
+use Rattle.bus_spec.specs.Cluster.{AreMembers, Cluster, arrival_at, frame_at, receipt_of}
+use Rattle.bus_spec.specs.Lawful.{arrival_refusal, cause, no_node, no_such_frame, not_running, or_else}
+use Rattle.bus_spec.specs.Members.{MemberStatus}
+use Rattle.bus_spec.specs.Members.MemberStatus.{Up}
+use Rattle.bus_agreement.specs.Frames.{WasMade}
+use Rattle.bus_agreement.specs.LawsBelow.{FrameLaws}
+use Rattle.bus_agreement.specs.Said.{IsCalled, carrier}
+use Rattle.bus_agreement.specs.Shows.{Shows, ShowsMember, ShowsUp}
+use Rattle.bus_agreement.proofs.Deliveries.{listed_in}
+use Rattle.bus_agreement.proofs.DeliveredTransfers.{was_made}
+use Rattle.bus_agreement.proofs.Idents.{IsWanted, service_is, wanted_is}
+use Rattle.bus_agreement.proofs.Lists.{in_back, never}
+use Rattle.bus_agreement.proofs.OneRow.{is_fine, stands}
+use Rattle.bus_agreement.proofs.RowsWithoutEvents.{is_one, past_first}
+use Rattle.bus_agreement.proofs.TakenMessages.{IsAwaited, awaited_by, is_vote}
+use Rattle.bus_agreement.proofs.WaitingCalls.{Waits, waited}
+use Rattle.bus_agreement.proofs.WholeTransfers.{members_own}
 use Rattle.bus_physics.specs.Physics.{heard_in}
 use Rattle.bus_physics.proofs.SpacedCalls.{Answers, IsHeard}
 use Rattle.bus_physics.proofs.StepCalls.{IsAnswerOf, IsSpaced}

@@ -22,7 +22,7 @@ use Rattle.transfer_rx.specs.Sessions.{Session, is_recent, others, recent_sessio
 use Rattle.transfer_rx.proofs.Completeness.{is_own}
 use Rattle.transfer_rx.proofs.Origin.{comes_to}
 use Rattle.transfer_rx.proofs.Steps.{anonymous, of_session, unwanted}
-use Rattle.cluster_agreement.proofs.Lists.{never}
+use Rattle.bus_agreement.proofs.Lists.{never}
 use Rattle.bus_physics.specs.Physics.{Reading}
 
 -- a frame as it came, and when

@@ -27,7 +27,7 @@ use Rattle.alloc_spec_laws.proofs.DistinctTransfers.{rank, sent}
 use Rattle.alloc_spec_laws.proofs.EndOffers.{Told, tells}
 use Rattle.alloc_spec_laws.proofs.Lists.{in_append}
 use Rattle.alloc_spec_laws.proofs.Transfers.{event_offers}
-use Rattle.cluster_agreement.proofs.Lists.{never, tell}
+use Rattle.bus_agreement.proofs.Lists.{never, tell}
 
 eqb_same : (a b : ℕ) → a ≡ b → (a == b) ≡ true
 eqb_same a b e = elim (eqb_tells a b) [ inl s ↦ s.0 | inr apart ↦ absurd (apart.1 e) ]

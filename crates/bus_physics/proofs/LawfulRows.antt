@@ -2,8 +2,8 @@
 use Rattle.std.proofs.Common.{◌≡◌, List, [], ◌∷◌, ◌++◌, refl}
 use Rattle.std.specs.Prelude.{None}
 use Rattle.replay_text.specs.declared.row.Row.{Row}
-use Rattle.cluster_spec.specs.Cluster.{Cluster, after_row, after_rows}
-use Rattle.cluster_spec.specs.Lawful.{AreLawful, cause}
+use Rattle.bus_spec.specs.Cluster.{Cluster, after_row, after_rows}
+use Rattle.bus_spec.specs.Lawful.{AreLawful, cause}
 
 -- rows, and more rows behind them
 pub rows_joined : (w : Cluster) (rows more : List Row) → after_rows w (rows ++ more) ≡ after_rows (after_rows w rows) more

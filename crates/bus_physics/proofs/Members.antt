@@ -23,16 +23,16 @@ use Rattle.alloc_spec.specs.Rules.{Rules, opening_by}
 use Rattle.alloc_spec.specs.Step.{Event, after_pop, moment_of, step}
 use Rattle.alloc_spec.specs.Step.Event.{Rx as Receives, Tick as Ticks}
 use Rattle.alloc_spec.specs.StepState.{StepState}
-use Rattle.cluster_spec.specs.Cluster.{Cluster, after_row, after_rows, arrival_at, frame_at, from_outside, in_list, receipt_of, rules_of, tick_of}
-use Rattle.cluster_spec.specs.Lawful.{AreLawful, arrival_refusal, cause, no_node, no_such_frame, not_running, or_else}
-use Rattle.cluster_spec.specs.Allocatees.{next_from}
-use Rattle.cluster_spec.specs.Members.{Member, MemberStatus, after_crash, after_cut_off, after_opening, after_sending, member_after_step, next_frame, puts_of, stopped_with, with_stop_armed}
-use Rattle.cluster_spec.specs.Members.MemberStatus.{Down, Failed, Up}
-use Rattle.cluster_agreement.specs.Frames.{CameFrom}
-use Rattle.cluster_agreement.proofs.DeliveredTransfers.{IsOfKey}
-use Rattle.cluster_agreement.proofs.Lists.{in_front}
-use Rattle.cluster_agreement.proofs.OneRow.{stands}
-use Rattle.cluster_agreement.proofs.RowsWithoutEvents.{past_first}
+use Rattle.bus_spec.specs.Cluster.{Cluster, after_row, after_rows, arrival_at, frame_at, from_outside, in_list, receipt_of, rules_of, tick_of}
+use Rattle.bus_spec.specs.Lawful.{AreLawful, arrival_refusal, cause, no_node, no_such_frame, not_running, or_else}
+use Rattle.bus_spec.specs.Allocatees.{next_from}
+use Rattle.bus_spec.specs.Members.{Member, MemberStatus, after_crash, after_cut_off, after_opening, after_sending, member_after_step, next_frame, puts_of, stopped_with, with_stop_armed}
+use Rattle.bus_spec.specs.Members.MemberStatus.{Down, Failed, Up}
+use Rattle.bus_agreement.specs.Frames.{CameFrom}
+use Rattle.bus_agreement.proofs.DeliveredTransfers.{IsOfKey}
+use Rattle.bus_agreement.proofs.Lists.{in_front}
+use Rattle.bus_agreement.proofs.OneRow.{stands}
+use Rattle.bus_agreement.proofs.RowsWithoutEvents.{past_first}
 use Rattle.bus_physics.specs.Physics.{ClockGoesOn, ClockGoesOnAt, ComesInTime, FrameComesInTime, FramesComeInTime, GoesOn, Limits, WhereIts, Reading, Timed, member_readings, now_in, rows_in, time_of}
 use Rattle.bus_physics.proofs.Devices.{IsTimely, soon, width}
 use Rattle.bus_physics.proofs.InTime.{Heard, IsInTime, still, stepped}
@@ -218,7 +218,7 @@ module _ (limits : Limits) (all : List Timed) where
       by : (b : Bool) → (if b then record (w.member m) {
         status = Up (opening_by m rules (Rattle.raft_core.specs.StoredPuts.store_of (opening_on (w.member m).disk).store) ms word);
         disk = opening_on (w.member m).disk;
-      } else Rattle.cluster_spec.specs.Members.after_failed_opening (w.member m) (opening_on (w.member m).disk)).status ≡ Up u
+      } else Rattle.bus_spec.specs.Members.after_failed_opening (w.member m) (opening_on (w.member m).disk)).status ≡ Up u
           → MemberInv w.frames (record { at = came; now = ms } ∷ []) u
       by true e = subst (λ (v : AllocatorState). MemberInv w.frames (record { at = came; now = ms } ∷ []) v) (one_up _ u e)
           (fresh (Rattle.raft_core.specs.StoredPuts.store_of (opening_on (w.member m).disk).store))

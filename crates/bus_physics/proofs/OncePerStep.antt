@@ -11,11 +11,11 @@ use Rattle.alloc_spec.specs.Step.{Event, step}
 use Rattle.alloc_spec.specs.StepState.{StepState}
 use Rattle.alloc_spec.specs.Transfers.{Offer, SentTransfer}
 use Rattle.alloc_spec_laws.specs.Apart.{AreAllApart}
-use Rattle.cluster_spec.specs.Cluster.{Cluster, after_row, after_rows, receipt_of, tick_of}
-use Rattle.cluster_spec.specs.Members.{Member, MemberStatus, puts_of}
-use Rattle.cluster_spec.specs.Members.MemberStatus.{Down, Failed, Up}
-use Rattle.cluster_spec.specs.Refinement.{transfers_of_offers, transfers_of_row, transfers_of_rows, transfers_of_step}
-use Rattle.cluster_agreement.proofs.MadeTransfers.{IsNew, made_by, made_when}
+use Rattle.bus_spec.specs.Cluster.{Cluster, after_row, after_rows, receipt_of, tick_of}
+use Rattle.bus_spec.specs.Members.{Member, MemberStatus, puts_of}
+use Rattle.bus_spec.specs.Members.MemberStatus.{Down, Failed, Up}
+use Rattle.bus_spec.specs.Refinement.{transfers_of_offers, transfers_of_row, transfers_of_rows, transfers_of_step}
+use Rattle.bus_agreement.proofs.MadeTransfers.{IsNew, made_by, made_when}
 
 -- two offers of a step that fitted are one
 one_offer : (offers : List Offer) → AreAllApart offers → (a b : Offer) → In a offers → In b offers → a.fitted ≡ true → b.fitted ≡ true → a.what ≡ b.what

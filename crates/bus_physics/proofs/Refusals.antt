@@ -13,15 +13,15 @@ use Rattle.allocatee.specs.Judging as judging
 use Rattle.alloc_spec.specs.Accepted.{setting_for}
 use Rattle.alloc_spec.specs.Judging.{answer_judgement, arrival_judgement, is_stale}
 use Rattle.alloc_spec.specs.AllocatorState.{AllocatorState}
-use Rattle.cluster_spec.specs.declared.unlawful.Unlawful.{Unlawful}
-use Rattle.cluster_spec.specs.declared.unlawful.Unlawful.TheVariants.{Absent, NoAllocatee, NoFrame, NoNode, Stopped}
-use Rattle.cluster_spec.specs.declared.unlawful.Unlawful.TheVariants as unlawful
-use Rattle.cluster_spec.specs.Allocatees.{is_place}
-use Rattle.cluster_spec.specs.Cluster.{Cluster, arrival_at, frame_at, is_member}
-use Rattle.cluster_spec.specs.Lawful.{absent, arrival_refusal, arrival_refusal_at, because, cause, cause_of_judgement, no_allocatee, no_node, no_such_frame, not_running, or_else}
-use Rattle.cluster_spec.specs.Members.{MemberStatus, is_running}
-use Rattle.cluster_spec.specs.Members.MemberStatus.{Down, Failed, Up}
-use Rattle.cluster_agreement.proofs.RowsWithoutEvents.{is_one}
+use Rattle.bus_spec.specs.declared.unlawful.Unlawful.{Unlawful}
+use Rattle.bus_spec.specs.declared.unlawful.Unlawful.TheVariants.{Absent, NoAllocatee, NoFrame, NoNode, Stopped}
+use Rattle.bus_spec.specs.declared.unlawful.Unlawful.TheVariants as unlawful
+use Rattle.bus_spec.specs.Allocatees.{is_place}
+use Rattle.bus_spec.specs.Cluster.{Cluster, arrival_at, frame_at, is_member}
+use Rattle.bus_spec.specs.Lawful.{absent, arrival_refusal, arrival_refusal_at, because, cause, cause_of_judgement, no_allocatee, no_node, no_such_frame, not_running, or_else}
+use Rattle.bus_spec.specs.Members.{MemberStatus, is_running}
+use Rattle.bus_spec.specs.Members.MemberStatus.{Down, Failed, Up}
+use Rattle.bus_agreement.proofs.RowsWithoutEvents.{is_one}
 
 -- ---- the cause is the last one
 

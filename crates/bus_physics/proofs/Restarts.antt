@@ -21,8 +21,8 @@ use Rattle.transfer_rx.proofs.Completeness.{is_own}
 use Rattle.transfer_rx.proofs.Found.{found-key, same_key-equal, same_key-true}
 use Rattle.transfer_rx.proofs.Steps.{anonymous, of_session, unwanted}
 use Rattle.transfer_tx.specs.Queue.{Queued}
-use Rattle.cluster_spec.specs.Cluster.{arrival_at}
-use Rattle.cluster_agreement.proofs.Lists.{in_append, never}
+use Rattle.bus_spec.specs.Cluster.{arrival_at}
+use Rattle.bus_agreement.proofs.Lists.{in_append, never}
 use Rattle.bus_physics.proofs.InTime.{filtered, found}
 
 module _ (setting : Setting) where

@@ -11,12 +11,12 @@ use Rattle.alloc_spec.specs.Step.{Event, step}
 use Rattle.alloc_spec.specs.Transfers.{SentTransfer, kind_of}
 use Rattle.alloc_spec_laws.specs.Calls.{CallsAreMade}
 use Rattle.alloc_spec_laws.specs.Sound.{IsDestination}
-use Rattle.cluster_spec.specs.Cluster.{AreMembers, cluster, world_of}
-use Rattle.cluster_spec.specs.Lawful.{AreLawful}
-use Rattle.cluster_spec.specs.Refinement.{transfers_of_rows}
-use Rattle.cluster_agreement.specs.LawsBelow.{FrameLaws}
-use Rattle.cluster_agreement.specs.Said.{carrier}
-use Rattle.cluster_agreement.proofs.Concatenations.{ids_stay}
+use Rattle.bus_spec.specs.Cluster.{AreMembers, cluster, world_of}
+use Rattle.bus_spec.specs.Lawful.{AreLawful}
+use Rattle.bus_spec.specs.Refinement.{transfers_of_rows}
+use Rattle.bus_agreement.specs.LawsBelow.{FrameLaws}
+use Rattle.bus_agreement.specs.Said.{carrier}
+use Rattle.bus_agreement.proofs.Concatenations.{ids_stay}
 use Rattle.bus_physics.specs.Physics.{ClockIsNotFast, HoldsAreShort, IsAnsweredSince, Limits, RestsBeforeOpening, Timed, WaitsForAnswers, heard_by, rows_in, time_of}
 use Rattle.bus_physics.proofs.HeardAnswers.{answers_are_heard}
 use Rattle.bus_physics.proofs.Single.{IsShown}

@@ -21,17 +21,17 @@ use Rattle.alloc_spec.specs.Accepted.{rows, setting_for}
 use Rattle.alloc_spec.specs.AllocatorState.{AllocatorState}
 use Rattle.alloc_spec.specs.Transfers.{SentTransfer, number_of}
 use Rattle.alloc_spec_laws.proofs.Choices.{and_right, not_true}
-use Rattle.cluster_spec.specs.declared.unlawful.Unlawful.TheVariants as unlawful
-use Rattle.cluster_spec.specs.Cluster.{AreMembers, Cluster, arrival_at, frame_at}
-use Rattle.cluster_spec.specs.Lawful.{cause, is_forged}
-use Rattle.cluster_spec.specs.Members.{MemberStatus}
-use Rattle.cluster_agreement.specs.Frames.{CameFrom, WasMade}
-use Rattle.cluster_agreement.specs.LawsBelow.{FrameLaws}
-use Rattle.cluster_agreement.specs.Shows.{Shows, ShowsMember, ShowsUp}
-use Rattle.cluster_agreement.proofs.DeliveredTransfers.{has_taken, was_made}
-use Rattle.cluster_agreement.proofs.Idents.{IsWanted, service_is, wanted_is}
-use Rattle.cluster_agreement.proofs.Lists.{equal, never}
-use Rattle.cluster_agreement.proofs.OneRow.{stands}
+use Rattle.bus_spec.specs.declared.unlawful.Unlawful.TheVariants as unlawful
+use Rattle.bus_spec.specs.Cluster.{AreMembers, Cluster, arrival_at, frame_at}
+use Rattle.bus_spec.specs.Lawful.{cause, is_forged}
+use Rattle.bus_spec.specs.Members.{MemberStatus}
+use Rattle.bus_agreement.specs.Frames.{CameFrom, WasMade}
+use Rattle.bus_agreement.specs.LawsBelow.{FrameLaws}
+use Rattle.bus_agreement.specs.Shows.{Shows, ShowsMember, ShowsUp}
+use Rattle.bus_agreement.proofs.DeliveredTransfers.{has_taken, was_made}
+use Rattle.bus_agreement.proofs.Idents.{IsWanted, service_is, wanted_is}
+use Rattle.bus_agreement.proofs.Lists.{equal, never}
+use Rattle.bus_agreement.proofs.OneRow.{stands}
 use Rattle.bus_physics.specs.Reuse.{IsStaleAt, IsTornAt, IsTornAtDevice, IsTornOf}
 use Rattle.bus_physics.proofs.Refusals.{IsRefused, IsRefusedAt, of_stale, of_torn, refused, refused_at, stale_at, torn_at, torn_at_device}
 use Rattle.bus_physics.proofs.Stale.{AreTwoCalls, IsMissed, from_member, missed, two_calls}

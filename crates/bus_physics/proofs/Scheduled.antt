@@ -10,17 +10,17 @@ use Rattle.transfer_rx.specs.Reassembly.{Answer, Arrival, Continues, Drops, Give
 use Rattle.transfer_tx.specs.Queue.{Queued}
 use Rattle.allocatee.specs.Allocatee.{Device, answer_to}
 use Rattle.allocatee.specs.Judging as device
-use Rattle.cluster_spec.specs.declared.unlawful.Unlawful.{Unlawful}
-use Rattle.cluster_spec.specs.declared.unlawful.Unlawful.TheVariants.{NoNode, Stopped, Running, NoFrame, NothingQueued, Forged, NoAllocatee, Absent, Present}
-use Rattle.cluster_spec.specs.declared.unlawful.Unlawful.TheVariants as unlawful
-use Rattle.cluster_spec.specs.Cluster.{Cluster, after_row, after_rows, arrival_at, cluster, frame_at, is_member, world_of}
-use Rattle.cluster_spec.specs.Lawful.{DoNoHarm, DoesNoHarm, AreLawful, absent, already_running, arrival_refusal_at, because, cause, cause_of_judgement, is_forged, no_allocatee, no_node, no_such_frame, not_running, nothing_to_send, or_else, present}
-use Rattle.cluster_spec.specs.Allocatees.{is_place, next_from}
-use Rattle.cluster_spec.specs.Members.{is_running, next_frame}
-use Rattle.cluster_spec.specs.Refinement.{transfers_of_rows}
-use Rattle.cluster_agreement.proofs.Concatenations.{ids_stay}
-use Rattle.cluster_agreement.proofs.Lists.{never}
-use Rattle.cluster_agreement.proofs.OneRowMore.{grown, lawful as one_more}
+use Rattle.bus_spec.specs.declared.unlawful.Unlawful.{Unlawful}
+use Rattle.bus_spec.specs.declared.unlawful.Unlawful.TheVariants.{NoNode, Stopped, Running, NoFrame, NothingQueued, Forged, NoAllocatee, Absent, Present}
+use Rattle.bus_spec.specs.declared.unlawful.Unlawful.TheVariants as unlawful
+use Rattle.bus_spec.specs.Cluster.{Cluster, after_row, after_rows, arrival_at, cluster, frame_at, is_member, world_of}
+use Rattle.bus_spec.specs.Lawful.{DoNoHarm, DoesNoHarm, AreLawful, absent, already_running, arrival_refusal_at, because, cause, cause_of_judgement, is_forged, no_allocatee, no_node, no_such_frame, not_running, nothing_to_send, or_else, present}
+use Rattle.bus_spec.specs.Allocatees.{is_place, next_from}
+use Rattle.bus_spec.specs.Members.{is_running, next_frame}
+use Rattle.bus_spec.specs.Refinement.{transfers_of_rows}
+use Rattle.bus_agreement.proofs.Concatenations.{ids_stay}
+use Rattle.bus_agreement.proofs.Lists.{never}
+use Rattle.bus_agreement.proofs.OneRowMore.{grown, lawful as one_more}
 use Rattle.bus_physics.specs.Physics.{AllComeInTurn, Come, ComeInOrder, ComesAt, ComesInOrder, ComesInTurn, Limits, WhereIts, Timed, heard_in, rows_in}
 use Rattle.bus_physics.specs.Reuse.{LacksFrames}
 use Rattle.bus_physics.specs.Schedule.{DeviceHears, MemberHears, HappenOnBus, HappensOnBus, LawfulButForBus, LosesFrames, is_of_bus}

@@ -10,9 +10,9 @@ use Rattle.raft_model.specs.Lists.{In}
 use Rattle.transfer_rx.specs.Marks.{is_run, is_whole}
 use Rattle.transfer_rx.specs.Reassembly.{Arrival, piece_in}
 use Rattle.alloc_spec.specs.Transfers.{SentTransfer, signature_of}
-use Rattle.cluster_agreement.specs.LawsBelow.{FrameLaws}
-use Rattle.cluster_agreement.proofs.Lists.{in_at, never}
-use Rattle.cluster_agreement.proofs.Pieces.{no_piece, piece_id, theirs}
+use Rattle.bus_agreement.specs.LawsBelow.{FrameLaws}
+use Rattle.bus_agreement.proofs.Lists.{in_at, never}
+use Rattle.bus_agreement.proofs.Pieces.{no_piece, piece_id, theirs}
 use Rattle.bus_physics.specs.Reuse.{IsFrameOf}
 
 -- ---- the tail of a place

@@ -17,18 +17,18 @@ use Rattle.alloc_spec.specs.AllocatorState.{AllocatorState}
 use Rattle.alloc_spec.specs.Step.{Event, step}
 use Rattle.alloc_spec.specs.StepState.{StepState}
 use Rattle.alloc_spec.specs.Transfers.{SentTransfer}
-use Rattle.cluster_spec.specs.Cluster.{AreMembers, Cluster, after_row, arrival_at, cluster, frame_at, receipt_of, tick_of, world_of}
-use Rattle.cluster_spec.specs.Lawful.{AreLawful, arrival_refusal, cause, no_node, no_such_frame, not_running, or_else}
-use Rattle.cluster_spec.specs.Members.{Member, MemberStatus, after_cut_off, member_after_step, puts_of}
-use Rattle.cluster_spec.specs.Members.MemberStatus.{Down, Failed, Up}
-use Rattle.cluster_spec.specs.Refinement.{events, transfers_of_offers, transfers_of_row, transfers_of_rows, transfers_of_step}
-use Rattle.cluster_agreement.specs.Continues.{Continues}
-use Rattle.cluster_agreement.specs.Said.{IsRunWritable, IsStoreWritable}
-use Rattle.cluster_agreement.specs.Shows.{Shows, ShowsMember, ShowsUp}
-use Rattle.cluster_agreement.proofs.Concatenations.{ids_stay}
-use Rattle.cluster_agreement.proofs.Lists.{tell}
-use Rattle.cluster_agreement.proofs.MadeTransfers.{made_when}
-use Rattle.cluster_agreement.proofs.RowsWithoutEvents.{is_one, past_first}
+use Rattle.bus_spec.specs.Cluster.{AreMembers, Cluster, after_row, arrival_at, cluster, frame_at, receipt_of, tick_of, world_of}
+use Rattle.bus_spec.specs.Lawful.{AreLawful, arrival_refusal, cause, no_node, no_such_frame, not_running, or_else}
+use Rattle.bus_spec.specs.Members.{Member, MemberStatus, after_cut_off, member_after_step, puts_of}
+use Rattle.bus_spec.specs.Members.MemberStatus.{Down, Failed, Up}
+use Rattle.bus_spec.specs.Refinement.{events, transfers_of_offers, transfers_of_row, transfers_of_rows, transfers_of_step}
+use Rattle.bus_agreement.specs.Continues.{Continues}
+use Rattle.bus_agreement.specs.Said.{IsRunWritable, IsStoreWritable}
+use Rattle.bus_agreement.specs.Shows.{Shows, ShowsMember, ShowsUp}
+use Rattle.bus_agreement.proofs.Concatenations.{ids_stay}
+use Rattle.bus_agreement.proofs.Lists.{tell}
+use Rattle.bus_agreement.proofs.MadeTransfers.{made_when}
+use Rattle.bus_agreement.proofs.RowsWithoutEvents.{is_one, past_first}
 use Rattle.bus_physics.specs.Physics.{may_be_long}
 use Rattle.bus_physics.proofs.LawfulRows.{cause_at, first_lawful, rows_joined}
 use Rattle.bus_physics.proofs.StepAllocations.{AreWhole, IsShort, IsShortAs, short}

@@ -23,20 +23,20 @@ use Rattle.allocatee.specs.Given.{IsAnonymous}
 use Rattle.allocatee.proofs.Giving.{frame_queue}
 use Rattle.alloc_spec.specs.AllocatorState.{AllocatorState}
 use Rattle.alloc_spec.specs.Transfers.{ident_of, kind_of}
-use Rattle.cluster_spec.specs.Allocatees.{after_sending_from, device_after_step, next_from}
-use Rattle.cluster_spec.specs.Cluster.{AreMembers, Cluster, after_row, cluster, from_outside, in_list, receipt_at, world_of}
-use Rattle.cluster_spec.specs.Lawful.{AreLawful, cause, is_forged, no_node, not_running, nothing_to_send, or_else}
-use Rattle.cluster_spec.specs.Members.{MemberStatus, next_frame}
-use Rattle.cluster_spec.specs.Members.MemberStatus.{Down, Failed, Up}
-use Rattle.cluster_spec.specs.Refinement.{transfers_of_rows}
-use Rattle.cluster_agreement.specs.Frames.{IsPiece}
-use Rattle.cluster_agreement.specs.LawsBelow.{FrameLaws}
-use Rattle.cluster_agreement.specs.Shows.{Shows, ShowsMember, ShowsUp}
-use Rattle.cluster_agreement.proofs.Concatenations.{ids_stay}
-use Rattle.cluster_agreement.proofs.Lists.{in_append, of_each}
-use Rattle.cluster_agreement.proofs.Pieces.{IsPieceOf, no_piece, piece_of}
-use Rattle.cluster_agreement.proofs.RowsWithoutEvents.{is_one, out_of_queue, past_first}
-use Rattle.cluster_agreement.proofs.WholeTransfers.{members_own, read_back}
+use Rattle.bus_spec.specs.Allocatees.{after_sending_from, device_after_step, next_from}
+use Rattle.bus_spec.specs.Cluster.{AreMembers, Cluster, after_row, cluster, from_outside, in_list, receipt_at, world_of}
+use Rattle.bus_spec.specs.Lawful.{AreLawful, cause, is_forged, no_node, not_running, nothing_to_send, or_else}
+use Rattle.bus_spec.specs.Members.{MemberStatus, next_frame}
+use Rattle.bus_spec.specs.Members.MemberStatus.{Down, Failed, Up}
+use Rattle.bus_spec.specs.Refinement.{transfers_of_rows}
+use Rattle.bus_agreement.specs.Frames.{IsPiece}
+use Rattle.bus_agreement.specs.LawsBelow.{FrameLaws}
+use Rattle.bus_agreement.specs.Shows.{Shows, ShowsMember, ShowsUp}
+use Rattle.bus_agreement.proofs.Concatenations.{ids_stay}
+use Rattle.bus_agreement.proofs.Lists.{in_append, of_each}
+use Rattle.bus_agreement.proofs.Pieces.{IsPieceOf, no_piece, piece_of}
+use Rattle.bus_agreement.proofs.RowsWithoutEvents.{is_one, out_of_queue, past_first}
+use Rattle.bus_agreement.proofs.WholeTransfers.{members_own, read_back}
 use Rattle.transfer_rx.specs.Reassembly.{Arrival}
 use Rattle.bus_physics.proofs.LawfulRows.{cause_at, first_lawful, rows_joined}
 

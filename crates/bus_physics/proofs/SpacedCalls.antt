@@ -23,15 +23,15 @@ use Rattle.alloc_spec.specs.Step.{Event, after_pop, at_step, begin_phase, moment
 use Rattle.alloc_spec.specs.Step.Event.{Rx as Receives, Tick as Ticks}
 use Rattle.alloc_spec.specs.StepState.{StepState}
 use Rattle.alloc_spec.specs.Transfers.{Offer, SentTransfer, first_ids, number_of}
-use Rattle.cluster_spec.specs.Cluster.{Cluster, after_row, after_rows, cluster, frame_at, receipt_of, rules_of, tick_of, world_of}
-use Rattle.cluster_spec.specs.Lawful.{AreLawful, cause}
-use Rattle.cluster_spec.specs.Members.{Member, MemberStatus, after_crash, after_cut_off, after_failed_opening, after_opening, after_sending, member_after_step, puts_of, stopped_with, with_failure_armed, with_stop_armed}
-use Rattle.cluster_spec.specs.Members.MemberStatus.{Down, Failed, Up}
-use Rattle.cluster_spec.specs.Refinement.{transfers_of_offers, transfers_of_row, transfers_of_rows, transfers_of_step}
-use Rattle.cluster_agreement.specs.Said.{carrier}
-use Rattle.cluster_agreement.proofs.Lists.{in_front}
-use Rattle.cluster_agreement.proofs.OneRowMore.{lawful as one_more}
-use Rattle.cluster_agreement.proofs.MadeTransfers.{IsNew, made_when, still_made}
+use Rattle.bus_spec.specs.Cluster.{Cluster, after_row, after_rows, cluster, frame_at, receipt_of, rules_of, tick_of, world_of}
+use Rattle.bus_spec.specs.Lawful.{AreLawful, cause}
+use Rattle.bus_spec.specs.Members.{Member, MemberStatus, after_crash, after_cut_off, after_failed_opening, after_opening, after_sending, member_after_step, puts_of, stopped_with, with_failure_armed, with_stop_armed}
+use Rattle.bus_spec.specs.Members.MemberStatus.{Down, Failed, Up}
+use Rattle.bus_spec.specs.Refinement.{transfers_of_offers, transfers_of_row, transfers_of_rows, transfers_of_step}
+use Rattle.bus_agreement.specs.Said.{carrier}
+use Rattle.bus_agreement.proofs.Lists.{in_front}
+use Rattle.bus_agreement.proofs.OneRowMore.{lawful as one_more}
+use Rattle.bus_agreement.proofs.MadeTransfers.{IsNew, made_when, still_made}
 use Rattle.bus_physics.specs.Physics.{HoldsAreShort, IsAnsweredSince, IsNotFast, IsResponseOf, Limits, WhereIts, Reading, Reads, ReadsAt, RestsBeforeOpening, Timed, heard_by, heard_in, member_readings, now_in, row_of, rows_in, time_of}
 use Rattle.bus_physics.proofs.Scheduled.{rows_of_more}
 use Rattle.bus_physics.proofs.Now.{now_of_a_step}

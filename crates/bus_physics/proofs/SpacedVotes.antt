@@ -13,7 +13,7 @@ use Rattle.raft_model.specs.Moves.Move.{AnswerAgain, CallForVote, CallToAppend, 
 use Rattle.raft_model.specs.Server.{Memory, RaftServer, Role}
 use Rattle.raft_model.specs.Server.Role.{Candidate, Follower, Leader}
 use Rattle.alloc_spec_laws.proofs.Choices.{eq_true}
-use Rattle.cluster_agreement.proofs.Lists.{never}
+use Rattle.bus_agreement.proofs.Lists.{never}
 use Rattle.bus_physics.proofs.Spacing.{Stays}
 use Rattle.bus_physics.proofs.StepCalls.{Counts, IsOwnCall, IsReason, IsSpaced}
 

@@ -12,7 +12,7 @@ use Rattle.raft_model.specs.Moves.Leading.{append_request, vote_request}
 use Rattle.raft_model.specs.Moves.Move.{AnswerAgain, CallForVote, CallToAppend, CommitTo, GiveUp, ProposeEntry, TakeAppendAnswer, TakeAppendRequest, TakeVoteAnswer, TakeVoteRequest, TellNothing, TellPair, TimeOut}
 use Rattle.raft_model.specs.Server.{Memory, RaftServer, Role}
 use Rattle.raft_model.specs.Server.Role.{Candidate, Follower, Leader}
-use Rattle.cluster_agreement.proofs.Lists.{never}
+use Rattle.bus_agreement.proofs.Lists.{never}
 use Rattle.bus_physics.proofs.StepCalls.{IsOwnCall, IsReason, IsSpaced}
 
 eqb_is : (a b : ℕ) → (a == b) ≡ true → a ≡ b

@@ -17,13 +17,13 @@ use Rattle.alloc_spec_laws.specs.Saying.{IsSaid, SaysAnswer, append_bytes, vote_
 use Rattle.alloc_spec.specs.AllocatorState.{AllocatorState}
 use Rattle.alloc_spec.specs.Judging.{is_stale, misses, service_of, would_take}
 use Rattle.alloc_spec.specs.Transfers.{SentTransfer, number_of}
-use Rattle.cluster_spec.specs.Cluster.{is_member}
-use Rattle.cluster_spec.specs.Lawful.{is_forged, is_forged_by}
+use Rattle.bus_spec.specs.Cluster.{is_member}
+use Rattle.bus_spec.specs.Lawful.{is_forged, is_forged_by}
 use Rattle.alloc_spec.specs.Accepted.{is_members_service}
-use Rattle.cluster_agreement.specs.Frames.{IsTransferOf}
-use Rattle.cluster_agreement.specs.Said.{AnswersEach, AreAnswered, AreCalled, IsCalled, carrier}
-use Rattle.cluster_agreement.proofs.Lists.{both, equal, never}
-use Rattle.cluster_agreement.proofs.TakenMessages.{is_append, is_vote}
+use Rattle.bus_agreement.specs.Frames.{IsTransferOf}
+use Rattle.bus_agreement.specs.Said.{AnswersEach, AreAnswered, AreCalled, IsCalled, carrier}
+use Rattle.bus_agreement.proofs.Lists.{both, equal, never}
+use Rattle.bus_agreement.proofs.TakenMessages.{is_append, is_vote}
 use Rattle.bus_physics.specs.Reuse.{IsUsedTwice}
 
 -- ---- the call that would take it

@@ -55,7 +55,7 @@ use Rattle.alloc_spec_laws.proofs.Choices.{either, eq_true}
 use Rattle.alloc_spec_laws.proofs.DistinctTransfers.{sent}
 use Rattle.alloc_spec_laws.proofs.Lists.{in_append}
 use Rattle.alloc_spec_laws.proofs.Peers.{members_list}
-use Rattle.cluster_agreement.proofs.Lists.{tell}
+use Rattle.bus_agreement.proofs.Lists.{tell}
 
 -- ---- unique IDs
 

@@ -58,8 +58,8 @@ use Rattle.alloc_spec_laws.proofs.DistinctTransfers.{rank, sent}
 use Rattle.alloc_spec_laws.proofs.EndOffers.{tells as told_offers}
 use Rattle.alloc_spec_laws.proofs.Lists.{in_append}
 use Rattle.alloc_spec.proofs.Blanks.{adds_blank, move_with_blank, tick_with_blank}
-use Rattle.cluster_agreement.specs.Said.{carrier}
-use Rattle.cluster_agreement.proofs.Lists.{never, tell}
+use Rattle.bus_agreement.specs.Said.{carrier}
+use Rattle.bus_agreement.proofs.Lists.{never, tell}
 use Rattle.alloc_spec_laws.proofs.Transfers.{event_offers}
 use Rattle.bus_physics.proofs.Waking.{HasWaited, IsAwake, awake_after, awake_later, moved_since}
 

@@ -23,15 +23,15 @@ use Rattle.transfer_rx.specs.Sessions.{Session, recent_sessions}
 use Rattle.transfer_rx.specs.Sound.{Completes, IsAlone, IsDelivered}
 use Rattle.transfer_tx.specs.Queue.{Queued}
 use Rattle.alloc_spec.specs.Transfers.{SentTransfer, signature_of}
-use Rattle.cluster_spec.specs.Cluster.{is_member}
-use Rattle.cluster_spec.specs.Lawful.{is_forged, is_forged_by}
-use Rattle.cluster_agreement.specs.Frames.{AreTransfers, CameFrom, IsOnBus}
-use Rattle.cluster_agreement.specs.LawsBelow.{FrameLaws}
-use Rattle.cluster_agreement.proofs.DeliveredTransfers.{HasTaken, IsOfKey}
-use Rattle.cluster_agreement.proofs.Idents.{AreSame, keys, one_what, to_for, wanted_is}
-use Rattle.cluster_agreement.proofs.Lists.{in_append, in_back, never, tell}
-use Rattle.cluster_agreement.proofs.Pieces.{no_piece, piece_id, piece_read}
-use Rattle.cluster_agreement.proofs.WholeTransfers.{IsFrom, from_bus}
+use Rattle.bus_spec.specs.Cluster.{is_member}
+use Rattle.bus_spec.specs.Lawful.{is_forged, is_forged_by}
+use Rattle.bus_agreement.specs.Frames.{AreTransfers, CameFrom, IsOnBus}
+use Rattle.bus_agreement.specs.LawsBelow.{FrameLaws}
+use Rattle.bus_agreement.proofs.DeliveredTransfers.{HasTaken, IsOfKey}
+use Rattle.bus_agreement.proofs.Idents.{AreSame, keys, one_what, to_for, wanted_is}
+use Rattle.bus_agreement.proofs.Lists.{in_append, in_back, never, tell}
+use Rattle.bus_agreement.proofs.Pieces.{no_piece, piece_id, piece_read}
+use Rattle.bus_agreement.proofs.WholeTransfers.{IsFrom, from_bus}
 use Rattle.bus_physics.specs.Reuse.{AreOfOne, AreOfTwo, IsFrameOf, IsTornOf}
 
 -- ---- lists

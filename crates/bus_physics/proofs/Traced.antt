@@ -8,14 +8,14 @@ use Rattle.replay_text.specs.declared.row.Row.{Row}
 use Rattle.replay_text.specs.declared.row.Row.TheVariants.{Crash, Rx, Tick}
 use Rattle.transfer_rx.specs.Reassembly.{Arrival}
 use Rattle.alloc_spec.specs.Judging.{arrival_judgement}
-use Rattle.cluster_spec.specs.declared.unlawful.Unlawful.{Unlawful}
-use Rattle.cluster_spec.specs.Cluster.{Cluster, after_row, after_rows, arrival_at, cluster, frame_at, is_member}
-use Rattle.cluster_spec.specs.Lawful.{DoNoHarm, DoesNoHarm, AreLawful, arrival_refusal, brings_void_to, because, cause, cause_of_judgement, no_such_frame, or_else}
-use Rattle.cluster_spec.specs.declared.unlawful.Unlawful.TheVariants.{NoNode, Stopped}
-use Rattle.cluster_spec.specs.Members.{MemberStatus, is_running}
-use Rattle.cluster_spec.specs.Members.MemberStatus.{Down, Failed, Up}
-use Rattle.cluster_agreement.proofs.Concatenations.{ids_stay}
-use Rattle.cluster_agreement.proofs.Lists.{never}
+use Rattle.bus_spec.specs.declared.unlawful.Unlawful.{Unlawful}
+use Rattle.bus_spec.specs.Cluster.{Cluster, after_row, after_rows, arrival_at, cluster, frame_at, is_member}
+use Rattle.bus_spec.specs.Lawful.{DoNoHarm, DoesNoHarm, AreLawful, arrival_refusal, brings_void_to, because, cause, cause_of_judgement, no_such_frame, or_else}
+use Rattle.bus_spec.specs.declared.unlawful.Unlawful.TheVariants.{NoNode, Stopped}
+use Rattle.bus_spec.specs.Members.{MemberStatus, is_running}
+use Rattle.bus_spec.specs.Members.MemberStatus.{Down, Failed, Up}
+use Rattle.bus_agreement.proofs.Concatenations.{ids_stay}
+use Rattle.bus_agreement.proofs.Lists.{never}
 use Rattle.cmd_node_laws.specs.Traces.{Event, FromElsewhere, DiesInTurn, DiesAtOpening, MayAllHappen, MayHappen, OfOthers, Opens, Silence, Stops, Turns, WasSent, all_rows, came_rows, rows_of, RowsFrom, while_running}
 use Rattle.cmd_node_laws.proofs.Places.{after_both}
 use Rattle.bus_physics.specs.Physics.{Limits, Timed, rows_in}

@@ -13,14 +13,14 @@ use Rattle.alloc_spec.specs.Step.{Event, step}
 use Rattle.alloc_spec.specs.Transfers.{number_of}
 use Rattle.alloc_spec_laws.specs.Apart.{AreAllApart}
 use Rattle.alloc_spec_laws.specs.Responses.{ResponsesAnswer}
-use Rattle.cluster_spec.specs.Cluster.{AreMembers, cluster, frame_at, world_of}
-use Rattle.cluster_spec.specs.Lawful.{AreLawful, cause, no_such_frame}
+use Rattle.bus_spec.specs.Cluster.{AreMembers, cluster, frame_at, world_of}
+use Rattle.bus_spec.specs.Lawful.{AreLawful, cause, no_such_frame}
 use Rattle.alloc_spec.specs.Accepted.{is_members_service}
-use Rattle.cluster_spec.specs.Refinement.{transfers_of_rows}
-use Rattle.cluster_agreement.specs.LawsBelow.{FrameLaws}
-use Rattle.cluster_agreement.proofs.Concatenations.{ids_stay}
-use Rattle.cluster_agreement.proofs.Lists.{never}
-use Rattle.cluster_agreement.proofs.OneRow.{stands}
+use Rattle.bus_spec.specs.Refinement.{transfers_of_rows}
+use Rattle.bus_agreement.specs.LawsBelow.{FrameLaws}
+use Rattle.bus_agreement.proofs.Concatenations.{ids_stay}
+use Rattle.bus_agreement.proofs.Lists.{never}
+use Rattle.bus_agreement.proofs.OneRow.{stands}
 use Rattle.bus_physics.specs.Physics.{AllComeInTurn, AnswersInOrder, ComesInTurn, IsResponseOf, heard_by}
 use Rattle.bus_physics.proofs.AnswerOrder.{Known, along, answerer, has_asked}
 use Rattle.bus_physics.proofs.AnswersHeard.{heard_on_bus, in_turn, of_answer}

@@ -9,12 +9,12 @@ use Rattle.replay_text.specs.declared.row.Row.{Row}
 use Rattle.replay_text.specs.declared.row.Row.TheVariants.{Rx}
 use Rattle.transfer_tx.specs.Queue.{Queued}
 use Rattle.alloc_spec.specs.Transfers.{SentTransfer, number_of}
-use Rattle.cluster_spec.specs.Cluster.{Cluster, frame_at}
+use Rattle.bus_spec.specs.Cluster.{Cluster, frame_at}
 use Rattle.alloc_spec.specs.Accepted.{is_members_service}
-use Rattle.cluster_spec.specs.Members.{MemberStatus}
-use Rattle.cluster_agreement.specs.Said.{carrier}
+use Rattle.bus_spec.specs.Members.{MemberStatus}
+use Rattle.bus_agreement.specs.Said.{carrier}
 use Rattle.alloc_spec_laws.proofs.DistinctTransfers.{rank}
-use Rattle.cluster_agreement.proofs.Lists.{never}
+use Rattle.bus_agreement.proofs.Lists.{never}
 use Rattle.bus_physics.specs.Physics.{ClockGoesOnAt, ComesInTime, FrameComesInTime, GoesOn, Limits, WhereIts, IsAnsweredSince, AnswersInOrder, IsResponseOf, Timed, WaitsForAnswers, now_in, time_of}
 use Rattle.bus_physics.specs.Reuse.{IsStaleAt}
 use Rattle.bus_physics.proofs.Members.{MemberBefore}

@@ -6,7 +6,7 @@ use Rattle.transfer_rx.specs.declared.accept.Wanted.{Wanted}
 use Rattle.transfer_rx.specs.Outcome.{out_of_turn}
 use Rattle.transfer_rx.specs.Run.{has_session_key, is_of}
 use Rattle.transfer_rx.proofs.Completeness.{is_own}
-use Rattle.cluster_agreement.proofs.Pieces.{no_piece, piece_id}
+use Rattle.bus_agreement.proofs.Pieces.{no_piece, piece_id}
 use Rattle.bus_physics.proofs.FollowingDevices.{KeptIn}
 use Rattle.std.proofs.lemmas.Bool.Decides.{eqb_tells, leb_tells}
 use Rattle.std.proofs.lemmas.List.{get_or-map, length-map, map-append}
@@ -36,17 +36,17 @@ use Rattle.transfer_tx.specs.Queue.{Queued}
 use Rattle.allocatee.specs.Accepted as device
 use Rattle.allocatee.specs.Allocatee.{Device}
 use Rattle.alloc_spec.specs.Transfers.{SentTransfer, signature_of}
-use Rattle.cluster_spec.specs.declared.unlawful.Unlawful.TheVariants as unlawful
-use Rattle.cluster_spec.specs.Cluster.{AreMembers, Cluster, arrival_at, frame_at}
-use Rattle.cluster_spec.specs.Lawful.{cause, is_forged}
-use Rattle.cluster_agreement.specs.Frames.{CameFrom}
-use Rattle.cluster_agreement.specs.LawsBelow.{FrameLaws}
-use Rattle.cluster_agreement.specs.Shows.{Shows}
-use Rattle.cluster_agreement.proofs.DeliveredTransfers.{HasTaken, IsOfKey}
-use Rattle.cluster_agreement.proofs.Idents.{IsWanted, one_what, wanted_is}
-use Rattle.cluster_agreement.proofs.Lists.{equal, in_append, never, tell}
-use Rattle.cluster_agreement.proofs.OneRow.{stands}
-use Rattle.cluster_agreement.proofs.WholeTransfers.{forged_allocation}
+use Rattle.bus_spec.specs.declared.unlawful.Unlawful.TheVariants as unlawful
+use Rattle.bus_spec.specs.Cluster.{AreMembers, Cluster, arrival_at, frame_at}
+use Rattle.bus_spec.specs.Lawful.{cause, is_forged}
+use Rattle.bus_agreement.specs.Frames.{CameFrom}
+use Rattle.bus_agreement.specs.LawsBelow.{FrameLaws}
+use Rattle.bus_agreement.specs.Shows.{Shows}
+use Rattle.bus_agreement.proofs.DeliveredTransfers.{HasTaken, IsOfKey}
+use Rattle.bus_agreement.proofs.Idents.{IsWanted, one_what, wanted_is}
+use Rattle.bus_agreement.proofs.Lists.{equal, in_append, never, tell}
+use Rattle.bus_agreement.proofs.OneRow.{stands}
+use Rattle.bus_agreement.proofs.WholeTransfers.{forged_allocation}
 use Rattle.bus_physics.specs.Physics.{AllocatesApart, AreApart, ComesInOrderToDevice, ComesInTime, HasKey, IsParted, GoesOn, Limits, WhereIts, Reading, Timed, now_of, time_of}
 use Rattle.bus_physics.specs.Reuse.{AreOfOne, AreOfTwo, IsFrameOf}
 use Rattle.bus_physics.proofs.Devices.{IsKnown, IsTimely, StandsBefore, soon, width}

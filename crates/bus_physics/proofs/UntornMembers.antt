@@ -5,7 +5,7 @@ use Rattle.can_frame.specs.declared.mark.Mark.{Mark}
 use Rattle.transfer_rx.specs.Acceptance.{first_signature, wanted}
 use Rattle.transfer_rx.specs.Run.{has_session_key, is_of}
 use Rattle.transfer_rx.proofs.Completeness.{is_own}
-use Rattle.cluster_agreement.proofs.Pieces.{piece_id}
+use Rattle.bus_agreement.proofs.Pieces.{piece_id}
 use Rattle.std.proofs.lemmas.Bool.Decides.{eqb_tells, leb_tells}
 use Rattle.std.proofs.lemmas.List.{map-append}
 use Rattle.can_frame.specs.declared.identifier.Ident.{Ident}
@@ -30,17 +30,17 @@ use Rattle.transfer_tx.specs.Queue.{Queued}
 use Rattle.alloc_spec.specs.Accepted.{rows, setting_for}
 use Rattle.alloc_spec.specs.AllocatorState.{AllocatorState}
 use Rattle.alloc_spec.specs.Transfers.{SentTransfer, kind_of, number_of, signature_of}
-use Rattle.cluster_spec.specs.declared.unlawful.Unlawful.TheVariants as unlawful
-use Rattle.cluster_spec.specs.Cluster.{AreMembers, Cluster, arrival_at, frame_at}
-use Rattle.cluster_spec.specs.Lawful.{cause, is_forged}
-use Rattle.cluster_spec.specs.Members.{MemberStatus}
-use Rattle.cluster_agreement.specs.Frames.{CameFrom}
-use Rattle.cluster_agreement.specs.LawsBelow.{FrameLaws}
-use Rattle.cluster_agreement.specs.Shows.{Shows, ShowsMember, ShowsUp}
-use Rattle.cluster_agreement.proofs.DeliveredTransfers.{HasTaken, IsOfKey}
-use Rattle.cluster_agreement.proofs.Idents.{IsWanted, to_for, wanted_is}
-use Rattle.cluster_agreement.proofs.Lists.{in_append, in_back, never, tell}
-use Rattle.cluster_agreement.proofs.OneRow.{stands}
+use Rattle.bus_spec.specs.declared.unlawful.Unlawful.TheVariants as unlawful
+use Rattle.bus_spec.specs.Cluster.{AreMembers, Cluster, arrival_at, frame_at}
+use Rattle.bus_spec.specs.Lawful.{cause, is_forged}
+use Rattle.bus_spec.specs.Members.{MemberStatus}
+use Rattle.bus_agreement.specs.Frames.{CameFrom}
+use Rattle.bus_agreement.specs.LawsBelow.{FrameLaws}
+use Rattle.bus_agreement.specs.Shows.{Shows, ShowsMember, ShowsUp}
+use Rattle.bus_agreement.proofs.DeliveredTransfers.{HasTaken, IsOfKey}
+use Rattle.bus_agreement.proofs.Idents.{IsWanted, to_for, wanted_is}
+use Rattle.bus_agreement.proofs.Lists.{in_append, in_back, never, tell}
+use Rattle.bus_agreement.proofs.OneRow.{stands}
 use Rattle.bus_physics.specs.Physics.{AreApart, ClockGoesOnAt, ComesInTime, FrameComesInTime, ComesInOrder, GoesOn, HasKeyAt, IsParted, Limits, Reading, Timed, UsesIdsApart, may_be_long, now_in, time_of}
 use Rattle.bus_physics.specs.Reuse.{AreOfOne, AreOfTwo, IsFrameOf, LacksFrames}
 use Rattle.bus_physics.proofs.Devices.{IsTimely, soon, width}

@@ -14,11 +14,11 @@ use Rattle.alloc_spec.specs.Rules.{Rules, opening_by}
 use Rattle.alloc_spec.specs.Step.{Event, after_pop, step}
 use Rattle.alloc_spec.specs.StepState.{StepState}
 use Rattle.alloc_spec.specs.Transfers.{Offer, SentTransfer}
-use Rattle.cluster_spec.specs.Cluster.{Cluster, after_row, after_rows, receipt_of, rules_of, tick_of}
-use Rattle.cluster_spec.specs.Members.{Member, MemberStatus, after_crash, after_cut_off, after_failed_opening, after_opening, after_sending, member_after_step, puts_of, stopped_with, with_stop_armed}
-use Rattle.cluster_spec.specs.Members.MemberStatus.{Down, Failed, Up}
-use Rattle.cluster_spec.specs.Refinement.{transfers_of_offers, transfers_of_row, transfers_of_rows, transfers_of_step}
-use Rattle.cluster_agreement.proofs.MadeTransfers.{IsNew, made_when}
+use Rattle.bus_spec.specs.Cluster.{Cluster, after_row, after_rows, receipt_of, rules_of, tick_of}
+use Rattle.bus_spec.specs.Members.{Member, MemberStatus, after_crash, after_cut_off, after_failed_opening, after_opening, after_sending, member_after_step, puts_of, stopped_with, with_stop_armed}
+use Rattle.bus_spec.specs.Members.MemberStatus.{Down, Failed, Up}
+use Rattle.bus_spec.specs.Refinement.{transfers_of_offers, transfers_of_row, transfers_of_rows, transfers_of_step}
+use Rattle.bus_agreement.proofs.MadeTransfers.{IsNew, made_when}
 use Rattle.bus_physics.proofs.LastCall.{settled}
 
 one_up : (a b : AllocatorState) → Up a ≡ Up b → a ≡ b

@@ -9,7 +9,7 @@ use Rattle.raft_model.specs.Moves.Elections.{counting_memory, counts, has_quorum
 use Rattle.raft_model.specs.Moves.Move.{AnswerAgain, CallForVote, CallToAppend, CommitTo, GiveUp, ProposeEntry, TakeAppendAnswer, TakeAppendRequest, TakeVoteAnswer, TakeVoteRequest, TellNothing, TellPair, TimeOut}
 use Rattle.raft_model.specs.Server.{Memory, RaftServer, Role}
 use Rattle.raft_model.specs.Server.Role.{Candidate, Follower, Leader}
-use Rattle.cluster_agreement.proofs.Lists.{never}
+use Rattle.bus_agreement.proofs.Lists.{never}
 
 -- ---- the wait for an election
 

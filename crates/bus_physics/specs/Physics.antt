@@ -20,10 +20,10 @@ use Rattle.allocatee.specs.Accepted as device
 use Rattle.allocatee.specs.Allocatee.{Device}
 use Rattle.alloc_spec.specs.Accepted.{setting_for}
 use Rattle.alloc_spec.specs.Transfers.{SentTransfer, ident_of, number_of}
-use Rattle.cluster_spec.specs.Cluster.{Cluster, after_row, arrival_at, frame_at}
+use Rattle.bus_spec.specs.Cluster.{Cluster, after_row, arrival_at, frame_at}
 use Rattle.alloc_spec.specs.Accepted.{is_members_service}
-use Rattle.cluster_spec.specs.Members.{MemberStatus}
-use Rattle.cluster_spec.specs.Members.MemberStatus.{Down, Failed, Up}
+use Rattle.bus_spec.specs.Members.{MemberStatus}
+use Rattle.bus_spec.specs.Members.MemberStatus.{Down, Failed, Up}
 
 -- a row, and the moment at which it happened, on a clock that nobody reads
 pub record Timed : Type 0 where

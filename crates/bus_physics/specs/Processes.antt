@@ -3,10 +3,10 @@ use Rattle.std.specs.Prelude.{⊤, ◌≡◌, ◌+◌, ◌*◌, true, false, Lis
 use Rattle.can_frame.specs.Identifier.{identifier_of}
 use Rattle.outside.specs.declared.pattern.Pattern.TheVariants.{Old}
 use Rattle.replay_text.specs.declared.row.Row.TheVariants.{Crash, Tick}
-use Rattle.cluster_spec.specs.declared.unlawful.Unlawful.{Unlawful}
-use Rattle.cluster_spec.specs.Cluster.{Cluster, after_row, after_rows}
-use Rattle.cluster_spec.specs.Lawful.{cause, is_forged, no_such_frame}
-use Rattle.cluster_spec.specs.Members.{is_running}
+use Rattle.bus_spec.specs.declared.unlawful.Unlawful.{Unlawful}
+use Rattle.bus_spec.specs.Cluster.{Cluster, after_row, after_rows}
+use Rattle.bus_spec.specs.Lawful.{cause, is_forged, no_such_frame}
+use Rattle.bus_spec.specs.Members.{is_running}
 use Rattle.cmd_node_laws.specs.Traces.{Came, Event, FromElsewhere, DiesInTurn, DiesAtOpening, MayOpen, MayTurn, OfOthers, Opens, Silence, Stops, Turns, WasSent, is_of_others, rows_of}
 use Rattle.bus_physics.specs.Schedule.{is_of_bus}
 

@@ -17,11 +17,11 @@ use Rattle.allocatee.specs.Allocatee.{Device}
 use Rattle.alloc_spec.specs.Accepted.{setting_for}
 use Rattle.alloc_spec.specs.AllocatorState.{AllocatorState}
 use Rattle.alloc_spec.specs.Transfers.{SentTransfer, ident_of, kind_of, number_of, signature_of}
-use Rattle.cluster_spec.specs.Cluster.{Cluster, arrival_at, frame_at}
-use Rattle.cluster_spec.specs.Lawful.{is_forged}
-use Rattle.cluster_spec.specs.Members.MemberStatus.{Up}
-use Rattle.cluster_agreement.specs.Frames.{CameFrom}
-use Rattle.cluster_agreement.specs.Said.{carrier}
+use Rattle.bus_spec.specs.Cluster.{Cluster, arrival_at, frame_at}
+use Rattle.bus_spec.specs.Lawful.{is_forged}
+use Rattle.bus_spec.specs.Members.MemberStatus.{Up}
+use Rattle.bus_agreement.specs.Frames.{CameFrom}
+use Rattle.bus_agreement.specs.Said.{carrier}
 use Rattle.bus_physics.specs.Physics.{IsResponseOf}
 
 -- ---- transfer IDs

@@ -2,11 +2,11 @@
 use Rattle.std.specs.Prelude.{⊤, ◌≡◌, ℕ, Bool, true, false, List, [], ◌∷◌, ◌++◌, Some}
 use Rattle.replay_text.specs.declared.row.Row.{Row}
 use Rattle.replay_text.specs.declared.row.Row.TheVariants.{ARx, Rx}
-use Rattle.cluster_spec.specs.declared.unlawful.Unlawful.{Unlawful}
-use Rattle.cluster_spec.specs.declared.unlawful.Unlawful.TheVariants.{Stale, Torn}
-use Rattle.cluster_spec.specs.Cluster.{Cluster, after_row, arrival_at, cluster, frame_at, world_of}
-use Rattle.cluster_spec.specs.Lawful.{AreLawful, cause}
-use Rattle.cluster_spec.specs.Refinement.{transfers_of_rows}
+use Rattle.bus_spec.specs.declared.unlawful.Unlawful.{Unlawful}
+use Rattle.bus_spec.specs.declared.unlawful.Unlawful.TheVariants.{Stale, Torn}
+use Rattle.bus_spec.specs.Cluster.{Cluster, after_row, arrival_at, cluster, frame_at, world_of}
+use Rattle.bus_spec.specs.Lawful.{AreLawful, cause}
+use Rattle.bus_spec.specs.Refinement.{transfers_of_rows}
 use Rattle.bus_physics.specs.Physics.{AllComeInTurn, AllocatesApart, DeviceRowsArePhysical, ClockGoesOn, ClockIsNotFast, ComeInOrderToDevice, ComesInOrderToDevice, ComesInTurn, FramesComeInTime, device_heard_by, Limits, RestsBeforeOpening, Timed, UsesIdsApart, heard_by, rows_in}
 use Rattle.bus_physics.specs.Reuse.{LacksFrames}
 

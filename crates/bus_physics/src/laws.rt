@@ -8,10 +8,10 @@ ghost use Rattle.replay_text.specs.declared.row.Row.{Row};
 ghost use Rattle.alloc_spec.specs.Rules.{Rules};
 ghost use Rattle.alloc_spec.specs.Transfers.{SentTransfer};
 ghost use Rattle.replay_text.specs.declared.row.Row.TheVariants.{ARx, Rx};
-ghost use Rattle.cluster_spec.specs.declared.unlawful.Unlawful.TheVariants.{Stale, Torn};
-ghost use Rattle.cluster_spec.specs.Cluster.{AreMembers, arrival_at, cluster, frame_at, world_of};
-ghost use Rattle.cluster_spec.specs.Lawful.{AreLawful, cause, no_such_frame};
-ghost use Rattle.cluster_spec.specs.Refinement.{transfers_of_rows};
+ghost use Rattle.bus_spec.specs.declared.unlawful.Unlawful.TheVariants.{Stale, Torn};
+ghost use Rattle.bus_spec.specs.Cluster.{AreMembers, arrival_at, cluster, frame_at, world_of};
+ghost use Rattle.bus_spec.specs.Lawful.{AreLawful, cause, no_such_frame};
+ghost use Rattle.bus_spec.specs.Refinement.{transfers_of_rows};
 ghost use Rattle.bus_physics.specs.Physics.{AllComeInTurn, ComesInTurn, ComesOnce};
 ghost use Rattle.bus_physics.specs.Physics.{AllocatesApart, AnswersInOrder, DeviceRowsArePhysical, ClockGoesOn, ComeInOrder};
 ghost use Rattle.bus_physics.specs.Physics.{ComeInOrderToDevice, ComesInOrderToDevice, device_heard_by};
@@ -20,7 +20,7 @@ ghost use Rattle.bus_physics.specs.Physics.{ClockIsNotFast, HoldsAreShort, Limit
 ghost use Rattle.bus_physics.specs.Physics.{may_be_long, rows_in};
 ghost use Rattle.bus_physics.specs.Example.{at_allocatee, at_member, before as first_rows, everything, limits as some_limits, two};
 ghost use Rattle.bus_physics.specs.Reuse.{IsStaleAt, IsTornAt, IsTornAtDevice, LacksFrames};
-ghost use Rattle.cluster_agreement.specs.Headline.{HasHeadline};
+ghost use Rattle.bus_agreement.specs.Headline.{HasHeadline};
 ghost use Rattle.cmd_node_laws.specs.Traces.{Event, MayAllHappen, all_rows};
 ghost use Rattle.bus_physics.specs.Processes.{MayAllDo};
 ghost use Rattle.bus_physics.specs.Runs.{StandOnBus};
@@ -28,8 +28,8 @@ ghost use Rattle.bus_physics.specs.Schedule.{HappenOnBus, LawfulButForBus, Loses
 
 use alloc_spec_laws::laws::transfers_of_a_step_are_apart;
 use allocatee::laws::sessions_of_a_step;
-use cluster_agreement::below::{what_is_said_of_a_step, what_is_said_of_frames};
-use cluster_agreement::headline::{a_choice_fits, lawful_rows_do_no_harm, rows_are_shown};
+use bus_agreement::below::{what_is_said_of_a_step, what_is_said_of_frames};
+use bus_agreement::headline::{a_choice_fits, lawful_rows_do_no_harm, rows_are_shown};
 use cmd_node_laws::laws::traces_do_no_harm;
 
 /// What stands behind a row that is refused as torn or as stale, after lawful rows. What a member sent is torn only of

@@ -3,7 +3,7 @@ use Rattle.std.proofs.Common.{◌≡◌, ℕ, zero, suc, ◌+◌, ◌<◌, List,
 use Rattle.std.specs.Prelude.{slice_index_or}
 use Rattle.std.proofs.lemmas.List.{length-map, map-append}
 use Rattle.raft_model.specs.Lists.{In}
-use Rattle.cluster_spec.specs.Members.{fresh_member}
+use Rattle.bus_spec.specs.Members.{fresh_member}
 use Rattle.bus_world.specs.Fresh.{AreFresh}
 use Rattle.bus_world.specs.Places.{closure_of}
 use Rattle.bus_world.specs.Stands.{StandsFor}

@@ -10,14 +10,14 @@ use Rattle.std.proofs.lemmas.List.{get_or-map, get_or-set_same, get_or-set_other
 use Rattle.std.proofs.Math.Seq.{map-set_same}
 use Rattle.raft_model.specs.Lists.{In, at}
 use Rattle.transfer_tx.specs.declared.marked.Marked.{Marked}
-use Rattle.cluster_spec.specs.declared.unlawful.Unlawful.{Unlawful}
-use Rattle.cluster_spec.specs.declared.unlawful.Unlawful.TheVariants.{NoNode, Running, Stopped}
-use Rattle.cluster_spec.specs.Cluster.{Cluster, arrival_at, frame_at, is_member, no_frame, with_member}
-use Rattle.cluster_spec.specs.Members.{Member as MemberState, is_running}
+use Rattle.bus_spec.specs.declared.unlawful.Unlawful.{Unlawful}
+use Rattle.bus_spec.specs.declared.unlawful.Unlawful.TheVariants.{NoNode, Running, Stopped}
+use Rattle.bus_spec.specs.Cluster.{Cluster, arrival_at, frame_at, is_member, no_frame, with_member}
+use Rattle.bus_spec.specs.Members.{Member as MemberState, is_running}
 use Rattle.transfer_rx.specs.Reassembly.{Arrival, arrival_of}
 use Rattle.transfer_tx.specs.Queue.{Queued}
 use Rattle.transfer_tx.specs.Views.{queued_of}
-use Rattle.cluster_spec.specs.Lawful.{already_running, because, arrival_refusal, no_such_frame, no_node, not_running, or_else}
+use Rattle.bus_spec.specs.Lawful.{already_running, because, arrival_refusal, no_such_frame, no_node, not_running, or_else}
 use Rattle.bus_world.specs.Stands.{AreAlike, StandsFor}
 use Rattle.raft_model.specs.Members.{HasNoneTwice}
 use Rattle.bus_world.specs.Members.{Holds, ids_of, place_of}

@@ -21,13 +21,13 @@ use Rattle.alloc_spec.specs.Step.{Event, step}
 use Rattle.alloc_spec.specs.AllocatorState.{AllocatorState}
 use Rattle.alloc_spec.specs.Transfers.{GivenPair}
 use Rattle.alloc_server.specs.declared.server.Server.{Server}
-use Rattle.cluster_spec.specs.declared.unlawful.Unlawful.{Unlawful}
-use Rattle.cluster_spec.specs.declared.unlawful.Unlawful.TheVariants.{NoNode}
-use Rattle.cluster_spec.specs.Cluster.{Cluster, effect_of, is_member, receipt_of, tick_of}
-use Rattle.cluster_spec.specs.Lawful.{because, cause, or_else}
-use Rattle.cluster_spec.specs.Members.{MemberStatus, Member as MemberState, after_cut_off, puts_of, member_after_step}
-use Rattle.cluster_spec.specs.Members.MemberStatus.{Down, Up, Failed}
-use Rattle.cluster_spec.specs.OwnLogs.{AreOwn, OffersItsOwn, pairs_of_step}
+use Rattle.bus_spec.specs.declared.unlawful.Unlawful.{Unlawful}
+use Rattle.bus_spec.specs.declared.unlawful.Unlawful.TheVariants.{NoNode}
+use Rattle.bus_spec.specs.Cluster.{Cluster, effect_of, is_member, receipt_of, tick_of}
+use Rattle.bus_spec.specs.Lawful.{because, cause, or_else}
+use Rattle.bus_spec.specs.Members.{MemberStatus, Member as MemberState, after_cut_off, puts_of, member_after_step}
+use Rattle.bus_spec.specs.Members.MemberStatus.{Down, Up, Failed}
+use Rattle.bus_spec.specs.OwnLogs.{AreOwn, OffersItsOwn, pairs_of_step}
 use Rattle.bus_world.specs.OnDisk.{IsUpOn}
 use Rattle.bus_world.specs.Places.{HasStatus}
 use Rattle.bus_world.specs.Stands.{StandsFor as StandsForMember}

@@ -15,9 +15,9 @@ use Rattle.alloc_spec.specs.Judging.{arrival_judgement}
 use Rattle.alloc_spec.specs.AllocatorState.{AllocatorState}
 use Rattle.alloc_server.specs.declared.server.Server.{Server}
 use Rattle.alloc_server.specs.Server.{StandsFor, fault_of, queued}
-use Rattle.cluster_spec.specs.Lawful.{arrival_refusal, cause_of_judgement}
-use Rattle.cluster_spec.specs.Members.{MemberStatus, next_frame}
-use Rattle.cluster_spec.specs.Members.MemberStatus.{Down, Up, Failed}
+use Rattle.bus_spec.specs.Lawful.{arrival_refusal, cause_of_judgement}
+use Rattle.bus_spec.specs.Members.{MemberStatus, next_frame}
+use Rattle.bus_spec.specs.Members.MemberStatus.{Down, Up, Failed}
 use Rattle.std.proofs.Props.{props}
 use Rattle.outside.specs.declared.pattern.Pattern.{Pattern}
 use Rattle.bus_world.specs.OnDisk.{IsServerOf}

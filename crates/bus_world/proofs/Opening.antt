@@ -16,10 +16,10 @@ use Rattle.alloc_spec.specs.declared.event.View.{View}
 use Rattle.alloc_spec.specs.Rules.{Rules, opening_by, rules_by}
 use Rattle.alloc_server.specs.declared.server.Server.{Server}
 use Rattle.alloc_server.specs.Server.{StandsFor, durable_of}
-use Rattle.cluster_spec.specs.Cluster.{rules_of}
-use Rattle.cluster_spec.specs.Members.{Member as MemberState, MemberStatus, after_opening, is_running, stopped_with}
-use Rattle.cluster_spec.specs.Members.MemberStatus.{Down, Up, Failed}
-use Rattle.cluster_spec.specs.Report.{line_of_failure, line_of_opening, line_of_stored}
+use Rattle.bus_spec.specs.Cluster.{rules_of}
+use Rattle.bus_spec.specs.Members.{Member as MemberState, MemberStatus, after_opening, is_running, stopped_with}
+use Rattle.bus_spec.specs.Members.MemberStatus.{Down, Up, Failed}
+use Rattle.bus_spec.specs.Report.{line_of_failure, line_of_opening, line_of_stored}
 use Rattle.replay_text.specs.ReportLine.{ReportLine}
 use Rattle.replay_text.specs.ReportLine.ReportLine.{HasOpened}
 use Rattle.bus_world.specs.OnDisk.{IsUpOn}

@@ -11,10 +11,10 @@ use Rattle.raft_model.specs.Lists.{In}
 use Rattle.raft_model.specs.Server.{Store}
 use Rattle.alloc_spec.specs.AllocatorState.{AllocatorState}
 use Rattle.alloc_server.specs.declared.server.Server.{Server}
-use Rattle.cluster_spec.specs.Cluster.{Cluster}
-use Rattle.cluster_spec.specs.Members.{MemberStatus}
-use Rattle.cluster_spec.specs.Members.MemberStatus.{Down, Up, Failed}
-use Rattle.cluster_spec.specs.OwnLogs.{GivesOnce, log_on}
+use Rattle.bus_spec.specs.Cluster.{Cluster}
+use Rattle.bus_spec.specs.Members.{MemberStatus}
+use Rattle.bus_spec.specs.Members.MemberStatus.{Down, Up, Failed}
+use Rattle.bus_spec.specs.OwnLogs.{GivesOnce, log_on}
 use Rattle.bus_world.specs.OnDisk.{IsUpOn}
 use Rattle.bus_world.specs.Places.{HasStatus}
 use Rattle.bus_world.specs.Stands.{StandsFor as StandsForMember}

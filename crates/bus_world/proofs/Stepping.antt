@@ -10,9 +10,9 @@ use Rattle.alloc_spec.specs.StepState.{StepState}
 use Rattle.alloc_spec.specs.Step.{Event, step}
 use Rattle.alloc_spec.specs.AllocatorState.{AllocatorState, view_of}
 use Rattle.alloc_server.specs.Server.{disk_of}
-use Rattle.cluster_spec.specs.Members.{MemberStatus, Member as MemberState, after_cut_off, is_running, puts_of, member_after_step, stopped_with}
-use Rattle.cluster_spec.specs.Members.MemberStatus.{Down, Up, Failed}
-use Rattle.cluster_spec.specs.Report.{line_of_failure, line_of_step, line_of_view}
+use Rattle.bus_spec.specs.Members.{MemberStatus, Member as MemberState, after_cut_off, is_running, puts_of, member_after_step, stopped_with}
+use Rattle.bus_spec.specs.Members.MemberStatus.{Down, Up, Failed}
+use Rattle.bus_spec.specs.Report.{line_of_failure, line_of_step, line_of_view}
 use Rattle.replay_text.specs.ReportLine.{ReportLine, is_stop}
 use Rattle.replay_text.specs.ReportLine.ReportLine.{HasFailed, HasStopped}
 use Rattle.bus_world.specs.OnDisk.{HasFailedOn, IsClosedOn, IsUpOn}

@@ -8,8 +8,8 @@ use Rattle.replay_text.specs.declared.told.Told.{Told}
 use Rattle.transfer_tx.specs.declared.marked.Marked.{Marked}
 use Rattle.transfer_tx.specs.Queue.{Queued}
 use Rattle.transfer_tx.specs.Views.{queued_of}
-use Rattle.cluster_spec.specs.declared.unlawful.Unlawful.{Unlawful}
-use Rattle.cluster_spec.specs.Cluster.{Cluster, effect_of, in_list}
+use Rattle.bus_spec.specs.declared.unlawful.Unlawful.{Unlawful}
+use Rattle.bus_spec.specs.Cluster.{Cluster, effect_of, in_list}
 use Rattle.bus_world.specs.MemberRows as members
 use Rattle.bus_world.specs.Members.{Holds}
 use Rattle.bus_world.specs.Rows.{Refuses, Tells}

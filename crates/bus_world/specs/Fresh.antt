@@ -1,6 +1,6 @@
 -- Members at the beginning.
 use Rattle.std.specs.Prelude.{◌≡◌, ℕ, ◌<◌, List, length, map, slice_index_or}
-use Rattle.cluster_spec.specs.Members.{fresh_member}
+use Rattle.bus_spec.specs.Members.{fresh_member}
 use Rattle.bus_world.specs.Stands.{AreAlike, StandsFor}
 use Rattle.bus_world.specs.declared.member.Member.{Member}
 

@@ -8,8 +8,8 @@ use Rattle.raft_log.specs.Stored.{Stored}
 use Rattle.alloc_spec.specs.AllocatorState.{AllocatorState}
 use Rattle.alloc_server.specs.declared.server.Server.{Server}
 use Rattle.alloc_server.specs.Server.{StandsFor, disk_of, durable_of, fault_of}
-use Rattle.cluster_spec.specs.Members.{MemberStatus}
-use Rattle.cluster_spec.specs.Members.MemberStatus.{Down, Up, Failed}
+use Rattle.bus_spec.specs.Members.{MemberStatus}
+use Rattle.bus_spec.specs.Members.MemberStatus.{Down, Up, Failed}
 
 module _ {F : Type 0} {disk : Ghosts MemoryDisk} where
   -- a server that runs, on a disk on which nothing waits for a sync

@@ -3,7 +3,7 @@ use Rattle.std.specs.Prelude.{◌≡◌}
 use Rattle.kv_store.specs.KeyDisk.{KeyDisk}
 use Rattle.raft_log.specs.Stored.{Stored}
 use Rattle.alloc_server.specs.Server.{accepts}
-use Rattle.cluster_spec.specs.Members.{MemberStatus, is_running}
+use Rattle.bus_spec.specs.Members.{MemberStatus, is_running}
 use Rattle.bus_world.specs.OnDisk.{IsServerOf}
 use Rattle.bus_world.specs.declared.place.Place.{Place}
 

@@ -2,10 +2,10 @@
 use Rattle.std.specs.Prelude.{◌≡◌, None, Some}
 use Rattle.replay_text.specs.declared.row.Row.{Row}
 use Rattle.replay_text.specs.declared.told.Told.{Told}
-use Rattle.cluster_spec.specs.declared.unlawful.Unlawful.{Unlawful}
-use Rattle.cluster_spec.specs.Cluster.{Cluster, effect_of}
-use Rattle.cluster_spec.specs.Lawful.{cause}
-use Rattle.cluster_spec.specs.Report.{line_of_row as told_by}
+use Rattle.bus_spec.specs.declared.unlawful.Unlawful.{Unlawful}
+use Rattle.bus_spec.specs.Cluster.{Cluster, effect_of}
+use Rattle.bus_spec.specs.Lawful.{cause}
+use Rattle.bus_spec.specs.Report.{line_of_row as told_by}
 use Rattle.replay_text.specs.ReportLine.{report_line_of}
 use Rattle.bus_world.specs.MemberRows as members
 use Rattle.bus_world.specs.Members.{Holds}

@@ -1,6 +1,6 @@
 -- What members of the code stand for.
 use Rattle.std.specs.Prelude.{◌≡◌, ℕ, ◌<◌, List, length, slice_index_or}
-use Rattle.cluster_spec.specs.Members.{Member as MemberState}
+use Rattle.bus_spec.specs.Members.{Member as MemberState}
 use Rattle.bus_world.specs.Places.{HasStatus, closure_of}
 use Rattle.bus_world.specs.declared.member.Member.{Member}
 

@@ -1,6 +1,6 @@
 -- What contracts see of a world, and what it stands for.
 use Rattle.std.specs.Prelude.{◌≡◌, ℕ}
-use Rattle.cluster_spec.specs.Cluster.{Cluster}
+use Rattle.bus_spec.specs.Cluster.{Cluster}
 use Rattle.bus_world.specs.Members as members
 use Rattle.bus_world.specs.Seats.{AreSeatsOf}
 use Rattle.bus_world.specs.declared.world.World.{World}

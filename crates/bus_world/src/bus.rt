@@ -4,15 +4,15 @@ ghost use Rattle.std.specs.Prelude.{◌≡◌, ◌≤◌, ◌<◌, ◌+◌, ◌+
 ghost use Rattle.can_frame.specs.Identifier.{identifier_of};
 ghost use Rattle.replay_text.specs.declared.row.Row.TheVariants.{Rx, Send, Ext};
 ghost use Rattle.alloc_server.specs.Server.{event_of};
-ghost use Rattle.cluster_spec.specs.Cluster.{Cluster, receipt_of};
-ghost use Rattle.cluster_spec.specs.Lawful.{cause, is_forged, no_node, not_running, or_else};
-ghost use Rattle.cluster_spec.specs.Receivers.{MemberReceives};
+ghost use Rattle.bus_spec.specs.Cluster.{Cluster, receipt_of};
+ghost use Rattle.bus_spec.specs.Lawful.{cause, is_forged, no_node, not_running, or_else};
+ghost use Rattle.bus_spec.specs.Receivers.{MemberReceives};
 
 use crate::members::Members;
 use alloc_server::Event;
 use alloc_spec::is_of_members;
+use bus_spec::Unlawful;
 use can_frame::{Frame, Ident, Judged, Kind, Mark};
-use cluster_spec::Unlawful;
 use replay_text::Told;
 use transfer_tx::Marked;
 

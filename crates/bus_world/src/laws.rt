@@ -1,7 +1,7 @@
 //! Laws of the definitions, each the contract of a function that does nothing.
 
-ghost use Rattle.cluster_spec.specs.Cluster.{Cluster};
-ghost use Rattle.cluster_spec.specs.OwnLogs.{GivesOnce};
+ghost use Rattle.bus_spec.specs.Cluster.{Cluster};
+ghost use Rattle.bus_spec.specs.OwnLogs.{GivesOnce};
 ghost use Rattle.bus_world.specs.World.{StandsFor};
 ghost use Rattle.bus_world.specs.declared.world.World.{World};
 

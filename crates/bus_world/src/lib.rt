@@ -5,7 +5,7 @@
 //! there, a frame comes from outside, a member stops at once, or a stop or a failure is armed at a call of its disk;
 //! an allocatee comes, reads its clock, receives a frame, puts its next one on the bus, or leaves. [`World::row`]
 //! takes exactly the lawful rows, and tells of each what it did; a row that is refused changes nothing, and is told
-//! its cause. What a list of rows leaves, and what each tells, is the definition of `cluster_spec`.
+//! its cause. What a list of rows leaves, and what each tells, is the definition of `bus_spec`.
 //!
 //! The world has two parts. The members and their bus (`members`, with their rows in `rows` and `bus`) know nothing
 //! of allocatees. The allocatees have a seat each (`seat`, with their rows in `allocatees`), and of the members they
@@ -28,5 +28,5 @@ mod seat;
 mod steps;
 mod world;
 
-pub use cluster_spec::{Unlawful, WorldFault};
+pub use bus_spec::{Unlawful, WorldFault};
 pub use world::World;

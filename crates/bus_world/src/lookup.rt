@@ -1,12 +1,12 @@
 //! Which member a row is for, and whether it may be.
 
 ghost use Rattle.std.specs.Prelude.{◌≡◌, ◌<◌, None, Some, IfOk, IfErr, IfSome, OnOk, length};
-ghost use Rattle.cluster_spec.specs.Cluster.{Cluster, is_member};
-ghost use Rattle.cluster_spec.specs.Lawful.{already_running, no_node, not_running, or_else};
+ghost use Rattle.bus_spec.specs.Cluster.{Cluster, is_member};
+ghost use Rattle.bus_spec.specs.Lawful.{already_running, no_node, not_running, or_else};
 
 use crate::members::Members;
+use bus_spec::Unlawful;
 use can_frame::Kind;
-use cluster_spec::Unlawful;
 
 impl<F: Fn(Kind, u16) -> Option<u64> + Copy> Members<F> {
     ghost use Rattle.bus_world.specs.Members.{StandsFor, ids_of, place_of};

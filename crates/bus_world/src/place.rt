@@ -3,8 +3,8 @@ ghost use Rattle.kv_store.specs.KeyDisk.{KeyDisk, restarted_on};
 ghost use Rattle.raft_log.specs.KeyDisk.{IsOn};
 ghost use Rattle.raft_log.specs.Stored.{Stored};
 ghost use Rattle.alloc_server.specs.Server.{disk_of};
-ghost use Rattle.cluster_spec.specs.Members.{MemberStatus};
-ghost use Rattle.cluster_spec.specs.Members.MemberStatus.{Down};
+ghost use Rattle.bus_spec.specs.Members.{MemberStatus};
+ghost use Rattle.bus_spec.specs.Members.MemberStatus.{Down};
 ghost use Rattle.bus_world.specs.Patterns.{IsFilled};
 
 use crate::patterns::copy_of;

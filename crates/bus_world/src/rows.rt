@@ -6,16 +6,16 @@ ghost use Rattle.replay_text.specs.declared.row.Row.TheVariants.{Open, Tick, Cra
 ghost use Rattle.transfer_rx.specs.Memory.{ReceiverFitsInMemory};
 ghost use Rattle.bus_world.specs.Members.{ids_of};
 ghost use Rattle.bus_world.specs.Patterns.{IsFilled};
-ghost use Rattle.cluster_spec.specs.Cluster.{rules_of};
-ghost use Rattle.cluster_spec.specs.Receivers.{MemberReceives};
+ghost use Rattle.bus_spec.specs.Cluster.{rules_of};
+ghost use Rattle.bus_spec.specs.Receivers.{MemberReceives};
 
 use crate::member::Member;
 use crate::members::Members;
 use alloc_server::Event;
 use arrayvec::ArrayVec;
+use bus_spec::Unlawful;
 use can_frame::Kind;
 use can_frame::sizes::MOST_MEMBERS;
-use cluster_spec::Unlawful;
 use outside::Pattern;
 use replay_text::Told;
 use transfer_rx::AcceptRow;

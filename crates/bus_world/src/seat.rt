@@ -4,10 +4,10 @@ ghost use Rattle.transfer_tx.specs.Views.{queued_of};
 ghost use Rattle.allocatee.specs.Accepted as accepted;
 ghost use Rattle.allocatee.specs.Allocatee.{Device, opening};
 ghost use Rattle.allocatee.specs.Stands.{event_of};
-ghost use Rattle.cluster_spec.specs.Allocatees.{after_sending_from, next_from, device_after_step};
-ghost use Rattle.cluster_spec.specs.Lawful.{arrival_refusal_at, cause_of_judgement};
-ghost use Rattle.cluster_spec.specs.Receivers.{AllocateeReceives};
-ghost use Rattle.cluster_spec.specs.Report.{line_of_step_at};
+ghost use Rattle.bus_spec.specs.Allocatees.{after_sending_from, next_from, device_after_step};
+ghost use Rattle.bus_spec.specs.Lawful.{arrival_refusal_at, cause_of_judgement};
+ghost use Rattle.bus_spec.specs.Receivers.{AllocateeReceives};
+ghost use Rattle.bus_spec.specs.Report.{line_of_step_at};
 ghost use Rattle.replay_text.specs.ReportLine.{report_line_of};
 ghost use Rattle.replay_text.specs.ReportLine.ReportLine.{HasCome, HasLeft};
 

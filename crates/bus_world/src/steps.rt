@@ -6,15 +6,15 @@ ghost use Rattle.raft_log.specs.Stored.{Stored};
 ghost use Rattle.alloc_spec.specs.Step.{step as step_of};
 ghost use Rattle.alloc_spec.specs.AllocatorState.{AllocatorState, view_of};
 ghost use Rattle.alloc_server.specs.Server.{accepts, event_of};
-ghost use Rattle.cluster_spec.specs.Receivers.{MemberReceives};
-ghost use Rattle.cluster_spec.specs.Report.{line_of_failure, line_of_view};
+ghost use Rattle.bus_spec.specs.Receivers.{MemberReceives};
+ghost use Rattle.bus_spec.specs.Report.{line_of_failure, line_of_view};
 ghost use Rattle.replay_text.specs.ReportLine.{report_line_of};
 ghost use Rattle.replay_text.specs.ReportLine.ReportLine.{HasFailed};
 ghost use Rattle.bus_world.specs.OnDisk.{HasFailedOn, IsClosedOn, IsUpOn};
 
 use alloc_server::{Event, Server};
+use bus_spec::told_of_step;
 use can_frame::Kind;
-use cluster_spec::told_of_step;
 use disk_model::MemoryDisk;
 use raft_log::laws::a_member_on_the_disk_by_states;
 use replay_text::Told;

@@ -5,17 +5,17 @@ ghost use Rattle.replay_text.specs.declared.row.Row.{Row};
 ghost use Rattle.replay_text.specs.declared.row.Row.TheVariants.{AOpen, Crash};
 ghost use Rattle.allocatee.specs.Accepted as device;
 ghost use Rattle.alloc_spec.specs.Accepted as accepted;
-ghost use Rattle.cluster_agreement.specs.Allocatees.{HasAllocatees};
-ghost use Rattle.cluster_agreement.specs.Duty.{AreDutiful};
-ghost use Rattle.cluster_agreement.specs.Headline.{HasHeadline};
-ghost use Rattle.cluster_agreement.specs.Safe.{AreSafe};
-ghost use Rattle.cluster_spec.specs.Cluster.{AreMembers, Cluster, cluster, after_row, world_of};
-ghost use Rattle.cluster_spec.specs.Lawful.{AreLawful, cause};
-ghost use Rattle.cluster_spec.specs.OwnLogs.{OffersItsOwn};
-ghost use Rattle.cluster_spec.specs.Receivers.{AllocateeReceives, MemberReceives};
-ghost use Rattle.cluster_spec.specs.Report.{entry_of, line_of_row as told_by, view_at};
+ghost use Rattle.bus_agreement.specs.Allocatees.{HasAllocatees};
+ghost use Rattle.bus_agreement.specs.Duty.{AreDutiful};
+ghost use Rattle.bus_agreement.specs.Headline.{HasHeadline};
+ghost use Rattle.bus_agreement.specs.Safe.{AreSafe};
+ghost use Rattle.bus_spec.specs.Cluster.{AreMembers, Cluster, cluster, after_row, world_of};
+ghost use Rattle.bus_spec.specs.Lawful.{AreLawful, cause};
+ghost use Rattle.bus_spec.specs.OwnLogs.{OffersItsOwn};
+ghost use Rattle.bus_spec.specs.Receivers.{AllocateeReceives, MemberReceives};
+ghost use Rattle.bus_spec.specs.Report.{entry_of, line_of_row as told_by, view_at};
 ghost use Rattle.replay_text.specs.ReportLine.{report_line_of};
-ghost use Rattle.cluster_spec.specs.declared.unlawful.WorldFault.TheVariants.{BadIds};
+ghost use Rattle.bus_spec.specs.declared.unlawful.WorldFault.TheVariants.{BadIds};
 ghost use Rattle.bus_world.specs.Seats.{Accepts, AreEmpty};
 ghost use Rattle.bus_world.specs.declared.seat.Seat.{Seat};
 
@@ -24,12 +24,12 @@ use crate::seat::Seat;
 use alloc_server::View;
 use alloc_spec_laws::laws::pairs_of_a_step;
 use arrayvec::ArrayVec;
-use can_frame::{Entry, Kind};
-use cluster_agreement::allocatees::the_allocatees;
-use cluster_agreement::headline::{
+use bus_agreement::allocatees::the_allocatees;
+use bus_agreement::headline::{
     lawful_rows_do_no_harm, rows_are_dutiful, rows_are_safe, rows_grow_by_one, the_headline,
 };
-use cluster_spec::{Unlawful, WorldFault};
+use bus_spec::{Unlawful, WorldFault};
+use can_frame::{Entry, Kind};
 use replay_text::{Row, Told};
 use std::alloc::Global;
 use transfer_rx::AcceptRow;
@@ -105,7 +105,7 @@ impl<F: Fn(Kind, u16) -> Option<u64> + Copy, G: Fn(Kind, u16) -> Option<u64> + C
     /// gives no ID twice and has no member's node ID; every Allocation that they offer with a node ID other
     /// than 0, in a queue or on the bus, is a pair of it by then; and what a member has committed is a prefix
     /// of the log of every later leader whose term is at least that member's stored term (`HasHeadline` of
-    /// `cluster_agreement`). The run of the Raft model that the rows show is lawful and safe (`AreSafe`).
+    /// `bus_agreement`). The run of the Raft model that the rows show is lawful and safe (`AreSafe`).
     /// Each step does its duty: a leader commits as far as a quorum lets it and tells one place where there
     /// is room, who has waited stands for election, who counts a quorum leads, who is asked offers an answer
     /// to its queue, even where the answer finds no room there, a leader adds a blank only when it is due, and

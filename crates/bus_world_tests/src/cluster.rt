@@ -3,7 +3,7 @@ ghost use Rattle.disk_model.specs.Pattern.{IsUsable};
 ghost use Rattle.transfer_rx.specs.Acceptance.{first_signature};
 ghost use Rattle.allocatee.specs.Accepted as device;
 ghost use Rattle.alloc_spec.specs.Accepted as accepted;
-ghost use Rattle.cluster_spec.specs.Receivers.{AllocateeReceives, MemberReceives};
+ghost use Rattle.bus_spec.specs.Receivers.{AllocateeReceives, MemberReceives};
 ghost use Rattle.bus_world.specs.World.{AcceptsAs, accepts, allocatees_accept};
 ghost use Rattle.bus_world_tests.specs.Rows.{HasPattern};
 

@@ -1,4 +1,4 @@
-ghost use Rattle.cluster_spec.specs.Receivers.{AllocateeReceives, MemberReceives};
+ghost use Rattle.bus_spec.specs.Receivers.{AllocateeReceives, MemberReceives};
 ghost use Rattle.bus_world.specs.World.{AcceptsAs, accepts, allocatees_accept};
 
 use crate::cluster::{all_agree, give, open_again};

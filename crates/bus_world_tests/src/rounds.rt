@@ -1,5 +1,5 @@
 ghost use Rattle.std.specs.Prelude.{◌≤◌};
-ghost use Rattle.cluster_spec.specs.Receivers.{AllocateeReceives, MemberReceives};
+ghost use Rattle.bus_spec.specs.Receivers.{AllocateeReceives, MemberReceives};
 ghost use Rattle.bus_world.specs.World.{AcceptsAs, accepts, allocatees_accept};
 
 use crate::cluster::give;

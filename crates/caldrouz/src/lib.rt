@@ -9,11 +9,11 @@ ghost use prog.Memory.{capped, size};
 ghost use Rattle.std.specs.Borrow.{full_share, sem};
 ghost use Rattle.std.specs.Prelude.{◌≡◌};
 ghost use Rattle.std.specs.Ptr.{lies_at, room_at};
-ghost use Rattle.node_calls.specs.At.{Calls, IsNew};
-ghost use Rattle.node_calls.specs.contracts.node.Node.{the_row};
-ghost use Rattle.node_calls.specs.declared.node.Node.{Node};
+ghost use Rattle.c_calls.specs.At.{Calls, IsNew};
+ghost use Rattle.c_calls.specs.contracts.node.Node.{the_row};
+ghost use Rattle.c_calls.specs.declared.node.Node.{Node};
 
-use node_calls::Node;
+use c_calls::Node;
 use std::mem::size_of;
 
 /// How many bytes a node takes: those of the room that `caldrouz_make` asks for. Its memory is aligned to 8.
@@ -33,7 +33,7 @@ pub unsafe extern "C" fn caldrouz_make(at: *mut u8, id: u32, size: u32, fd: u32)
     (at as *mut Node).write(Node::closed(id, size, fd))
 }
 
-/// Does what the number `op` asks the node at `at` for, as `node_calls::call` says of it: whatever allocator of the
+/// Does what the number `op` asks the node at `at` for, as `c_calls::call` says of it: whatever allocator of the
 /// definition it stands for, afterwards it stands for that one after the opening, the step or the taking.
 #[unsafe(no_mangle)]
 pub unsafe extern "C" fn caldrouz_call(at: *mut u8, op: u32, now: u64, a: u64, b: u64) -> u64
@@ -42,5 +42,5 @@ pub unsafe extern "C" fn caldrouz_call(at: *mut u8, op: u32, now: u64, a: u64, b
     ensures* { ∃ₛ (λ (after : Node). sem 𝓛 (lies_at the_row full_share at after) ∗
         ⌜ Calls node after op now a b result ⌝) }
 {
-    node_calls::call(&mut *(at as *mut Node), op, now, a, b)
+    c_calls::call(&mut *(at as *mut Node), op, now, a, b)
 }

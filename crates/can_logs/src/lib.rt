@@ -6,7 +6,7 @@
 //! line reads, and `None` exactly where it reads as none; [`write_candump`] and [`write_slcan`] give the
 //! line of a frame, and it reads as that frame again. [`Form`] names the two, and reads and writes a line by
 //! its form (`specs/Forms.antt`). Two rules for a form stand where they are used: in which bytes a line begins
-//! (`cmd_bus_logs`), and how a caller in C names a form (`log_page`).
+//! (`cmd_logs`), and how a caller in C names a form (`log_page`).
 //!
 //! A line is without the line feed, or the carriage return, that ends it. Hexadecimal digits are of either
 //! case where they are read, and of upper case where they are written. Nothing here takes memory.

@@ -3,7 +3,7 @@ use Rattle.std.proofs.Common.{◌≡◌, ◌≢◌, ℕ, zero, suc, ◌+◌, ◌
 use Rattle.std.proofs.lemmas.Bool.{eq-eqb, ne_eqb}
 use Rattle.std.specs.Prelude.{slice_index}
 use Rattle.replay_text.specs.Lines.{after_line, first_line}
-use Rattle.cmd_base.specs.Input.{HasNoLineEnd, HasTooLongLine, IsLineEnd}
+use Rattle.cmd_io.specs.Input.{HasNoLineEnd, HasTooLongLine, IsLineEnd}
 use Rattle.dsdl_text.specs.declared.line.Line.{Line}
 use Rattle.dsdl_text.specs.Lines.{Reads}
 use Rattle.dsdl_text.specs.Text.{Text, fault_of}

@@ -8,7 +8,7 @@ use Rattle.dsdl_text.specs.Numbers.{numbers_of}
 use Rattle.dsdl_text.specs.Sections.{part_named}
 use Rattle.dsdl_text.specs.Text.{TakesLines, Text, fault_of, no_text, text_after, types_in}
 use Rattle.std.specs.declared.option.Option.{Option}
-use Rattle.cmd_base.specs.declared.status.Status.{Status}
+use Rattle.cmd_io.specs.declared.status.Status.{Status}
 use Rattle.cmd_decode.specs.declared.answer.Answer.{Answer}
 use Rattle.cmd_decode.specs.declared.answer.Answer.TheVariants.{Value, NoPart, NoValue, BadLine, Beyond}
 use Rattle.cmd_decode.specs.Lines.{BeginsWith, ReadsLines}

@@ -3,7 +3,7 @@ use Rattle.std.proofs.Common.{◌≡◌, ℕ, ◌+◌, ◌-◌, ◌*◌, ◌≤�
 use Rattle.std.specs.declared.option.Option.{Option}
 use Rattle.std.specs.Io.KnownBytes.{Consumes, IsAtEnd, Keeps}
 use Rattle.replay_text.specs.Lines.{after_line}
-use Rattle.cmd_base.specs.Input.{IsLineEnd, ReadsMore}
+use Rattle.cmd_io.specs.Input.{IsLineEnd, ReadsMore}
 use Rattle.dsdl_text.specs.declared.line.Line.{Line}
 use Rattle.dsdl_text.specs.declared.texts.Texts.{Texts}
 use Rattle.dsdl_text.specs.Reader.{data_types}

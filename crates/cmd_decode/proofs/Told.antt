@@ -4,8 +4,8 @@ use Rattle.std.specs.declared.option.Option.{Option}
 use Rattle.std.specs.Prelude.{IsSome}
 use Rattle.std.specs.Io.KnownBytes.{Appends}
 use Rattle.outside.specs.Faults.{Rose}
-use Rattle.cmd_base.specs.Output.{WritesFront}
-use Rattle.cmd_base.specs.declared.status.Status.TheVariants.{ReadFault, WriteFault}
+use Rattle.cmd_io.specs.Output.{WritesFront}
+use Rattle.cmd_io.specs.declared.status.Status.TheVariants.{ReadFault, WriteFault}
 use Rattle.dsdl_text.specs.Text.{Text}
 use Rattle.cmd_decode.specs.declared.answer.Answer.{Answer}
 use Rattle.cmd_decode.specs.declared.answer.Answer.TheVariants.{Value, NoPart, NoValue, BadLine, Beyond}

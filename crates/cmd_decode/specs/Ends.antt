@@ -2,9 +2,9 @@
 use Rattle.std.specs.Prelude.{⊤, ◌≡◌, ◌≤◌, ◌<◌, ◌⊎◌, ℕ, List, [], ◌++◌, length, Option, None, Some}
 use Rattle.std.specs.Io.KnownBytes.{Appends}
 use Rattle.outside.specs.Faults.{Rose}
-use Rattle.cmd_base.specs.Output.{WritesFront}
-use Rattle.cmd_base.specs.declared.status.Status.{Status}
-use Rattle.cmd_base.specs.declared.status.Status.TheVariants.{Done, Usage, BadRow, Unlawful, ReadFault, WriteFault, Memory, Limit, LinkFault, DiskFault, Damaged, Differ, NoPart, NoValue}
+use Rattle.cmd_io.specs.Output.{WritesFront}
+use Rattle.cmd_io.specs.declared.status.Status.{Status}
+use Rattle.cmd_io.specs.declared.status.Status.TheVariants.{Done, Usage, BadRow, Unlawful, ReadFault, WriteFault, Memory, Limit, LinkFault, DiskFault, Damaged, Differ, NoPart, NoValue}
 use Rattle.replay_text.specs.Lines.{after_line}
 use Rattle.dsdl_text.specs.Text.{Text}
 use Rattle.cmd_decode.specs.Lines.{Comes}

@@ -1,7 +1,7 @@
 -- What is answered to a text, and the report of it.
 use Rattle.std.specs.Prelude.{◌≡◌, ◌≤◌, ℕ, ◌+◌, List, [], ◌∷◌, ◌++◌, length, codes, decimal, Option, None, Some}
-use Rattle.cmd_base.specs.declared.status.Status.{Status}
-use Rattle.cmd_base.specs.declared.status.Status.TheVariants as status
+use Rattle.cmd_io.specs.declared.status.Status.{Status}
+use Rattle.cmd_io.specs.declared.status.Status.TheVariants as status
 use Rattle.dsdl_text.specs.Layout.{Layout}
 use Rattle.dsdl_text.specs.Numbers.{numbers_of}
 use Rattle.dsdl_text.specs.Sections.{part_named}

@@ -4,7 +4,7 @@ ghost use Rattle.dsdl_text.specs.Text.{Text, types_in};
 ghost use Rattle.dsdl_text.specs.Reader.{data_types};
 
 use crate::ending::Ending;
-use cmd_base::Status;
+use cmd_io::Status;
 use dsdl_text::{Numbers, Texts};
 
 /// What is answered to a text and a payload.

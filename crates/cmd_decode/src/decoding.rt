@@ -6,7 +6,7 @@ ghost use Rattle.cmd_decode.specs.Ends.{Decodes};
 use crate::answer::Answer;
 use crate::reading::read_text;
 use crate::writing::write_answer;
-use cmd_base::Status;
+use cmd_io::Status;
 use dsdl_text::laws::a_line_has_one_value;
 use outside::{Failed, Sink, Source};
 

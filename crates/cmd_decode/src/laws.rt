@@ -2,7 +2,7 @@
 
 ghost use Rattle.std.specs.Prelude.{◌≡◌, ℕ, List};
 ghost use Rattle.cmd_decode.specs.Report.{IsReport};
-ghost use Rattle.cmd_base.specs.declared.status.Status.{Status};
+ghost use Rattle.cmd_io.specs.declared.status.Status.{Status};
 
 use dsdl_text::laws::a_line_has_one_value;
 

@@ -3,7 +3,7 @@ ghost use Rattle.dsdl_text.specs.declared.line.Line.{Line};
 ghost use Rattle.dsdl_text.specs.Lines.{Reads};
 ghost use Rattle.dsdl_text.specs.Text.{fault_of, no_text};
 
-use cmd_base::{Front, Input, front_line};
+use cmd_io::{Front, Input, front_line};
 use dsdl_text::TextReader;
 
 /// A text has so many lines at the most.

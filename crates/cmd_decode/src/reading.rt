@@ -1,11 +1,11 @@
 ghost use Rattle.std.specs.Prelude.{◌≡◌, ℕ, List, Some, IfOk, OnErr};
 ghost use Rattle.cmd_decode.specs.Ends.{IsReadInPart};
 ghost use Rattle.cmd_decode.specs.Taking.{ReadsText};
-ghost use Rattle.cmd_base.specs.Counting.{CountsFaults};
+ghost use Rattle.cmd_io.specs.Counting.{CountsFaults};
 
 use crate::ending::Ending;
 use crate::lines::{Lines, Stop};
-use cmd_base::Input;
+use cmd_io::Input;
 use outside::{Failed, Source};
 
 /// Reads a text, up to the end of the source or to a line that is not taken. The source is read only

@@ -1,11 +1,11 @@
 ghost use Rattle.std.specs.Prelude.{◌≡◌, ◌≤◌, ◌++◌, length, OnErr, OnOk};
 ghost use Rattle.std.specs.Io.KnownBytes.{Appends};
-ghost use Rattle.cmd_base.specs.Counting.{CountsFaults};
-ghost use Rattle.cmd_base.specs.Output.{Grows, Writes, WritesFront};
+ghost use Rattle.cmd_io.specs.Counting.{CountsFaults};
+ghost use Rattle.cmd_io.specs.Output.{Grows, Writes, WritesFront};
 ghost use Rattle.cmd_decode.specs.Report.{end_line, number_lines, report_of};
 
 use crate::answer::Answer;
-use cmd_base::{Output, number_line};
+use cmd_io::{Output, number_line};
 use outside::{Failed, Sink};
 use replay_text::Line;
 

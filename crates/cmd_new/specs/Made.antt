@@ -1,9 +1,9 @@
 -- What a run of `new` leaves of its disks, and what it writes.
 use Rattle.std.specs.Prelude.{⊤, ◌≡◌, ◌⊎◌, ℕ, ◌<◌, true, List, [], ◌++◌, codes, decimal, length, slice_index, slice_index_or, Option, Some, None, IsSome}
 use Rattle.std.specs.Io.KnownBytes.{Appends}
-use Rattle.cmd_base.specs.Output.{WritesFront}
-use Rattle.cmd_base.specs.declared.status.Status.{Status}
-use Rattle.cmd_base.specs.declared.status.Status.TheVariants.{DiskFault, Done, WriteFault}
+use Rattle.cmd_io.specs.Output.{WritesFront}
+use Rattle.cmd_io.specs.declared.status.Status.{Status}
+use Rattle.cmd_io.specs.declared.status.Status.TheVariants.{DiskFault, Done, WriteFault}
 use Rattle.disk_model.specs.Contents.{Contents, IsSettled, image_size}
 use Rattle.disk_model.specs.declared.disk.Disk.{Ghosts}
 use Rattle.outside.specs.Faults.{Rose}

@@ -3,9 +3,9 @@ ghost use Rattle.can_frame.specs.Sizes.{most_members};
 ghost use Rattle.disk_model.specs.Contents.{image_size};
 ghost use Rattle.outside.specs.Faults.{Rose};
 ghost use Rattle.cmd_new.specs.Made.{FailsAt, HasLine, IsBlank, IsMade, IsMadeAt, IsWritten, MakesStores, line_of};
-ghost use Rattle.cmd_base.specs.Counting.{CountsFaults};
+ghost use Rattle.cmd_io.specs.Counting.{CountsFaults};
 
-use cmd_base::{Output, Status, number_line};
+use cmd_io::{Output, Status, number_line};
 use disk_model::{Disk, IMAGE};
 use outside::{Failed, Sink};
 use replay_text::Line;

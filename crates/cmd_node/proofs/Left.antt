@@ -11,7 +11,7 @@ use Rattle.raft_log.specs.DurableViews.{durable_disk, durable_fault, durable_sta
 use Rattle.raft_log.specs.Rules.{AlwaysStandsForState, StandsForState}
 use Rattle.raft_log.specs.Stored.{Stored}
 use Rattle.alloc_spec.specs.Rules.{Rules}
-use Rattle.cmd_base.specs.declared.status.Status.TheVariants.{Memory, WriteFault}
+use Rattle.cmd_io.specs.declared.status.Status.TheVariants.{Memory, WriteFault}
 use Rattle.cmd_node.specs.Cut.{IsCut, IsCutTurning}
 use Rattle.cmd_node.specs.CutRun.{KeepsImages, KeepsOrOpens}
 use Rattle.cmd_node.specs.Ends.{end_status, fault_id, fault_status}

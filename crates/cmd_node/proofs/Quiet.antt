@@ -6,8 +6,8 @@ use Rattle.disk_model.specs.declared.disk.Disk.{Ghosts}
 use Rattle.disk_model.specs.Device.{DeviceCall, Makes}
 use Rattle.kv_store.specs.Image.{open_calls}
 use Rattle.raft_log.specs.Opening.{opening_calls}
-use Rattle.cmd_base.specs.declared.status.Status.{Status}
-use Rattle.cmd_base.specs.declared.status.Status.TheVariants.{DiskFault, LinkFault}
+use Rattle.cmd_io.specs.declared.status.Status.{Status}
+use Rattle.cmd_io.specs.declared.status.Status.TheVariants.{DiskFault, LinkFault}
 use Rattle.cmd_node.specs.Quiet.{RunQuietly, StayQuiet}
 use Rattle.cmd_node.specs.Status.{OfDisk, OfLink, OthersStay}
 use Rattle.cmd_node.specs.Run.{AreStopped}

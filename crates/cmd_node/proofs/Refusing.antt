@@ -5,7 +5,7 @@ use Rattle.std.specs.Prelude.{Option, Some, None, IfErr, IsSome, OnOk, Result, O
 use Rattle.disk_model.specs.declared.disk.Disk.{Ghosts}
 use Rattle.raft_log.specs.Rules.{IsDamagedAt, StandsForState}
 use Rattle.raft_log.specs.Stored.{Stored}
-use Rattle.cmd_base.specs.declared.status.Status.TheVariants.{Damaged as DamagedStore}
+use Rattle.cmd_io.specs.declared.status.Status.TheVariants.{Damaged as DamagedStore}
 use Rattle.cmd_node.specs.Ends.{end_status}
 use Rattle.cmd_node.specs.Run.{AreStopped, EndsRun, HasRun}
 use Rattle.cmd_node.specs.Status.{DisksTell, IsDamagedDisk, IsFaultless, IsWhole, NoneRose, OfDisk, OfLink}

@@ -11,7 +11,7 @@ use Rattle.can_frame.specs.declared.step.Sent.{Sent}
 use Rattle.alloc_spec.specs.declared.event.View.{View}
 use Rattle.alloc_spec.specs.StepState.{listing_of}
 use Rattle.alloc_spec.specs.Delivered.{StepResult}
-use Rattle.cluster_spec.specs.Report.{line_of_outcome, line_of_view}
+use Rattle.bus_spec.specs.Report.{line_of_outcome, line_of_view}
 
 pub received : (item : Received) (old new : Option (List Received)) (items : List Received) → WhereTold (Receives {E = Failed} (Ok item)) old new →
     old ≡ Some items → (item ≡ next_item items) × (new ≡ Some (items_behind items))

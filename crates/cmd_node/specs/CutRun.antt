@@ -10,8 +10,8 @@ use Rattle.outside.specs.Readings.{next_reading, readings_behind}
 use Rattle.raft_core.specs.StoredPuts.{PutWithOrigin, stored_puts}
 use Rattle.raft_log.specs.Rules.{StandsForState}
 use Rattle.raft_log.specs.Stored.{AfterSome, Stored, after_puts, opening_puts}
-use Rattle.cmd_base.specs.declared.status.Status.{Status}
-use Rattle.cmd_base.specs.declared.status.Status.TheVariants.{Damaged, DiskFault, LinkFault}
+use Rattle.cmd_io.specs.declared.status.Status.{Status}
+use Rattle.cmd_io.specs.declared.status.Status.TheVariants.{Damaged, DiskFault, LinkFault}
 use Rattle.cmd_node.specs.Opening.{readings_after}
 use Rattle.cmd_node.specs.Puts.{IsCutIn}
 use Rattle.cmd_node.specs.Turn.{Running}

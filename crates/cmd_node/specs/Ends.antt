@@ -2,8 +2,8 @@
 use Rattle.std.specs.Prelude.{ℕ, Result, Ok, Err, ⊤}
 use Rattle.kv_store.specs.declared.fault.OpenFault.{OpenFault}
 use Rattle.kv_store.specs.declared.fault.OpenFault.TheVariants.{Fault as DiskFailed, Damaged as DamagedAt}
-use Rattle.cmd_base.specs.declared.status.Status.{Status}
-use Rattle.cmd_base.specs.declared.status.Status.TheVariants.{Done, LinkFault, DiskFault, Damaged as IsDamaged}
+use Rattle.cmd_io.specs.declared.status.Status.{Status}
+use Rattle.cmd_io.specs.declared.status.Status.TheVariants.{Done, LinkFault, DiskFault, Damaged as IsDamaged}
 use Rattle.cmd_node.specs.declared.fault.Fault.{Fault}
 use Rattle.cmd_node.specs.declared.fault.Fault.TheVariants.{Link, Disk, Damaged}
 

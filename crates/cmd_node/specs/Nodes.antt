@@ -7,9 +7,9 @@ use Rattle.disk_model.specs.declared.disk.Disk.{Ghosts}
 use Rattle.outside.specs.Faults.{Rose}
 use Rattle.outside.specs.declared.received.RawFrame.{RawFrame}
 use Rattle.outside.specs.declared.received.Received.{Received}
-use Rattle.cmd_base.specs.Output.{WritesFront}
-use Rattle.cmd_base.specs.declared.status.Status.{Status}
-use Rattle.cmd_base.specs.declared.status.Status.TheVariants.{Damaged, DiskFault, Done, LinkFault, Memory, WriteFault}
+use Rattle.cmd_io.specs.Output.{WritesFront}
+use Rattle.cmd_io.specs.declared.status.Status.{Status}
+use Rattle.cmd_io.specs.declared.status.Status.TheVariants.{Damaged, DiskFault, Done, LinkFault, Memory, WriteFault}
 use Rattle.alloc_spec.specs.Rules.{Rules}
 use Rattle.cmd_node.specs.CutRun.{AreCutTurns, HoldsAt, HoldsPartAt, IsCutAtOpening, KeepsImages, KeepsOrOpens}
 use Rattle.cmd_node.specs.Opening.{RunInput, together_at_opening}

@@ -2,7 +2,7 @@
 use Rattle.std.specs.Prelude.{◌≡◌, ◌⊎◌, ℕ, suc, List, [], ◌++◌, length, Option, Some, None}
 use Rattle.outside.specs.declared.received.Received.{Received}
 use Rattle.outside.specs.Traffic.{items_behind, next_item}
-use Rattle.cmd_base.specs.Draws.{next_state, word_at}
+use Rattle.cmd_io.specs.Draws.{next_state, word_at}
 use Rattle.raft_core.specs.StoredPuts.{PutWithOrigin}
 use Rattle.alloc_spec.specs.Step.{Event, Tick, step}
 use Rattle.cmd_node.specs.Frames.{event_in}

@@ -5,7 +5,7 @@ use Rattle.disk_model.specs.declared.disk.Disk.{Ghosts}
 use Rattle.outside.specs.declared.received.RawFrame.{RawFrame}
 use Rattle.outside.specs.declared.received.Received.{Received}
 use Rattle.outside.specs.Readings.{next_reading}
-use Rattle.cmd_base.specs.Draws.{next_state, word_at}
+use Rattle.cmd_io.specs.Draws.{next_state, word_at}
 use Rattle.raft_core.specs.StoredPuts.{store_of}
 use Rattle.raft_log.specs.DurableViews.{durable_state}
 use Rattle.raft_log.specs.Opening.{OpensTo}

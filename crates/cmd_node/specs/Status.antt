@@ -5,8 +5,8 @@ use Rattle.disk_model.specs.declared.disk.Disk.{Ghosts}
 use Rattle.outside.specs.Faults.{Rose}
 use Rattle.raft_log.specs.Rules.{IsDamagedAt, StandsForState}
 use Rattle.raft_log.specs.Stored.{Stored}
-use Rattle.cmd_base.specs.declared.status.Status.{Status}
-use Rattle.cmd_base.specs.declared.status.Status.TheVariants.{Done, Memory, Damaged}
+use Rattle.cmd_io.specs.declared.status.Status.{Status}
+use Rattle.cmd_io.specs.declared.status.Status.TheVariants.{Done, Memory, Damaged}
 
 -- the status of a run in which nothing failed
 abbrev pub IsFaultless : Status → Type 0

@@ -4,14 +4,14 @@ use Rattle.std.specs.Prelude.{ℕ, suc, List, [], ◌∷◌, ◌++◌, length, O
 use Rattle.outside.specs.declared.received.RawFrame.{RawFrame}
 use Rattle.outside.specs.declared.received.Received.{Received}
 use Rattle.outside.specs.Traffic.{items_behind, next_item}
-use Rattle.cmd_base.specs.Draws.{next_state, word_at}
+use Rattle.cmd_io.specs.Draws.{next_state, word_at}
 use Rattle.raft_core.specs.StoredPuts.{stored_puts}
 use Rattle.raft_log.specs.Stored.{Stored, after_puts}
 use Rattle.alloc_spec.specs.Delivered.{StepResult}
 use Rattle.alloc_spec.specs.Step.{Event, Tick, after_pop, step}
 use Rattle.alloc_spec.specs.AllocatorState.{AllocatorState, view_of}
 use Rattle.transfer_tx.specs.Queue.{Queued, next_out}
-use Rattle.cluster_spec.specs.Report.{line_of_view}
+use Rattle.bus_spec.specs.Report.{line_of_view}
 use Rattle.replay_text.specs.ReportLine.{text_of_line}
 use Rattle.cmd_node.specs.Frames.{event_in, raw_of}
 

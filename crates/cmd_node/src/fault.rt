@@ -2,7 +2,7 @@ ghost use Rattle.std.specs.Prelude.{◌≡◌, ◌≤◌, length};
 ghost use Rattle.cmd_node.specs.Ends.{fault_status};
 ghost use Rattle.cmd_node.specs.Report.{line_of};
 
-use cmd_base::{Status, number_line, numbers_line};
+use cmd_io::{Status, number_line, numbers_line};
 use replay_text::Line;
 
 /// Why a run ended before its last turn. The first number is the node ID.

@@ -3,14 +3,14 @@
 ghost use Rattle.std.specs.Prelude.{◌≡◌, ◌<◌, ◌≤◌, ◌+◌, ◌++◌, [], ◌∷◌, suc, ℕ};
 ghost use Rattle.std.specs.Prelude.{List, length, map, IfSome, OnOk};
 ghost use Rattle.outside.specs.Faults.{HasCause};
-ghost use Rattle.cmd_base.specs.Output.{Grows, Writes, WritesLast};
+ghost use Rattle.cmd_io.specs.Output.{Grows, Writes, WritesLast};
 ghost use Rattle.replay_text.specs.ReportLine.{report_line_of, text_of_line};
 ghost use Rattle.cmd_node.specs.Report.{joined, report};
 ghost use Rattle.cmd_node.specs.Kept.{kept_line};
 
 use crate::step::NumberedStep;
 use circular_buffer::HeapCircularBuffer;
-use cmd_base::{Output, number_line};
+use cmd_io::{Output, number_line};
 use outside::{Failed, Sink};
 use replay_text::{Told, write_told};
 use std::alloc::Global;

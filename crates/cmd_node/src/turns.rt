@@ -2,7 +2,7 @@
 
 ghost use Rattle.std.specs.Prelude.{◌≡◌, ◌<◌, ◌≤◌, ◌+◌, ℕ, IfErr, OnOk, length, slice_index_or};
 ghost use Rattle.can_frame.specs.Sizes.{most_members};
-ghost use Rattle.cluster_spec.specs.Receivers.{MemberReceives};
+ghost use Rattle.bus_spec.specs.Receivers.{MemberReceives};
 ghost use Rattle.cmd_node.specs.Cut.{IsCutTurn};
 ghost use Rattle.cmd_node.specs.Quiet.{StayQuiet};
 ghost use Rattle.cmd_node.specs.Stands.{AreStanding, Stand, closure_of};

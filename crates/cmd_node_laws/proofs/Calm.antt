@@ -11,9 +11,9 @@ use Rattle.raft_log.specs.Stored.{Put, Stored, after_puts, opening_puts}
 use Rattle.alloc_spec.specs.StepState.{StepState}
 use Rattle.alloc_spec.specs.AllocatorState.{AllocatorState}
 use Rattle.alloc_spec.specs.Rules.{Rules, opening_by}
-use Rattle.cluster_spec.specs.Members.{MemberStatus, Member, after_cut_off, puts_of, stopped_with, after_failed_opening, after_writing}
-use Rattle.cluster_spec.specs.Members as members
-use Rattle.cluster_spec.specs.Members.MemberStatus.{Down, Up}
+use Rattle.bus_spec.specs.Members.{MemberStatus, Member, after_cut_off, puts_of, stopped_with, after_failed_opening, after_writing}
+use Rattle.bus_spec.specs.Members as members
+use Rattle.bus_spec.specs.Members.MemberStatus.{Down, Up}
 use Rattle.cmd_node_laws.specs.Mirrored.{IsCalm}
 
 all_done : (puts : List Put) (faults : ℕ) → are_put puts (nothing_set faults) ≡ true

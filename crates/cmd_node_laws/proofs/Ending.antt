@@ -10,9 +10,9 @@ use Rattle.transfer_rx.specs.Reassembly.Answer.{Gives}
 use Rattle.transfer_rx.specs.Sessions.{Session}
 use Rattle.transfer_rx.specs.Sound.{IsDelivered}
 use Rattle.alloc_spec.specs.AllocatorState.{AllocatorState}
-use Rattle.cluster_spec.specs.Cluster.{Cluster, after_rows, arrival_at, cluster, frame_at, after_row, receipt_of, tick_of}
-use Rattle.cluster_spec.specs.Lawful.{DoNoHarm, IsHarmlessAt, cause, no_such_frame}
-use Rattle.cluster_spec.specs.Members.{is_running}
+use Rattle.bus_spec.specs.Cluster.{Cluster, after_rows, arrival_at, cluster, frame_at, after_row, receipt_of, tick_of}
+use Rattle.bus_spec.specs.Lawful.{DoNoHarm, IsHarmlessAt, cause, no_such_frame}
+use Rattle.bus_spec.specs.Members.{is_running}
 use Rattle.cmd_node_laws.specs.Traces.{Came, Event, FromElsewhere, DiesInTurn, DiesAtOpening, MayAllHappen, MayOccur, MayHappen, OfOthers, Opens, Silence, Stops, Turns, WasSent, all_rows, came_rows, rows_of, rows_then, while_running}
 use Rattle.cmd_node_laws.specs.Mirrored.{AreCalm, IsCalm}
 use Rattle.cmd_node_laws.proofs.Killed.{RunsArmed, arm_leaves, step_cut, stored_at}

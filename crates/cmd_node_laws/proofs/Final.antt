@@ -8,17 +8,17 @@ use Rattle.raft_model.specs.Lists.{In}
 use Rattle.raft_model.specs.Members.{HasNoneTwice}
 use Rattle.replay_text.specs.declared.row.Row.{Row}
 use Rattle.alloc_spec.specs.AllocatorState.{AllocatorState}
-use Rattle.cluster_agreement.specs.Headline.{HasHeadline, Headline}
-use Rattle.cluster_spec.specs.Choices.{AgreesWithDisk}
-use Rattle.cluster_spec.specs.Cluster.{Cluster, after_rows, cluster, after_row, world_of}
-use Rattle.cluster_spec.specs.Logs.{stored, stored_on}
-use Rattle.cluster_spec.specs.Members.{MemberStatus}
+use Rattle.bus_agreement.specs.Headline.{HasHeadline, Headline}
+use Rattle.bus_spec.specs.Choices.{AgreesWithDisk}
+use Rattle.bus_spec.specs.Cluster.{Cluster, after_rows, cluster, after_row, world_of}
+use Rattle.bus_spec.specs.Logs.{stored, stored_on}
+use Rattle.bus_spec.specs.Members.{MemberStatus}
 use Rattle.outside.specs.Traffic.{next_item}
 use Rattle.transfer_rx.specs.Reassembly.{Arrival, Delivery, Setting, answer}
 use Rattle.transfer_rx.specs.Reassembly.Answer.{Gives}
 use Rattle.transfer_rx.specs.Sessions.{Session}
 use Rattle.transfer_rx.specs.Sound.{IsDelivered}
-use Rattle.cluster_agreement.proofs.Concatenations.{same_ids}
+use Rattle.bus_agreement.proofs.Concatenations.{same_ids}
 use Rattle.cmd_node.specs.Puts.{turn_puts}
 use Rattle.cmd_node.specs.Turn.{Running, Turning}
 use Rattle.cmd_node_laws.specs.Traces.{Came}

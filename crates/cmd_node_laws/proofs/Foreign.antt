@@ -16,10 +16,10 @@ use Rattle.transfer_rx.specs.Sound.{IsDelivered}
 use Rattle.alloc_spec.specs.Accepted.{rows, setting_for}
 use Rattle.alloc_spec.specs.Judging.{is_stale, answer_judgement, arrival_judgement, misses}
 use Rattle.alloc_spec.specs.AllocatorState.{AllocatorState}
-use Rattle.cluster_spec.specs.Cluster.{is_member}
-use Rattle.cluster_spec.specs.Lawful.{is_forged, cause_of_judgement}
-use Rattle.cluster_agreement.proofs.Idents.{wanted_is}
-use Rattle.cluster_agreement.proofs.Lists.{both, never, tell}
+use Rattle.bus_spec.specs.Cluster.{is_member}
+use Rattle.bus_spec.specs.Lawful.{is_forged, cause_of_judgement}
+use Rattle.bus_agreement.proofs.Idents.{wanted_is}
+use Rattle.bus_agreement.proofs.Lists.{both, never, tell}
 
 -- what is completed under an identifier has its kind and number
 abbrev IsCompletedBy : ℕ → Delivery → Type 0

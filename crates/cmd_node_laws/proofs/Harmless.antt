@@ -11,9 +11,9 @@ use Rattle.transfer_rx.specs.Sound.{IsDelivered}
 use Rattle.transfer_tx.specs.Queue.{Queued, next_out}
 use Rattle.alloc_spec.specs.Step.{after_pop}
 use Rattle.alloc_spec.specs.AllocatorState.{AllocatorState}
-use Rattle.cluster_spec.specs.Cluster.{Cluster, after_rows, arrival_at, frame_at, from_outside, after_row, receipt_of, tick_of}
-use Rattle.cluster_spec.specs.Lawful.{DoNoHarm, IsHarmlessAt, is_forged, arrival_refusal, no_such_frame}
-use Rattle.cluster_spec.specs.Members.{next_frame}
+use Rattle.bus_spec.specs.Cluster.{Cluster, after_rows, arrival_at, frame_at, from_outside, after_row, receipt_of, tick_of}
+use Rattle.bus_spec.specs.Lawful.{DoNoHarm, IsHarmlessAt, is_forged, arrival_refusal, no_such_frame}
+use Rattle.bus_spec.specs.Members.{next_frame}
 use Rattle.cmd_node_laws.specs.Traces.{Came, FromElsewhere, MayOccur, Silence, RowsFrom, Turns, WasSent, came_rows, out_rows, rows_of, send_if, rows_then}
 use Rattle.cmd_node_laws.specs.Mirrored.{AreCalm}
 use Rattle.cmd_node_laws.proofs.Foreign.{foreign_fine}

@@ -12,9 +12,9 @@ use Rattle.replay_text.specs.declared.row.Row.TheVariants.{Crash}
 use Rattle.alloc_spec.specs.StepState.{StepState}
 use Rattle.alloc_spec.specs.Step.{Event}
 use Rattle.alloc_spec.specs.AllocatorState.{AllocatorState}
-use Rattle.cluster_spec.specs.Cluster.{Cluster, after_row, with_member}
-use Rattle.cluster_spec.specs.Members.{MemberStatus, Member, with_stop_armed as armed_member, after_cut_off, puts_of, member_after_step, stopped_with, after_writing}
-use Rattle.cluster_spec.specs.Members.MemberStatus.{Down, Failed}
+use Rattle.bus_spec.specs.Cluster.{Cluster, after_row, with_member}
+use Rattle.bus_spec.specs.Members.{MemberStatus, Member, with_stop_armed as armed_member, after_cut_off, puts_of, member_after_step, stopped_with, after_writing}
+use Rattle.bus_spec.specs.Members.MemberStatus.{Down, Failed}
 use Rattle.cmd_node_laws.specs.Mirrored.{AreCalm, IsCalm}
 use Rattle.cmd_node_laws.proofs.Armed.{AllPut, IsCutBehind, SomePut, armed, armed_on, cut_behind, stop_behind, stop_is}
 use Rattle.cmd_node_laws.proofs.Calm.{stop_calm, stop_store, written}

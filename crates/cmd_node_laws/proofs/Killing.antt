@@ -6,7 +6,7 @@ use Rattle.outside.specs.declared.received.RawFrame.{RawFrame}
 use Rattle.outside.specs.declared.received.Received.{Received}
 use Rattle.outside.specs.declared.received.Received.TheVariants.{Frame as Item, Junk, Nothing}
 use Rattle.outside.specs.Traffic.{next_item}
-use Rattle.cmd_base.specs.Draws.{next_state, word_at}
+use Rattle.cmd_io.specs.Draws.{next_state, word_at}
 use Rattle.raft_core.specs.StoredPuts.{PutWithOrigin}
 use Rattle.raft_log.specs.Stored.{Stored}
 use Rattle.replay_text.specs.declared.row.Row.{Row}
@@ -22,10 +22,10 @@ use Rattle.alloc_spec.specs.Step.{Event, step}
 use Rattle.alloc_spec.specs.Step.Event.{Rx as Comes}
 use Rattle.alloc_spec.specs.AllocatorState.{AllocatorState}
 use Rattle.alloc_ghost_erasure.specs.Unmarked.{unmarked_event, unmarked_server}
-use Rattle.cluster_spec.specs.declared.unlawful.Unlawful.TheVariants.{NoNode}
-use Rattle.cluster_spec.specs.Cluster.{Cluster, after_rows, arrival_at, frame_at, from_outside, is_member, after_row, receipt_of, tick_of}
-use Rattle.cluster_spec.specs.Lawful.{DoNoHarm, DoesNoHarm, IsHarmlessAt, because, cause, no_such_frame, not_running, or_else}
-use Rattle.cluster_spec.specs.Members.{is_running}
+use Rattle.bus_spec.specs.declared.unlawful.Unlawful.TheVariants.{NoNode}
+use Rattle.bus_spec.specs.Cluster.{Cluster, after_rows, arrival_at, frame_at, from_outside, is_member, after_row, receipt_of, tick_of}
+use Rattle.bus_spec.specs.Lawful.{DoNoHarm, DoesNoHarm, IsHarmlessAt, because, cause, no_such_frame, not_running, or_else}
+use Rattle.bus_spec.specs.Members.{is_running}
 use Rattle.cmd_node.specs.Frames.{event_in, is_frame, receipt}
 use Rattle.cmd_node.specs.Puts.{heard_puts, step_puts, taken_puts, tick_puts, turn_puts}
 use Rattle.cmd_node.specs.Turn.{Turning, turn_after_tick}

@@ -11,10 +11,10 @@ use Rattle.raft_log.specs.Stored.{Put, Stored, after_puts, opening_puts}
 use Rattle.replay_text.specs.declared.row.Row.TheVariants.{Crash, Open}
 use Rattle.alloc_spec.specs.AllocatorState.{AllocatorState}
 use Rattle.alloc_spec.specs.Rules.{Rules, opening_by}
-use Rattle.cluster_spec.specs.Cluster.{Cluster, after_row, rules_of, with_member}
-use Rattle.cluster_spec.specs.Lawful.{cause}
-use Rattle.cluster_spec.specs.Members.{Member, after_failed_opening, after_opening, is_running, stopped_with, with_stop_armed}
-use Rattle.cluster_spec.specs.Members.MemberStatus.{Down, Up}
+use Rattle.bus_spec.specs.Cluster.{Cluster, after_row, rules_of, with_member}
+use Rattle.bus_spec.specs.Lawful.{cause}
+use Rattle.bus_spec.specs.Members.{Member, after_failed_opening, after_opening, is_running, stopped_with, with_stop_armed}
+use Rattle.bus_spec.specs.Members.MemberStatus.{Down, Up}
 use Rattle.cmd_node_laws.specs.Traces.{DiesAtOpening, MayOpen, rows_of}
 use Rattle.cmd_node_laws.specs.Mirrored.{AreCalm, IsCalm}
 use Rattle.cmd_node_laws.proofs.Armed.{AllPut, SomePut, armed, armed_on, behind_opening, opening_behind, opening_stop_is, stop_behind}

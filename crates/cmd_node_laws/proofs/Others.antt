@@ -7,9 +7,9 @@ use Rattle.raft_model.specs.Lists.{at_other}
 use Rattle.replay_text.specs.declared.row.Row.{Row}
 use Rattle.replay_text.specs.declared.row.Row.TheVariants.{AEnd, AOpen, ARx, ASend, ATick, Crash, Ext, Fault, Open, Rx, Send, Tick}
 use Rattle.transfer_tx.specs.Queue.{Queued}
-use Rattle.cluster_spec.specs.Cluster.{Cluster, after_rows, in_list, after_row}
-use Rattle.cluster_agreement.proofs.Lists.{never}
-use Rattle.cluster_spec.specs.Members.{is_running, next_frame}
+use Rattle.bus_spec.specs.Cluster.{Cluster, after_rows, in_list, after_row}
+use Rattle.bus_agreement.proofs.Lists.{never}
+use Rattle.bus_spec.specs.Members.{is_running, next_frame}
 use Rattle.cmd_node.specs.Frames.{raw_of}
 use Rattle.cmd_node_laws.specs.Traces.{Came, Event, FromElsewhere, DiesInTurn, DiesAtOpening, MayHappen, OfOthers, Opens, Silence, Stops, Turns, WasSent, came_rows, is_of_others, out_rows, rows_of, send_if, while_running}
 use Rattle.cmd_node_laws.specs.Mirrored.{raw_by, sent_by, sent_in}

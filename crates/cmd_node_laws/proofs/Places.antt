@@ -5,9 +5,9 @@ use Rattle.std.proofs.lemmas.List.{map-append}
 use Rattle.raft_model.specs.Lists.{at_here, at_other}
 use Rattle.replay_text.specs.declared.row.Row.{Row}
 use Rattle.transfer_tx.specs.Queue.{Queued}
-use Rattle.cluster_spec.specs.Cluster.{Cluster, after_rows, after_row, with_member}
-use Rattle.cluster_spec.specs.Lawful.{DoNoHarm}
-use Rattle.cluster_spec.specs.Members.{Member}
+use Rattle.bus_spec.specs.Cluster.{Cluster, after_rows, after_row, with_member}
+use Rattle.bus_spec.specs.Lawful.{DoNoHarm}
+use Rattle.bus_spec.specs.Members.{Member}
 use Rattle.cmd_node.specs.Frames.{raw_of}
 use Rattle.cmd_node_laws.specs.Mirrored.{AreCalm, IsCalm, raw_by, sent_by, sent_in}
 

@@ -10,13 +10,13 @@ use Rattle.transfer_tx.specs.Queue.{Queued, next_out}
 use Rattle.alloc_spec.specs.StepState.{StepState}
 use Rattle.alloc_spec.specs.Step.{Event, after_pop, step}
 use Rattle.alloc_spec.specs.AllocatorState.{AllocatorState}
-use Rattle.cluster_spec.specs.declared.unlawful.Unlawful.{Unlawful}
-use Rattle.cluster_spec.specs.declared.unlawful.Unlawful.TheVariants.{Forged, NoFrame, NoNode, Running, Stopped}
-use Rattle.cluster_spec.specs.declared.unlawful.Unlawful.TheVariants as unlawful
-use Rattle.cluster_spec.specs.Cluster.{Cluster, arrival_at, frame_at, from_outside, in_list, is_member, after_row, no_frame, rules_of, with_member}
-use Rattle.cluster_spec.specs.Lawful.{DoesNoHarm, IsHarmlessAt, because, cause, is_forged, arrival_refusal, no_such_frame, nothing_to_send, or_else}
-use Rattle.cluster_spec.specs.Members.{MemberStatus, Member, after_sending, is_running, next_frame, member_after_step, puts_of, stopped_with}
-use Rattle.cluster_spec.specs.Members.MemberStatus.{Down, Failed, Up}
+use Rattle.bus_spec.specs.declared.unlawful.Unlawful.{Unlawful}
+use Rattle.bus_spec.specs.declared.unlawful.Unlawful.TheVariants.{Forged, NoFrame, NoNode, Running, Stopped}
+use Rattle.bus_spec.specs.declared.unlawful.Unlawful.TheVariants as unlawful
+use Rattle.bus_spec.specs.Cluster.{Cluster, arrival_at, frame_at, from_outside, in_list, is_member, after_row, no_frame, rules_of, with_member}
+use Rattle.bus_spec.specs.Lawful.{DoesNoHarm, IsHarmlessAt, because, cause, is_forged, arrival_refusal, no_such_frame, nothing_to_send, or_else}
+use Rattle.bus_spec.specs.Members.{MemberStatus, Member, after_sending, is_running, next_frame, member_after_step, puts_of, stopped_with}
+use Rattle.bus_spec.specs.Members.MemberStatus.{Down, Failed, Up}
 use Rattle.cmd_node_laws.specs.Traces.{MayTurn}
 use Rattle.cmd_node_laws.specs.Mirrored.{AreCalm, HasWorked}
 use Rattle.cmd_node_laws.proofs.Calm.{opened_calm, opened_member, opening_done, puts_left, step_calm, step_done, stop_calm, written}

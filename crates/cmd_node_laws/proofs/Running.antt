@@ -6,7 +6,7 @@ use Rattle.std.proofs.lemmas.List.{take_all}
 use Rattle.outside.specs.declared.received.RawFrame.{RawFrame}
 use Rattle.outside.specs.Readings.{next_reading}
 use Rattle.outside.specs.Traffic.{items_behind, next_item}
-use Rattle.cmd_base.specs.Draws.{next_state, word_at}
+use Rattle.cmd_io.specs.Draws.{next_state, word_at}
 use Rattle.raft_core.specs.StoredPuts.{store_of}
 use Rattle.raft_log.specs.KeyDisk.{opening_on}
 use Rattle.raft_log.specs.Stored.{Put, Stored, after_puts, opening_puts}
@@ -19,17 +19,17 @@ use Rattle.transfer_rx.specs.Sound.{IsDelivered}
 use Rattle.transfer_tx.specs.Queue.{Queued, next_out}
 use Rattle.alloc_spec.specs.Step.{Event as StepEvent}
 use Rattle.alloc_spec.specs.Rules.{Rules, opening_by, tells}
-use Rattle.cluster_spec.specs.Cluster.{Cluster, after_rows, is_member, after_row, rules_of}
-use Rattle.cluster_spec.specs.Members.{Member}
-use Rattle.cluster_spec.specs.Members.MemberStatus.{Up}
+use Rattle.bus_spec.specs.Cluster.{Cluster, after_rows, is_member, after_row, rules_of}
+use Rattle.bus_spec.specs.Members.{Member}
+use Rattle.bus_spec.specs.Members.MemberStatus.{Up}
 use Rattle.cmd_node.specs.Frames.{event_in}
 use Rattle.cmd_node.specs.Opening.{RunInput, together_at_opening, opened_at, readings_after}
 use Rattle.cmd_node.specs.Turn.{Running, Turning, turn_after_hearing, turn_after_frame, turn_after_taking, turn_after_tick, turn}
 use Rattle.cmd_node.specs.Turns.{Together, all_turns, first_turns, turning_after, turning_at}
 use Rattle.cmd_node_laws.specs.Traces.{Came, Event, DiesInTurn, DiesAtOpening, MayAllHappen, MayHappen, OfOthers, Opens, Stops, Turns, all_rows, rows_of}
 use Rattle.cmd_node_laws.specs.Mirrored.{AreCalm, Carries, IsMirrored, raw_by}
-use Rattle.cluster_agreement.proofs.Concatenations.{same_ids}
-use Rattle.cluster_agreement.proofs.Lists.{never}
+use Rattle.bus_agreement.proofs.Concatenations.{same_ids}
+use Rattle.bus_agreement.proofs.Lists.{never}
 use Rattle.replay_text.specs.declared.row.Row.{Row}
 use Rattle.cmd_node_laws.specs.Processes.{ComesNext, GoesOn, HasStoredAt, IsWaiting, OneOf, Point, StandAt, StandsAt, TakesTurn, is_of_these, next_point, place_of, running_at, together_at, whose}
 use Rattle.cmd_node_laws.specs.Processes as at_point

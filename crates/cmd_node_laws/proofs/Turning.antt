@@ -7,7 +7,7 @@ use Rattle.outside.specs.declared.received.RawFrame.{RawFrame}
 use Rattle.outside.specs.declared.received.Received.{Received}
 use Rattle.outside.specs.declared.received.Received.TheVariants.{Frame as Item, Junk, Nothing}
 use Rattle.outside.specs.Traffic.{items_behind, next_item}
-use Rattle.cmd_base.specs.Draws.{next_state, word_at}
+use Rattle.cmd_io.specs.Draws.{next_state, word_at}
 use Rattle.raft_log.specs.Stored.{Stored}
 use Rattle.replay_text.specs.declared.row.Row.{Row}
 use Rattle.replay_text.specs.declared.row.Row.TheVariants.{Ext, Send, Tick}
@@ -22,9 +22,9 @@ use Rattle.alloc_spec.specs.Step.{Event, after_pop, step}
 use Rattle.alloc_spec.specs.Step.Event.{Rx as Comes}
 use Rattle.alloc_spec.specs.AllocatorState.{AllocatorState}
 use Rattle.alloc_ghost_erasure.specs.Unmarked.{unmarked_event, unmarked_frame, unmarked_server, unmarked_step_result}
-use Rattle.cluster_spec.specs.Cluster.{Cluster, after_rows, arrival_at, frame_at, from_outside, in_list, after_row, receipt_of, tick_of}
-use Rattle.cluster_spec.specs.Members.{Member, next_frame}
-use Rattle.cluster_spec.specs.Members.MemberStatus.{Up}
+use Rattle.bus_spec.specs.Cluster.{Cluster, after_rows, arrival_at, frame_at, from_outside, in_list, after_row, receipt_of, tick_of}
+use Rattle.bus_spec.specs.Members.{Member, next_frame}
+use Rattle.bus_spec.specs.Members.MemberStatus.{Up}
 use Rattle.cmd_node.specs.Frames.{event_in, is_frame, raw_of, receipt}
 use Rattle.cmd_node.specs.Turn.{Running, Turning, turn_after_hearing, turn_after_step, turn_after_sending, turn_after_frame, turn_after_taking, turn_after_tick, turn}
 use Rattle.cmd_node_laws.specs.Traces.{Came, FromElsewhere, MayOccur, Silence, RowsFrom, Turns, WasSent, came_rows, out_rows, rows_of, send_if, rows_then}

@@ -2,12 +2,12 @@
 -- and is opened again by a process that gets what the kill left.
 use Rattle.std.specs.Prelude.{ℕ, false, List, [], ◌∷◌}
 use Rattle.outside.specs.declared.received.Received.TheVariants.{Frame}
-use Rattle.cmd_base.specs.Draws.{next_state, word_at}
+use Rattle.cmd_io.specs.Draws.{next_state, word_at}
 use Rattle.cmd_node.specs.Frames.{raw_of}
 use Rattle.cmd_node.specs.Opening.{RunInput}
 use Rattle.cmd_node_laws.specs.Stands.{world_after}
 use Rattle.cmd_node_laws.specs.Traces.{Event, DiesInTurn, Opens, Silence, Turns, WasSent}
-use Rattle.cluster_spec.specs.Cluster.{Cluster, frame_at}
+use Rattle.bus_spec.specs.Cluster.{Cluster, frame_at}
 
 abbrev pub two : List ℕ
 two = 1 ∷ 2 ∷ []

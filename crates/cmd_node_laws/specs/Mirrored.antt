@@ -9,9 +9,9 @@ use Rattle.replay_text.specs.declared.row.Row.TheVariants.{Send}
 use Rattle.alloc_spec.specs.AllocatorState.{AllocatorState}
 use Rattle.transfer_tx.specs.Queue.{Queued}
 use Rattle.alloc_ghost_erasure.specs.Unmarked.{unmarked_server}
-use Rattle.cluster_spec.specs.Cluster.{Cluster, frame_at, in_list, after_row}
-use Rattle.cluster_spec.specs.Members.{MemberStatus, Member, next_frame}
-use Rattle.cluster_spec.specs.Members.MemberStatus.{Down, Failed, Up}
+use Rattle.bus_spec.specs.Cluster.{Cluster, frame_at, in_list, after_row}
+use Rattle.bus_spec.specs.Members.{MemberStatus, Member, next_frame}
+use Rattle.bus_spec.specs.Members.MemberStatus.{Down, Failed, Up}
 use Rattle.cmd_node.specs.Frames.{is_frame, raw_of}
 use Rattle.cmd_node.specs.Turn.{Running}
 use Rattle.cmd_node_laws.specs.Traces.{Came, FromElsewhere, Silence, WasSent}

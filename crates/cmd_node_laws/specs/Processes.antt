@@ -3,11 +3,11 @@
 use Rattle.std.specs.Prelude.{◌≡◌, ℕ, suc, ◌<◌, ◌≤◌, ◌==◌, Bool, true, false, List, [], ◌∷◌, length, Option, None, Some, slice_index, if◌then◌else◌}
 use Rattle.outside.specs.Readings.{next_reading}
 use Rattle.outside.specs.Traffic.{next_item}
-use Rattle.cmd_base.specs.Draws.{next_state, word_at}
+use Rattle.cmd_io.specs.Draws.{next_state, word_at}
 use Rattle.raft_core.specs.StoredPuts.{store_of}
 use Rattle.alloc_spec.specs.Rules.{Rules, tells}
-use Rattle.cluster_spec.specs.Cluster.{Cluster, after_rows, is_member}
-use Rattle.cluster_spec.specs.Members.MemberStatus.{Down}
+use Rattle.bus_spec.specs.Cluster.{Cluster, after_rows, is_member}
+use Rattle.bus_spec.specs.Members.MemberStatus.{Down}
 use Rattle.cmd_node.specs.Opening.{RunInput, together_at_opening, opened_at, readings_after}
 use Rattle.cmd_node.specs.Turn.{Running}
 use Rattle.cmd_node.specs.Turns.{Together, all_turns, first_turns}

@@ -6,15 +6,15 @@ use Rattle.outside.specs.declared.received.RawFrame.{RawFrame}
 use Rattle.outside.specs.declared.received.Received.{Received}
 use Rattle.outside.specs.Readings.{next_reading}
 use Rattle.outside.specs.Traffic.{items_behind, next_item}
-use Rattle.cmd_base.specs.Draws.{next_state, word_at}
+use Rattle.cmd_io.specs.Draws.{next_state, word_at}
 use Rattle.raft_log.specs.Rules.{StandsForState}
 use Rattle.raft_log.specs.Stored.{Stored}
 use Rattle.raft_model.specs.Lists.{In}
 use Rattle.raft_model.specs.Members.{HasNoneTwice}
 use Rattle.replay_text.specs.declared.row.Row.{Row}
 use Rattle.alloc_spec.specs.Rules.{Rules, tells}
-use Rattle.cluster_spec.specs.Cluster.{AreMembers, Cluster, after_rows, cluster, rules_of}
-use Rattle.cluster_spec.specs.Members.MemberStatus.{Down}
+use Rattle.bus_spec.specs.Cluster.{AreMembers, Cluster, after_rows, cluster, rules_of}
+use Rattle.bus_spec.specs.Members.MemberStatus.{Down}
 use Rattle.cmd_node.specs.Opening.{RunInput, readings_after}
 use Rattle.cmd_node.specs.Turn.{Running}
 use Rattle.cmd_node.specs.Turns.{Together}

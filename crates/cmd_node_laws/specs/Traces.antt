@@ -10,9 +10,9 @@ use Rattle.outside.specs.declared.pattern.Pattern.TheVariants.{Old}
 use Rattle.replay_text.specs.declared.row.Row.{Row}
 use Rattle.replay_text.specs.declared.row.Row.TheVariants.{Open, Tick, Rx, Send, Ext, Crash, AOpen, ATick, ARx, ASend, AEnd}
 use Rattle.transfer_tx.specs.Queue.{Queued}
-use Rattle.cluster_spec.specs.Cluster.{Cluster, after_rows, arrival_at, frame_at, is_member, after_row}
-use Rattle.cluster_spec.specs.Lawful.{IsHarmlessAt, cause, is_forged, no_such_frame}
-use Rattle.cluster_spec.specs.Members.{is_running, next_frame}
+use Rattle.bus_spec.specs.Cluster.{Cluster, after_rows, arrival_at, frame_at, is_member, after_row}
+use Rattle.bus_spec.specs.Lawful.{IsHarmlessAt, cause, is_forged, no_such_frame}
+use Rattle.bus_spec.specs.Members.{is_running, next_frame}
 
 -- what came on a member's link in a turn
 pub data Came : Type 0 where

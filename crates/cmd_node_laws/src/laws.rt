@@ -7,12 +7,12 @@ ghost use Rattle.raft_log.specs.Rules.{StandsForState};
 ghost use Rattle.raft_log.specs.Stored.{AfterSome, Stored};
 ghost use Rattle.raft_model.specs.Lists.{In};
 ghost use Rattle.raft_model.specs.Members.{HasNoneTwice};
-ghost use Rattle.cluster_agreement.specs.Allocatees.{HasAllocatees};
-ghost use Rattle.cluster_agreement.specs.Headline.{HasHeadline};
-ghost use Rattle.cluster_agreement.specs.Safe.{AreSafe};
+ghost use Rattle.bus_agreement.specs.Allocatees.{HasAllocatees};
+ghost use Rattle.bus_agreement.specs.Headline.{HasHeadline};
+ghost use Rattle.bus_agreement.specs.Safe.{AreSafe};
 ghost use Rattle.alloc_spec.specs.Rules.{Rules, rules_by, tells};
-ghost use Rattle.cluster_spec.specs.Cluster.{AreMembers, Cluster, after_rows, cluster, rules_of};
-ghost use Rattle.cluster_spec.specs.Lawful.{DoNoHarm};
+ghost use Rattle.bus_spec.specs.Cluster.{AreMembers, Cluster, after_rows, cluster, rules_of};
+ghost use Rattle.bus_spec.specs.Lawful.{DoNoHarm};
 ghost use Rattle.cmd_node.specs.CutRun.{IsCutAtOpening, IsCutAtTurn, KeepsOrOpens};
 ghost use Rattle.cmd_node.specs.Opening.{RunInput};
 ghost use Rattle.cmd_node.specs.Puts.{turn_puts};
@@ -27,8 +27,8 @@ ghost use Rattle.cmd_node_laws.specs.Stands.{IsCutAsInWorld, IsCutOpeningAsInWor
 ghost use Rattle.cmd_node_laws.specs.Stands.{LeavesAsInWorld, MayBeKilled, world_after};
 
 use alloc_ghost_erasure::laws::marks_change_marks_alone;
-use cluster_agreement::allocatees::the_allocatees;
-use cluster_agreement::headline::{rows_are_safe, the_headline};
+use bus_agreement::allocatees::the_allocatees;
+use bus_agreement::headline::{rows_are_safe, the_headline};
 use disk_model::Disk;
 use outside::Link;
 use raft_core::laws::an_opening_keeps_the_store;

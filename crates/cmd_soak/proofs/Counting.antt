@@ -1,8 +1,8 @@
 -- What a soak came to, and what is written of it.
 use Rattle.std.proofs.Common.{◌≡◌, ◌≤◌, ◌+◌, ℕ, suc, Bool, true, false, List, [], ◌++◌, length, append-nil, refl, ap, subst, ◌∙◌, arith, Option, Some, None}
 use Rattle.std.specs.Io.KnownBytes.{Appends, append_known}
-use Rattle.cluster_spec.specs.Cluster.{Cluster}
-use Rattle.cluster_spec.specs.Report.{entry_of}
+use Rattle.bus_spec.specs.Cluster.{Cluster}
+use Rattle.bus_spec.specs.Report.{entry_of}
 use Rattle.cmd_soak.specs.Counts.{counts_of, is_pair, lines_of, pairs, pairs_to, soak_report}
 use Rattle.cmd_soak.specs.Rounds.{Soak, for_each, has_round, one_if, seeded, soaked}
 use Rattle.cmd_soak.specs.declared.counts.Counts.{Counts}

@@ -17,10 +17,10 @@ use Rattle.alloc_spec.specs.StepState.{StepState}
 use Rattle.alloc_spec.specs.Step.{Event, step}
 use Rattle.alloc_spec.specs.AllocatorState.{AllocatorState}
 use Rattle.alloc_spec.specs.Rules.{Rules, opening_by}
-use Rattle.cluster_spec.specs.Cluster.{Cluster, after_rows, cluster, is_member, after_row, receipt_of, tick_of, world_of}
-use Rattle.cluster_spec.specs.Members.{MemberStatus, Member, after_sending, with_stop_armed, after_crash, after_cut_off, is_running, after_opening, puts_of, member_after_step, stopped_with, after_failed_opening, after_writing}
-use Rattle.cluster_spec.specs.Members.MemberStatus.{Down, Up, Failed}
-use Rattle.cluster_spec.specs.Report.{running_view, view_at}
+use Rattle.bus_spec.specs.Cluster.{Cluster, after_rows, cluster, is_member, after_row, receipt_of, tick_of, world_of}
+use Rattle.bus_spec.specs.Members.{MemberStatus, Member, after_sending, with_stop_armed, after_crash, after_cut_off, is_running, after_opening, puts_of, member_after_step, stopped_with, after_failed_opening, after_writing}
+use Rattle.bus_spec.specs.Members.MemberStatus.{Down, Up, Failed}
+use Rattle.bus_spec.specs.Report.{running_view, view_at}
 use Rattle.cmd_soak.specs.Leading.{HasNoFault, is_fault}
 
 -- ---- tests

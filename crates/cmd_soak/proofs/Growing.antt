@@ -5,10 +5,10 @@ use Rattle.std.specs.Prelude.{◌==◌, ◌%◌, ◌/◌, if◌then◌else◌}
 use Rattle.replay_text.specs.declared.row.Row.{Row}
 use Rattle.replay_text.specs.declared.row.Row.TheVariants.{Open, Tick, Rx, Send, Ext, Crash, Fault, AOpen, ATick, ARx, ASend, AEnd}
 use Rattle.transfer_tx.specs.Queue.{Queued}
-use Rattle.cluster_spec.specs.Allocatees.{next_from}
-use Rattle.cluster_spec.specs.Cluster.{Cluster, in_list, after_row}
-use Rattle.cluster_spec.specs.Members.{next_frame}
-use Rattle.cluster_spec.specs.Report.{line_of_row}
+use Rattle.bus_spec.specs.Allocatees.{next_from}
+use Rattle.bus_spec.specs.Cluster.{Cluster, in_list, after_row}
+use Rattle.bus_spec.specs.Members.{next_frame}
+use Rattle.bus_spec.specs.Report.{line_of_row}
 use Rattle.replay_text.specs.ReportLine.{is_stop}
 use Rattle.cmd_soak.specs.Growth.{Fits, Grows, growth}
 use Rattle.cmd_soak.specs.Requests.{request}

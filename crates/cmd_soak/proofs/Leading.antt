@@ -3,9 +3,9 @@ use Rattle.std.proofs.Common.{◌≡◌, ◌+◌, ℕ, zero, suc, Bool, true, fa
 use Rattle.std.specs.Prelude.{◌==◌, ◌%◌, ◌/◌, ◌-◌, length, is_some, if◌then◌else◌}
 use Rattle.replay_text.specs.declared.row.Row.{Row}
 use Rattle.replay_text.specs.declared.row.Row.TheVariants.{Open, Tick, Rx, Send, Ext}
-use Rattle.cluster_spec.specs.declared.unlawful.Unlawful.{Unlawful}
-use Rattle.cluster_spec.specs.Cluster.{Cluster, after_rows, cluster, after_row}
-use Rattle.cluster_spec.specs.Lawful.{AreLawful, cause}
+use Rattle.bus_spec.specs.declared.unlawful.Unlawful.{Unlawful}
+use Rattle.bus_spec.specs.Cluster.{Cluster, after_rows, cluster, after_row}
+use Rattle.bus_spec.specs.Lawful.{AreLawful, cause}
 use Rattle.cmd_soak.specs.Leading.{HasNoFault, IsLed, is_fault}
 use Rattle.cmd_soak.specs.Requests.{request}
 use Rattle.cmd_soak.specs.Rounds.{Soak, arms, arms_by_chance, asks_in_time, begins, draws, drawn, each, for_each, gives, has_round, has_turn, hears, hears_all, is_refused, members, opens, repeats, seeded, sends, sends_some, shows, soaked, stop, takes, ticks, word}

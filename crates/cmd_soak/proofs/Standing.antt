@@ -5,11 +5,11 @@ use Rattle.std.specs.Prelude.{◌==◌, ◌%◌, ◌/◌, if◌then◌else◌}
 use Rattle.bus_world.specs.World.{StandsFor as IsWorld, frame_room}
 use Rattle.bus_world.specs.declared.world.World.{World}
 use Rattle.outside.specs.declared.pattern.Pattern.TheVariants.{Bytes}
-use Rattle.cmd_base.specs.Draws.{next_state, word_at}
+use Rattle.cmd_io.specs.Draws.{next_state, word_at}
 use Rattle.replay_text.specs.declared.row.Row.{Row}
 use Rattle.replay_text.specs.declared.row.Row.TheVariants.{Open, Tick, Rx, Send, Ext, Crash}
-use Rattle.cluster_spec.specs.Cluster.{cluster, after_row}
-use Rattle.cluster_spec.specs.Report.{line_of_row}
+use Rattle.bus_spec.specs.Cluster.{cluster, after_row}
+use Rattle.bus_spec.specs.Report.{line_of_row}
 use Rattle.replay_text.specs.ReportLine.{is_stop}
 use Rattle.cmd_soak.specs.Growth.{Fits, Grows, growth, room_for}
 use Rattle.cmd_soak.specs.Requests.{request}

@@ -2,8 +2,8 @@
 use Rattle.std.specs.Prelude.{⊤, ◌≡◌, ℕ, Bool, true, false, List, [], ◌∷◌}
 use Rattle.replay_text.specs.declared.row.Row.{Row}
 use Rattle.replay_text.specs.declared.row.Row.TheVariants.{Open, Tick, Rx, Send, Ext, Crash, Fault, AOpen, ATick, ARx, ASend, AEnd}
-use Rattle.cluster_spec.specs.Cluster.{cluster, world_of}
-use Rattle.cluster_spec.specs.Lawful.{AreLawful}
+use Rattle.bus_spec.specs.Cluster.{cluster, world_of}
+use Rattle.bus_spec.specs.Lawful.{AreLawful}
 use Rattle.cmd_soak.specs.Rounds.{Soak}
 
 -- none of the rows lets a call of a disk fail

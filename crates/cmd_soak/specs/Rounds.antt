@@ -1,12 +1,12 @@
 -- The rounds of a soak: the rows that a seed makes, and what they leave. A row that is refused changes nothing.
 use Rattle.std.specs.Prelude.{ℕ, zero, suc, ◌+◌, ◌-◌, ◌*◌, ◌/◌, ◌%◌, ◌==◌, Bool, List, [], ◌∷◌, ◌++◌, length, take, is_some, if◌then◌else◌}
 use Rattle.outside.specs.declared.pattern.Pattern.TheVariants.{Bytes}
-use Rattle.cmd_base.specs.Draws.{next_state, word_at}
+use Rattle.cmd_io.specs.Draws.{next_state, word_at}
 use Rattle.replay_text.specs.declared.row.Row.{Row}
 use Rattle.replay_text.specs.declared.row.Row.TheVariants.{Open, Tick, Rx, Send, Ext, Crash}
-use Rattle.cluster_spec.specs.Cluster.{Cluster, cluster, after_row}
-use Rattle.cluster_spec.specs.Lawful.{cause}
-use Rattle.cluster_spec.specs.Report.{line_of_row, view_at}
+use Rattle.bus_spec.specs.Cluster.{Cluster, cluster, after_row}
+use Rattle.bus_spec.specs.Lawful.{cause}
+use Rattle.bus_spec.specs.Report.{line_of_row, view_at}
 use Rattle.replay_text.specs.ReportLine.{is_stop}
 use Rattle.cmd_soak.specs.Requests.{request}
 use Rattle.cmd_soak.specs.declared.turn.Turn.{Turn}

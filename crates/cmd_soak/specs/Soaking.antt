@@ -1,7 +1,7 @@
 -- What the code of a soak stands for.
 use Rattle.std.specs.Prelude.{◌≡◌, ◌<◌, ◌^◌, ℕ, Bool, true, false, Option}
 use Rattle.std.specs.Borrow.{RattleType}
-use Rattle.cluster_spec.specs.Receivers.{AllocateeReceives, MemberReceives}
+use Rattle.bus_spec.specs.Receivers.{AllocateeReceives, MemberReceives}
 use Rattle.bus_world.specs.World.{StandsFor as IsWorld, accepts, allocatees_accept, frame_room}
 use Rattle.bus_world.specs.declared.world.World.{World}
 use Rattle.can_frame.specs.declared.identifier.Kind.{Kind}

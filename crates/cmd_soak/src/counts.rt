@@ -1,9 +1,9 @@
 ghost use Rattle.std.specs.Prelude.{◌≡◌, ◌≤◌, [], length, OnOk};
 ghost use Rattle.outside.specs.Faults.{HasCause};
-ghost use Rattle.cmd_base.specs.Output.{WritesLast};
+ghost use Rattle.cmd_io.specs.Output.{WritesLast};
 ghost use Rattle.cmd_soak.specs.Counts.{lines_of};
 
-use cmd_base::Output;
+use cmd_io::Output;
 use outside::{Failed, Sink};
 use replay_text::Line;
 

@@ -1,7 +1,7 @@
 ghost use Rattle.std.specs.Prelude.{◌≡◌};
 ghost use Rattle.bus_world.specs.World.{StandsFor};
-ghost use Rattle.cluster_spec.specs.Cluster.{Cluster};
-ghost use Rattle.cluster_spec.specs.Report.{entry_of};
+ghost use Rattle.bus_spec.specs.Cluster.{Cluster};
+ghost use Rattle.bus_spec.specs.Report.{entry_of};
 ghost use Rattle.cmd_soak.specs.Counts.{commit_at, furthest, is_pair, pairs};
 
 use bus_world::World;

@@ -2,7 +2,7 @@ ghost use Rattle.std.specs.Prelude.{◌≡◌, ◌≤◌, ◌<◌, ◌*◌, ◌^
 ghost use Rattle.std.specs.Io.KnownBytes.{Appends};
 ghost use Rattle.can_frame.specs.Sizes.{most_members};
 ghost use Rattle.outside.specs.Faults.{Rose};
-ghost use Rattle.cmd_base.specs.Output.{WritesFront};
+ghost use Rattle.cmd_io.specs.Output.{WritesFront};
 ghost use Rattle.allocatee.specs.Accepted as device;
 ghost use Rattle.alloc_spec.specs.Accepted as accepted;
 ghost use Rattle.transfer_rx.specs.Acceptance.{first_signature};
@@ -14,7 +14,7 @@ use alloc_server::accept_rows;
 use allocatee::allocatee_rows;
 use bus_world::World;
 use can_frame::Kind;
-use cmd_base::Status;
+use cmd_io::Status;
 use outside::{Failed, Sink};
 use std::alloc::Global;
 

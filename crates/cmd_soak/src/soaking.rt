@@ -13,7 +13,7 @@ use crate::requests::request;
 use crate::turn::Turn;
 use bus_world::World;
 use can_frame::Kind;
-use cmd_base::Draws;
+use cmd_io::Draws;
 use replay_text::{Row, Told};
 
 /// A cluster, and what came of the rows that it was given.

@@ -1,7 +1,7 @@
 -- What a page is told of a run over bytes in memory.
 use Rattle.std.specs.Prelude.{◌≡◌, ◌≤◌, ℕ, List, Option, length, take}
-use Rattle.cmd_base.specs.Codes.{status_code}
-use Rattle.cmd_base.specs.declared.status.Status.{Status}
+use Rattle.cmd_io.specs.Codes.{status_code}
+use Rattle.cmd_io.specs.declared.status.Status.{Status}
 
 -- the run came to a status with this code and wrote a whole report of this length, which stands in the room where it
 -- fits; it left some of the input and counted some faults, and `Says` says the rest of it

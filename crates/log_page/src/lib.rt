@@ -7,18 +7,18 @@
 
 ghost use Rattle.std.specs.Prelude.{◌≡◌, ◌≤◌, ◌<◌, [], Some, length, take};
 ghost use Rattle.can_frame.specs.Sizes.{longest_payload, most_members};
-ghost use Rattle.cmd_base.specs.Codes.{status_code};
-ghost use Rattle.cmd_bus_logs.specs.Converted.{Converts};
-ghost use Rattle.cmd_bus_logs.specs.Watched.{Watches};
+ghost use Rattle.cmd_io.specs.Codes.{status_code};
+ghost use Rattle.cmd_logs.specs.Converted.{Converts};
+ghost use Rattle.cmd_logs.specs.Watched.{Watches};
 ghost use Rattle.cmd_decode.specs.Ends.{Decodes};
 ghost use Rattle.log_page.specs.Came.{Came};
 ghost use Rattle.log_page.specs.Forms.{form_of};
 
 use can_frame::sizes::{LONGEST_PAYLOAD, MOST_MEMBERS};
 use can_logs::Form;
-use cmd_base::Status;
-use cmd_bus_logs::{convert, watch};
 use cmd_decode::decode;
+use cmd_io::Status;
+use cmd_logs::{convert, watch};
 use outside::MemorySource;
 use page_sink::ArraySink;
 

@@ -1,6 +1,6 @@
 //! A clock that sleeps while nothing comes.
 
-use node_clock_and_links::PacedClock;
+use host_pace::PacedClock;
 use outside::{Clock, MemoryClock, StdClock};
 use std::cell::Cell;
 

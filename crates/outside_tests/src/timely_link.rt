@@ -1,7 +1,7 @@
 //! A link that lets no old frame pass.
 
 use crate::frame::FRAME;
-use node_clock_and_links::TimelyLink;
+use host_pace::TimelyLink;
 use outside::{Failed, Link, MemoryClock, MemoryLink, RawFrame, Received};
 use std::cell::Cell;
 

@@ -6,8 +6,8 @@ use Rattle.std.proofs.lemmas.Bool.Decides.{eqb_tells}
 use Rattle.std.proofs.lemmas.List.{get_or-set_other, get_or-set_same, get_or_append_left, length-append, length-set}
 use Rattle.disk_model.specs.declared.disk.Disk.{Ghosts}
 use Rattle.outside.specs.Faults.{Rose}
-use Rattle.cmd_base.specs.declared.status.Status.{Status}
-use Rattle.cmd_base.specs.declared.status.Status.TheVariants.{DiskFault}
+use Rattle.cmd_io.specs.declared.status.Status.{Status}
+use Rattle.cmd_io.specs.declared.status.Status.TheVariants.{DiskFault}
 use Rattle.raft_log.specs.declared.stored.Stored.{Stored}
 use Rattle.raft_log.specs.Reading.{IsReadable}
 use Rattle.store_audit.specs.Audits.{CountsOne, AuditEndsAtDisk, AuditEndsAtDamage, NamesLast}

@@ -2,9 +2,9 @@
 use Rattle.std.proofs.Common.{◌≡◌, inl, inr, ℕ, ◌<◌, ◌≤◌, List, [], length, refl, subst, append-nil}
 use Rattle.std.specs.Prelude.{Option, None, Some, slice_index}
 use Rattle.std.specs.Io.KnownBytes.{Appends, append_known}
-use Rattle.cmd_base.specs.Output.{WritesFront}
-use Rattle.cmd_base.specs.declared.status.Status.{Status}
-use Rattle.cmd_base.specs.declared.status.Status.TheVariants.{Differ, DiskFault, Done, WriteFault}
+use Rattle.cmd_io.specs.Output.{WritesFront}
+use Rattle.cmd_io.specs.declared.status.Status.{Status}
+use Rattle.cmd_io.specs.declared.status.Status.TheVariants.{Differ, DiskFault, Done, WriteFault}
 use Rattle.raft_log.specs.declared.stored.Stored.{Stored}
 use Rattle.store_audit.specs.Audits.{Comes, Compares, Ends, HasAgreement, IsWritten, Reads}
 use Rattle.disk_model.specs.declared.disk.Disk.{Ghosts}

@@ -7,8 +7,8 @@ use Rattle.std.proofs.lemmas.List.{ext_get_or, get_or-take, length-take, length-
 use Rattle.can_frame.specs.declared.entry.Entry.{Entry}
 use Rattle.can_frame.specs.Log.{IsPrefix, blank, entry_at}
 use Rattle.disk_model.specs.declared.disk.Disk.{Ghosts}
-use Rattle.cmd_base.specs.declared.status.Status.{Status}
-use Rattle.cmd_base.specs.declared.status.Status.TheVariants.{Damaged, Differ, DiskFault, Done, WriteFault}
+use Rattle.cmd_io.specs.declared.status.Status.{Status}
+use Rattle.cmd_io.specs.declared.status.Status.TheVariants.{Damaged, Differ, DiskFault, Done, WriteFault}
 use Rattle.raft_log.specs.declared.stored.Stored.{Stored}
 use Rattle.raft_log.specs.Reading.{IsReadFrom}
 use Rattle.raft_log.specs.Rules.{IsDamagedAt}

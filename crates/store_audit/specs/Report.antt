@@ -4,8 +4,8 @@ use Rattle.hex.specs.Hex.{encode_lower}
 use Rattle.can_frame.specs.declared.entry.Entry.{Entry}
 use Rattle.can_frame.specs.Log.{IsPrefix, entry_at}
 use Rattle.raft_log.specs.declared.stored.Stored.{Stored}
-use Rattle.cmd_base.specs.declared.status.Status.{Status}
-use Rattle.cmd_base.specs.declared.status.Status.TheVariants.{Damaged, Differ, DiskFault}
+use Rattle.cmd_io.specs.declared.status.Status.{Status}
+use Rattle.cmd_io.specs.declared.status.Status.TheVariants.{Damaged, Differ, DiskFault}
 use Rattle.store_audit.specs.Stores.{committed, store_at}
 
 -- the list on which stores agree: what each has committed is a beginning of it, and one has committed it

@@ -2,7 +2,7 @@
 
 ghost use Rattle.std.specs.Prelude.{◌≡◌, ◌⊎◌, ℕ, List, Option};
 ghost use Rattle.std.specs.Io.KnownBytes.{Appends};
-ghost use Rattle.cmd_base.specs.declared.status.Status.{Status};
+ghost use Rattle.cmd_io.specs.declared.status.Status.{Status};
 ghost use Rattle.store_audit.specs.Audits.{AllTell, Audits, Comes, HasFailed, IsOfStores};
 
 use disk_model::Disk;

@@ -1,13 +1,13 @@
 ghost use Rattle.std.specs.Prelude.{◌≡◌, ◌≤◌, [], length};
 ghost use Rattle.can_frame.specs.Sizes.{most_members};
-ghost use Rattle.cmd_base.specs.Counting.{CountsFaults};
-ghost use Rattle.cmd_base.specs.Output.{Grows, Writes, WritesLast};
+ghost use Rattle.cmd_io.specs.Counting.{CountsFaults};
+ghost use Rattle.cmd_io.specs.Output.{Grows, Writes, WritesLast};
 ghost use Rattle.store_audit.specs.Report.{agreed_report, line_of, lines_to};
 ghost use Rattle.store_audit.specs.Stores.{HaveMarks, committed};
 
 use crate::compare::entry_of;
 use crate::marks::place_line;
-use cmd_base::{Output, Status, number_line, numbers_line};
+use cmd_io::{Output, Status, number_line, numbers_line};
 use outside::{Failed, Sink};
 use raft_log::Stored;
 use replay_text::Line;

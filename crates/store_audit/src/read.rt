@@ -2,7 +2,7 @@ ghost use Rattle.std.specs.Prelude.{◌≡◌, ◌≤◌, ◌<◌, ℕ, length, 
 ghost use Rattle.outside.specs.Faults.{Rose};
 ghost use Rattle.raft_log.specs.Reading.{IsReadable};
 ghost use Rattle.store_audit.specs.Reads.{IsDamagedDisk, IsImageOf, IsReadOnce, IsStoreOf, StaysAs};
-ghost use Rattle.cmd_base.specs.Counting.{CountsFaults};
+ghost use Rattle.cmd_io.specs.Counting.{CountsFaults};
 
 use disk_model::{Disk, IMAGE};
 use outside::Failed;

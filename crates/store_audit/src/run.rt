@@ -12,7 +12,7 @@ use crate::read::{Refused, read_place};
 use crate::verdict::{Verdict, audit};
 use arrayvec::ArrayVec;
 use can_frame::sizes::MOST_MEMBERS;
-use cmd_base::{Output, Status};
+use cmd_io::{Output, Status};
 use disk_model::Disk;
 use outside::{Failed, Sink};
 use raft_log::Stored;

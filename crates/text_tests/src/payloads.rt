@@ -1,8 +1,8 @@
 ghost use Rattle.std.specs.Prelude.{◌≤◌, length};
 ghost use Rattle.can_frame.specs.Sizes.{longest_payload};
 
-use cmd_base::Status;
 use cmd_decode::decode;
+use cmd_io::Status;
 use outside::{MemorySink, MemorySource};
 use std::test::Fail;
 

@@ -4,13 +4,13 @@ use prog.Wp.{WpFn}
 use base.Logic.{SProp, ex, sep}
 use types.Logic.{sem}
 use contract.Monad.{fact}
-use Rattle.node_calls.specs.At.{Calls}
-use Rattle.node_calls.specs.contracts.node.Node.{the_row as R}
+use Rattle.c_calls.specs.At.{Calls}
+use Rattle.c_calls.specs.contracts.node.Node.{the_row as R}
 use Rattle.caldrouz.specs.contracts.caldrouz_call as f
 use Rattle.caldrouz.proofs.caldrouz_call.Statement.{statement}
 use Rattle.caldrouz.proofs.caldrouz_call.Code as code
-use Rattle.node_calls.specs.contracts.call as g
-use Rattle.node_calls.proofs.call.Met.{met}
+use Rattle.c_calls.specs.contracts.call as g
+use Rattle.c_calls.proofs.call.Met.{met}
 
 abbrev stayed : Stays f.ended.signature.params f.ended.kept
 stayed = (stay_dropped _ yes, (stay_dropped _ yes, (stay_dropped _ yes, (stay_dropped _ yes, (stay_dropped _ yes, tt)))))
@@ -44,7 +44,7 @@ caldrouz_call_spec 𝓤 𝓛 𝓜 𝓡 wired =
     owned ! u32 _ (uint_Makes 𝓛 w32) op _ (refl, are.1.0.1) $ fjoin ! $ move ! (1 ∷ 0 ∷ []) $ fjoin ! $
     nothing ! $ move ! (3 ∷ 0 ∷ []) $ join ! $ join ! $
     nothing ! $ move ! (1 ∷ 0 ∷ []) $ use2 𝓛 (raw (G.pre z)) (id⊢ 𝓤 _) $
-    calls_at ! (framed 𝓤 𝓛.H 𝓜 (tables 𝓤 𝓛.H 𝓜 𝓡 𝓡.env)) G (met 𝓤 𝓛 𝓜 𝓡 (code.calls-node_calls::call 𝓡.env wired)) z
+    calls_at ! (framed 𝓤 𝓛.H 𝓜 (tables 𝓤 𝓛.H 𝓜 𝓡 𝓡.env)) G (met 𝓤 𝓛 𝓜 𝓡 (code.calls-c_calls::call 𝓡.env wired)) z
     (and_then ! (get ! refl) (and_then ! (get ! refl) (and_then ! (get ! refl) (and_then ! (get ! refl) (and_then ! (get ! refl) (no_more !)))))) (λ v.
     use1 𝓛 (later (some (λ (u : ℕ). ((‵ (flft κ full_share) ⊛ ‵ ftrue) ⊛ ‵ (u64.own_val u (v ∷ []))) ⊛
     some (λ (ws : R.Denot × (Unit {0} × (Unit {0} × (Unit {0} × (Unit {0} × Unit {0}))))). ‵ (lasts g.ended z.0.0 z.0.3 ws) ⊛ raw (fact 𝓤 (Calls x ws.0 op now m n u)))))) (id⊢ 𝓤 _) $

@@ -5,14 +5,14 @@ use borrow.Table.OneValue.{part_in}
 use base.Logic.{SProp, ex, sep}
 use types.Logic.{sem}
 use contract.Monad.{fact}
-use Rattle.node_calls.specs.At.{IsNew}
-use Rattle.node_calls.specs.contracts.node.Node.{the_row as R}
-use Rattle.node_calls.proofs.node.Node.TheLaws.{the_row_laws}
+use Rattle.c_calls.specs.At.{IsNew}
+use Rattle.c_calls.specs.contracts.node.Node.{the_row as R}
+use Rattle.c_calls.proofs.node.Node.TheLaws.{the_row_laws}
 use Rattle.caldrouz.specs.contracts.caldrouz_make as f
 use Rattle.caldrouz.proofs.caldrouz_make.Statement.{statement}
 use Rattle.caldrouz.proofs.caldrouz_make.Code as code
-use Rattle.node_calls.specs.contracts.node.Node.closed as g
-use Rattle.node_calls.proofs.node.Node.closed.Met.{met}
+use Rattle.c_calls.specs.contracts.node.Node.closed as g
+use Rattle.c_calls.proofs.node.Node.closed.Met.{met}
 
 abbrev stayed : Stays f.ended.signature.params f.ended.kept
 stayed = (stay_dropped _ yes, (stay_dropped _ yes, (stay_dropped _ yes, (stay_dropped _ yes, tt))))
@@ -38,7 +38,7 @@ caldrouz_make_spec 𝓤 𝓛 𝓜 𝓡 wired =
     owned ! u32 _ (uint_Makes 𝓛 w32) size _ (refl, are.1.1.0.1) $ fjoin ! $
     owned ! u32 _ (uint_Makes 𝓛 w32) id _ (refl, are.1.0.1) $ fjoin ! $
     nothing ! $ join ! $ nothing ! $ move ! (1 ∷ 0 ∷ []) $ use2 𝓛 (raw (G.pre z)) (id⊢ 𝓤 _) $
-    calls_at ! (framed 𝓤 𝓛.H 𝓜 (tables 𝓤 𝓛.H 𝓜 𝓡 𝓡.env)) G (met 𝓤 𝓛 𝓜 𝓡 (code.calls-node_calls::Node::closed 𝓡.env wired)) z
+    calls_at ! (framed 𝓤 𝓛.H 𝓜 (tables 𝓤 𝓛.H 𝓜 𝓡 𝓡.env)) G (met 𝓤 𝓛 𝓜 𝓡 (code.calls-c_calls::Node::closed 𝓡.env wired)) z
     (and_then ! (get ! refl) (and_then ! (get ! refl) (and_then ! (get ! refl) (no_more !)))) (λ v.
     use1 𝓛 (later (some (λ (u : R.Denot). (‵ ftrue ⊛ ‵ (R.own_val u (v ∷ []))) ⊛ some (λ (ws : Unit {0} × (Unit {0} × (Unit {0} × Unit {0}))). ‵ (lasts g.ended z.0.0 z.0.3 ws) ⊛ raw (fact 𝓤 (IsNew u id size)))))) (id⊢ 𝓤 _) $
     await ! tt $ pick ! (λ u. split ! $ split ! $

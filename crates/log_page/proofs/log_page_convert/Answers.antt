@@ -1,6 +1,6 @@
 use Rattle.std.proofs.Common.{◌∙◌, ◌≤◌, sym, subst, ap, [], Some, length, ℕ, List}
 use Rattle.can_logs.specs.declared.form.Form.{Form}
-use Rattle.cmd_bus_logs.specs.Converted.{Converts}
+use Rattle.cmd_logs.specs.Converted.{Converts}
 use Rattle.log_page.specs.Forms.{form_of}
 use Rattle.outside.specs.Contents.{MemoryInput}
 use Rattle.log_page.proofs.log_page_convert.Goals as goal

@@ -1,6 +1,6 @@
 use Rattle.std.proofs.Common.{◌∙◌, ◌≤◌, sym, subst, ap, [], Some, length, ℕ, List}
 use Rattle.can_logs.specs.declared.form.Form.{Form}
-use Rattle.cmd_bus_logs.specs.Watched.{Watches}
+use Rattle.cmd_logs.specs.Watched.{Watches}
 use Rattle.outside.specs.Contents.{MemoryInput}
 use Rattle.log_page.proofs.log_page_watch.Goals as goal
 

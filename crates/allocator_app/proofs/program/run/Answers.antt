@@ -1,5 +1,5 @@
 use Rattle.std.proofs.Common.{inl, inr, refl}
-use Rattle.cluster_spec.specs.Cluster.{cluster}
+use Rattle.bus_spec.specs.Cluster.{cluster}
 use Rattle.allocator_app.specs.Promise.{KeepsPromise}
 use Rattle.allocator_app.specs.Told.{told_rules}
 use Rattle.allocator_app.specs.declared.plans.Plan.TheVariants.{Replay}

@@ -3,7 +3,7 @@ use Rattle.std.proofs.lemmas.Bool.{true≢false}
 use Rattle.std.proofs.KnownBytes.{Appends-nil}
 use Rattle.replay_text.specs.Lines.{after_line}
 use Rattle.allocator_app.proofs.Reading.{ended_taken, ended_unended, flush_in_part, nearer, read_in_part, read_on, read_stopped, rows_in_part, some_length, start, took_all, waited_on}
-use Rattle.cmd_base.proofs.Written.{grows-appended, grows-front, grows-refl, grows-trans}
+use Rattle.cmd_io.proofs.Written.{grows-appended, grows-front, grows-refl, grows-trans}
 use Rattle.allocator_app.proofs.replay.read_rows.Goals as goal
 
 pub reading-init : goal.reading-init

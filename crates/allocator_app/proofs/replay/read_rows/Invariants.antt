@@ -2,7 +2,7 @@ use Rattle.std.proofs.Common.{◌≡◌, ◌≤◌, ◌<◌, ◌+◌, ◌-◌, �
 use Rattle.bus_world.specs.World.{AcceptsAs, rows_taken}
 use Rattle.replay_text.specs.Lines.{after_line}
 use Rattle.allocator_app.specs.InPart.{HasRead}
-use Rattle.cmd_base.specs.Output.{Grows}
+use Rattle.cmd_io.specs.Output.{Grows}
 use Rattle.allocator_app.specs.Reaching.{HasRoom, Reaches}
 use Rattle.allocator_app.proofs.replay.read_rows.Given as goal
 

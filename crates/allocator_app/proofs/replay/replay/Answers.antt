@@ -1,6 +1,6 @@
 use Rattle.std.proofs.Common.{sym, ap, ◌∙◌, subst, arith}
 use Rattle.std.proofs.KnownBytes.{Appends-trans}
-use Rattle.cluster_spec.specs.Cluster.{cluster}
+use Rattle.bus_spec.specs.Cluster.{cluster}
 use Rattle.allocator_app.specs.Report.{IsOfSchedule}
 use Rattle.allocator_app.specs.Rows.{Ends, last_of, status_of}
 use Rattle.allocator_app.proofs.Reading.{end_in_part, ends_told, is_begun, is_no_fault, told_of}

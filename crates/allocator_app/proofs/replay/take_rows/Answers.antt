@@ -2,10 +2,10 @@ use Rattle.std.proofs.Common.{◌+◌, ◌++◌, sym, ap, ◌∙◌, refl, arith
 use Rattle.std.proofs.KnownBytes.{Appends-nil, Appends-trans}
 use Rattle.std.proofs.lemmas.Bool.{true≢false}
 use Rattle.std.proofs.lemmas.Bool.Decides.{nat_tests}
-use Rattle.cluster_spec.specs.Cluster.{after_row}
+use Rattle.bus_spec.specs.Cluster.{after_row}
 use Rattle.allocator_app.proofs.Coming.{bad-row, beyond, goes-more, goes-nil, refused-row}
 use Rattle.allocator_app.proofs.Rest.{found-as, read_below, read_usable, rows_taken}
-use Rattle.cmd_base.proofs.Written.{front-on, grows-refl, grows-trans, on_err}
+use Rattle.cmd_io.proofs.Written.{front-on, grows-refl, grows-trans, on_err}
 use Rattle.allocator_app.proofs.replay.take_rows.Goals as goal
 
 pub row-requires-clause-filled : goal.row-requires-clause-filled

@@ -1,6 +1,6 @@
 use Rattle.std.proofs.Common.{◌≡◌, ◌≤◌, ◌<◌, ◌⊎◌, length}
 use Rattle.bus_world.specs.World.{AcceptsAs, rows_taken}
-use Rattle.cmd_base.specs.Output.{Grows}
+use Rattle.cmd_io.specs.Output.{Grows}
 use Rattle.allocator_app.specs.Reaching.{HasRoom, Reaches}
 use Rattle.allocator_app.proofs.Rest.{TakesSome}
 use Rattle.allocator_app.proofs.replay.take_rows.Given as goal

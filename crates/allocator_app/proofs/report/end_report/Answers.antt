@@ -1,7 +1,7 @@
 use Rattle.std.proofs.Common.{◌++◌, ◌∙◌, ap, subst, append_assoc}
-use Rattle.cmd_base.specs.Output.{WritesFront}
+use Rattle.cmd_io.specs.Output.{WritesFront}
 use Rattle.allocator_app.specs.Rows.{last_line_of, last_of, logs_before}
-use Rattle.cmd_base.proofs.Written.{front-of_more, front-on, last-failed}
+use Rattle.cmd_io.proofs.Written.{front-of_more, front-on, last-failed}
 use Rattle.allocator_app.proofs.report.end_report.Goals as goal
 
 pub returns-in_err-write_logs_before-clause-told : goal.returns-in_err-write_logs_before-clause-told

@@ -2,10 +2,10 @@ use Rattle.std.proofs.Common.{◌≡◌, ◌≤◌, ◌-◌, List, length, take}
 use Rattle.std.specs.Io.KnownBytes.{Appends, append_known}
 use Rattle.can_frame.specs.declared.entry.Entry.{Entry}
 use Rattle.bus_world.specs.World.{StandsFor}
-use Rattle.cluster_spec.specs.Cluster.{Cluster}
-use Rattle.cluster_spec.specs.Report.{entry_lines}
+use Rattle.bus_spec.specs.Cluster.{Cluster}
+use Rattle.bus_spec.specs.Report.{entry_lines}
 use Rattle.allocator_app.specs.Logs.{HasLog}
-use Rattle.cmd_base.specs.Output.{Grows}
+use Rattle.cmd_io.specs.Output.{Grows}
 use Rattle.allocator_app.proofs.report.write_entries.Given as goal
 
 -- the lines of the entries so far were written or wait to be

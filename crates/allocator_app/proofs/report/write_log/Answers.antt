@@ -1,8 +1,8 @@
 use Rattle.std.proofs.Common.{◌++◌, ◌∙◌, sym, ap, subst, take, append_assoc}
-use Rattle.cluster_spec.specs.Report.{entry_lines, member_lines}
-use Rattle.cmd_base.specs.Output.{Writes, WritesFront}
+use Rattle.bus_spec.specs.Report.{entry_lines, member_lines}
+use Rattle.cmd_io.specs.Output.{Writes, WritesFront}
 use Rattle.allocator_app.proofs.Logs.{shows_log}
-use Rattle.cmd_base.proofs.Written.{front-of_more, grows-trans, writes-failed, writes-then}
+use Rattle.cmd_io.proofs.Written.{front-of_more, grows-trans, writes-failed, writes-then}
 use Rattle.allocator_app.proofs.report.write_log.Goals as goal
 
 pub returns-in_err-line-clause-told : goal.returns-in_err-line-clause-told

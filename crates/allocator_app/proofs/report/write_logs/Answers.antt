@@ -2,10 +2,10 @@ use Rattle.std.proofs.Common.{◌-◌, ◌++◌, ◌∙◌, subst, arith}
 use Rattle.std.specs.Io.KnownBytes.{Appends, append_known}
 use Rattle.std.proofs.KnownBytes.{Appends-trans}
 use Rattle.std.proofs.lemmas.Bool.Decides.{nat_tests}
-use Rattle.cluster_spec.specs.Report.{all_logs, log_lines, member_lines}
-use Rattle.cmd_base.specs.Output.{WritesFront}
+use Rattle.bus_spec.specs.Report.{all_logs, log_lines, member_lines}
+use Rattle.cmd_io.specs.Output.{WritesFront}
 use Rattle.allocator_app.proofs.Entries.{all_logs-are, all_logs-front, log_lines-more}
-use Rattle.cmd_base.proofs.Written.{front-on, front-of_more, grows-trans, writes-failed, writes-so_far}
+use Rattle.cmd_io.proofs.Written.{front-on, front-of_more, grows-trans, writes-failed, writes-so_far}
 use Rattle.allocator_app.proofs.report.write_logs.Goals as goal
 
 pub ids-preserved : goal.ids-preserved

@@ -1,9 +1,9 @@
 use Rattle.std.proofs.Common.{◌≡◌, ◌≤◌, ◌-◌}
 use Rattle.std.specs.Io.KnownBytes.{Appends, append_known}
 use Rattle.bus_world.specs.World.{StandsFor}
-use Rattle.cluster_spec.specs.Cluster.{Cluster}
-use Rattle.cluster_spec.specs.Report.{log_lines}
-use Rattle.cmd_base.specs.Output.{Grows}
+use Rattle.bus_spec.specs.Cluster.{Cluster}
+use Rattle.bus_spec.specs.Report.{log_lines}
+use Rattle.cmd_io.specs.Output.{Grows}
 use Rattle.allocator_app.proofs.report.write_logs.Given as goal
 
 -- the logs of the nodes so far were written or wait to be

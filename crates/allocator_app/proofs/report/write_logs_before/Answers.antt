@@ -1,5 +1,5 @@
 use Rattle.std.proofs.Common.{sym, subst}
-use Rattle.cmd_base.specs.Output.{Writes}
+use Rattle.cmd_io.specs.Output.{Writes}
 use Rattle.allocator_app.specs.Rows.{logs_before}
 use Rattle.allocator_app.proofs.report.write_logs_before.Goals as goal
 

@@ -2,9 +2,9 @@ use Rattle.std.proofs.Common.{ℕ, List, sym, subst}
 use Rattle.std.specs.Prelude.{[], ◌∷◌, ◌++◌}
 use Rattle.raft_model.specs.Runs.{initial_world, run}
 use Rattle.allocatee.specs.Accepted as device
-use Rattle.cluster_spec.specs.Cluster.{AreMembers, cluster, frame_at, world_of}
-use Rattle.cluster_spec.specs.Refinement.{events, transfers_of_rows}
-use Rattle.cluster_agreement.proofs.Concatenations.{ids_stay}
+use Rattle.bus_spec.specs.Cluster.{AreMembers, cluster, frame_at, world_of}
+use Rattle.bus_spec.specs.Refinement.{events, transfers_of_rows}
+use Rattle.bus_agreement.proofs.Concatenations.{ids_stay}
 use Rattle.bus_physics.specs.Physics.{ComeInOrderToDevice, ComesInOrderToDevice, device_heard_by, rows_in}
 use Rattle.bus_physics.proofs.FollowingDevices.{follow_device}
 use Rattle.bus_physics.proofs.Devices.{SessionLaws, along}

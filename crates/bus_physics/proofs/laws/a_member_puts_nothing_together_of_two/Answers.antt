@@ -1,9 +1,9 @@
 use Rattle.std.proofs.Common.{ℕ, List, refl, sym, subst}
 use Rattle.std.specs.Prelude.{[], ◌∷◌, ◌++◌}
 use Rattle.raft_model.specs.Runs.{initial_world, run}
-use Rattle.cluster_spec.specs.Cluster.{AreMembers, cluster, world_of}
-use Rattle.cluster_spec.specs.Refinement.{events, transfers_of_rows}
-use Rattle.cluster_agreement.proofs.Concatenations.{ids_stay}
+use Rattle.bus_spec.specs.Cluster.{AreMembers, cluster, world_of}
+use Rattle.bus_spec.specs.Refinement.{events, transfers_of_rows}
+use Rattle.bus_agreement.proofs.Concatenations.{ids_stay}
 use Rattle.bus_physics.specs.Physics.{heard_by, rows_in}
 use Rattle.bus_physics.proofs.Following.{follow}
 use Rattle.bus_physics.proofs.Members.{MemberLaws, along}

@@ -1,6 +1,6 @@
 use Rattle.std.specs.Prelude.{[]}
-use Rattle.cluster_spec.specs.Cluster.{cluster}
-use Rattle.cluster_spec.specs.Refinement.{transfers_of_rows}
+use Rattle.bus_spec.specs.Cluster.{cluster}
+use Rattle.bus_spec.specs.Refinement.{transfers_of_rows}
 use Rattle.bus_physics.proofs.ShortAllocations.{few_frames, made_short}
 use Rattle.bus_physics.proofs.laws.an_allocation_has_at_most_three_frames.Goals as goal
 

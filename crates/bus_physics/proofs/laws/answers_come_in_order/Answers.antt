@@ -1,6 +1,6 @@
 use Rattle.raft_model.specs.Runs.{initial_world, run}
-use Rattle.cluster_spec.specs.Cluster.{cluster}
-use Rattle.cluster_spec.specs.Refinement.{events}
+use Rattle.bus_spec.specs.Cluster.{cluster}
+use Rattle.bus_spec.specs.Refinement.{events}
 use Rattle.bus_physics.proofs.TurnedAnswers.{come_in_order}
 use Rattle.bus_physics.proofs.laws.answers_come_in_order.Goals as goal
 

@@ -1,6 +1,6 @@
 use Rattle.raft_model.specs.Runs.{initial_world, run}
-use Rattle.cluster_spec.specs.Cluster.{cluster}
-use Rattle.cluster_spec.specs.Refinement.{events}
+use Rattle.bus_spec.specs.Cluster.{cluster}
+use Rattle.bus_spec.specs.Refinement.{events}
 use Rattle.bus_physics.proofs.RoundCalls.{round_late}
 use Rattle.bus_physics.proofs.laws.calls_come_round_late.Goals as goal
 

@@ -1,13 +1,13 @@
 use Rattle.std.proofs.Common.{◌<◌, arith, refl}
 use Rattle.std.specs.Prelude.{[], ◌∷◌, ◌++◌}
-use Rattle.cluster_spec.specs.Cluster.{cluster, world_of}
-use Rattle.cluster_spec.specs.Refinement.{transfers_of_rows}
+use Rattle.bus_spec.specs.Cluster.{cluster, world_of}
+use Rattle.bus_spec.specs.Refinement.{transfers_of_rows}
 use Rattle.bus_physics.specs.Physics.{heard_by, rows_in}
 use Rattle.bus_physics.proofs.Answering.{IsMadeSoon, all_soon}
 use Rattle.bus_physics.proofs.Members.{MemberLaws, along}
 use Rattle.bus_physics.proofs.Now.{now_of_a_step}
 use Rattle.can_frame.specs.declared.step.Judged.TheVariants.{Stale}
-use Rattle.cluster_spec.specs.declared.unlawful.Unlawful.TheVariants as unlawful
+use Rattle.bus_spec.specs.declared.unlawful.Unlawful.TheVariants as unlawful
 use Rattle.bus_physics.proofs.Refusals.{of_stale, refused}
 use Rattle.bus_physics.proofs.Torn.{of_its_key}
 use Rattle.bus_physics.proofs.Unstale.{not_stale}

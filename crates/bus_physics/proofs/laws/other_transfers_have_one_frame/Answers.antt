@@ -1,6 +1,6 @@
 use Rattle.std.specs.Prelude.{[]}
-use Rattle.cluster_spec.specs.Cluster.{cluster}
-use Rattle.cluster_spec.specs.Refinement.{transfers_of_rows}
+use Rattle.bus_spec.specs.Cluster.{cluster}
+use Rattle.bus_spec.specs.Refinement.{transfers_of_rows}
 use Rattle.bus_physics.proofs.ShortAllocations.{made_short, one_frame}
 use Rattle.bus_physics.proofs.laws.other_transfers_have_one_frame.Goals as goal
 

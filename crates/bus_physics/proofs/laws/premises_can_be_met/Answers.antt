@@ -16,9 +16,9 @@ use Rattle.alloc_spec.specs.Judging.{arrival_judgement}
 use Rattle.alloc_spec.specs.Step.{all_nodes, step}
 use Rattle.alloc_spec.specs.Transfers.{SentTransfer}
 use Rattle.replay_text.specs.declared.row.Row.{Row}
-use Rattle.cluster_spec.specs.Cluster.{Cluster, after_row, cluster}
-use Rattle.cluster_spec.specs.Lawful.{AreLawful}
-use Rattle.cluster_spec.specs.Refinement.{transfers_of_rows}
+use Rattle.bus_spec.specs.Cluster.{Cluster, after_row, cluster}
+use Rattle.bus_spec.specs.Lawful.{AreLawful}
+use Rattle.bus_spec.specs.Refinement.{transfers_of_rows}
 use Rattle.bus_physics.specs.Example.{at_allocatee, at_member, before, everything, limits, two}
 use Rattle.bus_physics.specs.Physics.{GoesOn, Reading, rows_in}
 use Rattle.bus_physics.specs.Schedule.{DeviceHears, LawfulButForBus}

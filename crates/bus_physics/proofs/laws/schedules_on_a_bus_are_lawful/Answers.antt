@@ -1,6 +1,6 @@
 use Rattle.std.proofs.Common.{◌<◌, arith, refl}
 use Rattle.std.specs.Prelude.{[]}
-use Rattle.cluster_spec.specs.Cluster.{cluster}
+use Rattle.bus_spec.specs.Cluster.{cluster}
 use Rattle.bus_physics.proofs.Scheduled.{DeviceLaw, StaleLaw, TornLaw, heard_in_order, scheduled}
 use Rattle.bus_physics.proofs.laws.schedules_on_a_bus_are_lawful.Goals as goal
 

@@ -1,6 +1,6 @@
 use Rattle.std.proofs.Common.{◌<◌, arith, refl, inl, inr}
 use Rattle.std.specs.Prelude.{[]}
-use Rattle.cluster_spec.specs.Cluster.{cluster}
+use Rattle.bus_spec.specs.Cluster.{cluster}
 use Rattle.bus_physics.proofs.Scheduled.{DeviceLaw, StaleLaw, TornLaw, heard_in_order}
 use Rattle.bus_physics.proofs.Traced.{traced}
 use Rattle.bus_physics.proofs.laws.traces_on_a_bus_may_happen.Goals as goal

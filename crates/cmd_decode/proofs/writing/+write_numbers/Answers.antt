@@ -1,6 +1,6 @@
 use Rattle.std.proofs.Common.{◌++◌, sym, ap, ◌∙◌, subst, append_assoc}
-use Rattle.cmd_base.specs.Output.{Writes, WritesFront}
-use Rattle.cmd_base.proofs.Written.{front-of_more, grows-trans, writes-failed, writes-then}
+use Rattle.cmd_io.specs.Output.{Writes, WritesFront}
+use Rattle.cmd_io.proofs.Written.{front-of_more, grows-trans, writes-failed, writes-then}
 use Rattle.cmd_decode.specs.Report.{number_lines}
 use Rattle.cmd_decode.proofs.Written.{lines_more}
 use Rattle.cmd_decode.proofs.writing.+write_numbers.Goals as goal

@@ -1,7 +1,7 @@
 use Rattle.std.proofs.Common.{◌++◌, length, ◌∙◌, subst}
 use Rattle.std.specs.Prelude.{OnErr}
-use Rattle.cmd_base.specs.Output.{WritesFront}
-use Rattle.cmd_base.proofs.Written.{front-of_more, last-then, on_err}
+use Rattle.cmd_io.specs.Output.{WritesFront}
+use Rattle.cmd_io.proofs.Written.{front-of_more, last-then, on_err}
 use Rattle.cmd_decode.specs.Report.{end_line, number_lines}
 use Rattle.cmd_decode.proofs.writing.write_value.Goals as goal
 

@@ -1,7 +1,7 @@
 use Rattle.std.proofs.Common.{◌≡◌, ◌⊎◌, [], sym, ◌∙◌, subst, inr}
 use Rattle.std.specs.Io.KnownBytes.{Appends, append_known}
 use Rattle.std.specs.Prelude.{IfErr, Result, ⊤}
-use Rattle.cmd_base.specs.declared.status.Status.TheVariants.{WriteFault}
+use Rattle.cmd_io.specs.declared.status.Status.TheVariants.{WriteFault}
 use Rattle.cmd_node.specs.Ends.{fault_status}
 use Rattle.cmd_node.specs.Report.{line_of}
 use Rattle.cmd_node.specs.declared.fault.Fault.{Fault}

@@ -1,6 +1,6 @@
 use Rattle.std.proofs.Common.{ℕ, List, sym, ◌∙◌, subst, inl, inr}
 use Rattle.std.specs.Io.KnownBytes.{Appends}
-use Rattle.cmd_base.specs.Output.{WritesFront}
+use Rattle.cmd_io.specs.Output.{WritesFront}
 use Rattle.alloc_spec.specs.Rules.{rules_by}
 use Rattle.cmd_node.specs.Ends.{end_status}
 use Rattle.cmd_node.specs.Nodes.{LeavesWith}

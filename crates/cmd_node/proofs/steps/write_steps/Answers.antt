@@ -1,7 +1,7 @@
 use Rattle.std.proofs.Common.{◌++◌, ◌∙◌, sym, ap, subst, append_assoc, map, drop}
 use Rattle.std.proofs.KnownBytes.{Appends-trans}
-use Rattle.cmd_base.specs.Output.{WritesFront}
-use Rattle.cmd_base.proofs.Written.{front-on, front-of_more, grows-trans, writes-failed}
+use Rattle.cmd_io.specs.Output.{WritesFront}
+use Rattle.cmd_io.proofs.Written.{front-on, front-of_more, grows-trans, writes-failed}
 use Rattle.cmd_node.specs.Kept.{kept_line}
 use Rattle.cmd_node.specs.Report.{joined}
 use Rattle.cmd_node.proofs.Kept.{next_front}

@@ -1,6 +1,6 @@
 use Rattle.std.proofs.Common.{◌≡◌, ◌++◌, ℕ, List, length, map}
 use Rattle.std.specs.Io.KnownBytes.{Appends, append_known}
-use Rattle.cmd_base.specs.Output.{Grows}
+use Rattle.cmd_io.specs.Output.{Grows}
 use Rattle.cmd_node.specs.Report.{joined}
 use Rattle.cmd_node.specs.Kept.{kept_line}
 use Rattle.cmd_node.proofs.steps.write_steps.Given as goal

@@ -1,4 +1,4 @@
-use Rattle.cluster_spec.specs.Cluster.{cluster}
+use Rattle.bus_spec.specs.Cluster.{cluster}
 use Rattle.cmd_node_laws.specs.Traces.{all_rows}
 use Rattle.cmd_node_laws.proofs.Final.{same_ids_of, stored_as}
 use Rattle.cmd_node_laws.proofs.laws.stores_are_followed.Goals as goal

@@ -1,4 +1,4 @@
-use Rattle.cluster_spec.specs.Cluster.{cluster}
+use Rattle.bus_spec.specs.Cluster.{cluster}
 use Rattle.cmd_node_laws.specs.Traces.{all_rows}
 use Rattle.cmd_node_laws.proofs.Ending.{fresh_calm, trace_fine}
 use Rattle.cmd_node_laws.proofs.laws.traces_do_no_harm.Goals as goal

@@ -1,6 +1,6 @@
 use Rattle.std.proofs.Common.{◌≡◌, ◌≤◌}
 use Rattle.bus_world.specs.World.{StandsFor}
-use Rattle.cluster_spec.specs.Cluster.{Cluster}
+use Rattle.bus_spec.specs.Cluster.{Cluster}
 use Rattle.cmd_soak.specs.Counts.{pairs_to}
 use Rattle.cmd_soak.proofs.pairs.pairs.Given as goal
 

@@ -1,6 +1,6 @@
 use Rattle.std.proofs.Common.{ap, refl, subst, sym}
 use Rattle.std.specs.Io.KnownBytes.{Appends}
-use Rattle.cmd_base.specs.Output.{WritesFront}
+use Rattle.cmd_io.specs.Output.{WritesFront}
 use Rattle.cmd_soak.specs.Counts.{lines_of}
 use Rattle.cmd_soak.specs.Growth.{Fits}
 use Rattle.cmd_soak.specs.Rounds.{for_each, has_round, seeded}

@@ -2,8 +2,8 @@ use Rattle.std.proofs.Common.{◌≡◌, ◌+◌, ◌++◌, ◌∙◌, refl, sym
 use Rattle.std.specs.Io.KnownBytes.{Appends, append_known}
 use Rattle.std.proofs.KnownBytes.{Appends-nil, Appends-trans}
 use Rattle.can_frame.specs.Log.{entry_at}
-use Rattle.cmd_base.specs.Output.{WritesFront}
-use Rattle.cmd_base.proofs.Written.{front-on, front-of_more, grows-refl, grows-trans, writes-failed}
+use Rattle.cmd_io.specs.Output.{WritesFront}
+use Rattle.cmd_io.proofs.Written.{front-on, front-of_more, grows-refl, grows-trans, writes-failed}
 use Rattle.store_audit.specs.Report.{lines_to, place_line}
 use Rattle.store_audit.specs.Stores.{committed}
 use Rattle.store_audit.proofs.Listing.{line_more, lines_front, no_lines}

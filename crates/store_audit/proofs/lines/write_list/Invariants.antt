@@ -1,6 +1,6 @@
 use Rattle.std.proofs.Common.{◌≡◌}
 use Rattle.std.specs.Io.KnownBytes.{Appends, append_known}
-use Rattle.cmd_base.specs.Output.{Grows}
+use Rattle.cmd_io.specs.Output.{Grows}
 use Rattle.store_audit.specs.Report.{lines_to}
 use Rattle.store_audit.specs.Stores.{committed}
 use Rattle.store_audit.proofs.lines.write_list.Given as goal

@@ -1,7 +1,7 @@
 use Rattle.std.proofs.Common.{◌≡◌, [], ◌++◌, ◌∙◌, length, ap, subst}
 use Rattle.std.specs.Io.KnownBytes.{Appends, append_known}
-use Rattle.cmd_base.specs.Output.{WritesFront, WritesLast}
-use Rattle.cmd_base.proofs.Written.{front-of_more, last-failed, last-then}
+use Rattle.cmd_io.specs.Output.{WritesFront, WritesLast}
+use Rattle.cmd_io.proofs.Written.{front-of_more, last-failed, last-then}
 use Rattle.store_audit.specs.Report.{last_line, lines_to}
 use Rattle.store_audit.specs.Stores.{committed}
 use Rattle.store_audit.proofs.Comparing.{committed_length}

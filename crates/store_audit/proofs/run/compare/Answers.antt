@@ -1,7 +1,7 @@
 use Rattle.std.proofs.Common.{◌≡◌, [], ap, subst, ◌∙◌}
 use Rattle.std.specs.Io.KnownBytes.{Appends, append_known}
 use Rattle.std.proofs.lemmas.List.{get_or_default}
-use Rattle.cmd_base.specs.Output.{WritesFront}
+use Rattle.cmd_io.specs.Output.{WritesFront}
 use Rattle.store_audit.specs.Report.{agreed_report}
 use Rattle.store_audit.specs.Stores.{committed, store_at}
 use Rattle.store_audit.proofs.Ending.{agreement, ends_agreed, ends_unwritten}

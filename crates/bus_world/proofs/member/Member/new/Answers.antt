@@ -7,7 +7,7 @@ use Rattle.kv_store.specs.Image.{chosen_copy}
 use Rattle.kv_store.specs.KeyDisk.{KeyDisk}
 use Rattle.raft_log.specs.KeyDisk.{IsOn}
 use Rattle.raft_log.specs.Stored.{Stored}
-use Rattle.cluster_spec.specs.Members.{fresh_disk}
+use Rattle.bus_spec.specs.Members.{fresh_disk}
 use Rattle.bus_world.proofs.member.Member.new.Goals as goal
 
 pub returns-clause-stands : goal.returns-clause-stands

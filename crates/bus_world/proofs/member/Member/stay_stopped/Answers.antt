@@ -2,7 +2,7 @@ use Rattle.std.proofs.Common.{◌≡◌, ◌∙◌, Bool, true, ap, subst, sym}
 use Rattle.std.specs.Prelude.{if◌then◌else◌}
 use Rattle.disk_model.specs.declared.calls.Calls.{Calls}
 use Rattle.kv_store.specs.KeyDisk.{restarted_on}
-use Rattle.cluster_spec.specs.Members.MemberStatus.{Down}
+use Rattle.bus_spec.specs.Members.MemberStatus.{Down}
 use Rattle.bus_world.specs.Places.{HasStatus}
 use Rattle.bus_world.proofs.member.Member.stay_stopped.Goals as goal
 

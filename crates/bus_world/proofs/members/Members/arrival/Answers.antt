@@ -1,8 +1,8 @@
 use Rattle.std.proofs.Common.{◌≤◌, ◌∙◌, List, length, ap, sym, subst}
 use Rattle.std.specs.Prelude.{Some, None}
 use Rattle.can_frame.specs.declared.step.Judged.{Judged}
-use Rattle.cluster_spec.specs.declared.unlawful.Unlawful.TheVariants.{Torn, Stale}
-use Rattle.cluster_spec.specs.Lawful.{cause_of_judgement}
+use Rattle.bus_spec.specs.declared.unlawful.Unlawful.TheVariants.{Torn, Stale}
+use Rattle.bus_spec.specs.Lawful.{cause_of_judgement}
 use Rattle.transfer_tx.specs.declared.marked.Marked.{Marked}
 use Rattle.bus_world.specs.Stands.{StandsFor}
 use Rattle.bus_world.specs.declared.member.Member.{Member}

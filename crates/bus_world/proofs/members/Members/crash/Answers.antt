@@ -1,9 +1,9 @@
 use Rattle.std.proofs.Common.{rules, ◌≡◌, ℕ, ◌∙◌, Bool, ap, sym, subst}
 use Rattle.std.specs.Prelude.{if◌then◌else◌, None, Option, slice_set}
-use Rattle.cluster_spec.specs.declared.unlawful.Unlawful.{Unlawful}
-use Rattle.cluster_spec.specs.Lawful.{no_node, not_running, or_else}
-use Rattle.cluster_spec.specs.Cluster.{is_member, with_member}
-use Rattle.cluster_spec.specs.Members.{with_stop_armed, is_running, stopped_with}
+use Rattle.bus_spec.specs.declared.unlawful.Unlawful.{Unlawful}
+use Rattle.bus_spec.specs.Lawful.{no_node, not_running, or_else}
+use Rattle.bus_spec.specs.Cluster.{is_member, with_member}
+use Rattle.bus_spec.specs.Members.{with_stop_armed, is_running, stopped_with}
 use Rattle.bus_world.specs.Members.{Holds}
 use Rattle.bus_world.specs.Stands.{StandsFor}
 use Rattle.replay_text.specs.ReportLine.{report_line_of}

@@ -1,7 +1,7 @@
 use Rattle.std.proofs.Common.{◌∙◌, Bool, ap, sym, subst}
 use Rattle.std.specs.Prelude.{None, Option, if◌then◌else◌}
 use Rattle.can_frame.specs.declared.entry.Entry.{Entry}
-use Rattle.cluster_spec.specs.Report.{running_entry}
+use Rattle.bus_spec.specs.Report.{running_entry}
 use Rattle.bus_world.specs.Stands.{StandsFor}
 use Rattle.bus_world.specs.declared.member.Member.{Member}
 use Rattle.bus_world.proofs.Finding.{is_listed, not_listed, stands_there}

@@ -4,9 +4,9 @@ use Rattle.bus_world.specs.Stands.{StandsFor}
 use Rattle.replay_text.specs.ReportLine.{report_line_of}
 use Rattle.bus_world.specs.declared.member.Member.{Member}
 use Rattle.alloc_spec.specs.Rules.{Rules}
-use Rattle.cluster_spec.specs.Cluster.{is_member, rules_of}
-use Rattle.cluster_spec.specs.Members.{is_running, after_opening}
-use Rattle.cluster_spec.specs.Report.{line_of_opening}
+use Rattle.bus_spec.specs.Cluster.{is_member, rules_of}
+use Rattle.bus_spec.specs.Members.{is_running, after_opening}
+use Rattle.bus_spec.specs.Report.{line_of_opening}
 use Rattle.bus_world.specs.Members.{ids_of}
 use Rattle.bus_world.proofs.Opening.{same_rules}
 use Rattle.bus_world.proofs.Finding.{alike_there, set_alike, set_few, set_some, its_id, set_holds, stands_there, stopped_from}

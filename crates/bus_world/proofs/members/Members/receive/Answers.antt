@@ -1,8 +1,8 @@
 use Rattle.std.proofs.Common.{◌≡◌, ℕ, ◌+◌, ◌∙◌, ap, sym, subst}
 use Rattle.alloc_spec.specs.Step.{Event}
-use Rattle.cluster_spec.specs.Cluster.{arrival_at, frame_at, is_member}
-use Rattle.cluster_spec.specs.Members.{is_running, member_after_step}
-use Rattle.cluster_spec.specs.Report.{line_of_step}
+use Rattle.bus_spec.specs.Cluster.{arrival_at, frame_at, is_member}
+use Rattle.bus_spec.specs.Members.{is_running, member_after_step}
+use Rattle.bus_spec.specs.Report.{line_of_step}
 use Rattle.bus_world.specs.Stands.{StandsFor}
 use Rattle.replay_text.specs.ReportLine.{report_line_of}
 use Rattle.bus_world.specs.declared.member.Member.{Member}

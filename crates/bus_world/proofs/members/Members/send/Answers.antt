@@ -5,10 +5,10 @@ use Rattle.can_frame.specs.declared.frame.Frame.{Frame}
 use Rattle.transfer_tx.specs.declared.marked.Marked.{Marked}
 use Rattle.transfer_tx.specs.Queue.{Queued}
 use Rattle.transfer_tx.specs.Views.{queued_of}
-use Rattle.cluster_spec.specs.Cluster.{in_list}
-use Rattle.cluster_spec.specs.Members.{after_sending, next_frame}
-use Rattle.cluster_spec.specs.Lawful.{no_node, not_running, nothing_to_send}
-use Rattle.cluster_spec.specs.Report.{line_of_sending}
+use Rattle.bus_spec.specs.Cluster.{in_list}
+use Rattle.bus_spec.specs.Members.{after_sending, next_frame}
+use Rattle.bus_spec.specs.Lawful.{no_node, not_running, nothing_to_send}
+use Rattle.bus_spec.specs.Report.{line_of_sending}
 use Rattle.bus_world.specs.Stands.{StandsFor}
 use Rattle.replay_text.specs.ReportLine.ReportLine.{HasSent}
 use Rattle.bus_world.specs.declared.member.Member.{Member}

@@ -1,7 +1,7 @@
 use Rattle.std.proofs.Common.{◌∙◌, Bool, ap, sym, subst}
 use Rattle.std.specs.Prelude.{None, Option, if◌then◌else◌}
 use Rattle.alloc_spec.specs.declared.event.View.{View}
-use Rattle.cluster_spec.specs.Report.{running_view}
+use Rattle.bus_spec.specs.Report.{running_view}
 use Rattle.bus_world.specs.Stands.{StandsFor}
 use Rattle.bus_world.specs.declared.member.Member.{Member}
 use Rattle.bus_world.proofs.Finding.{is_listed, not_listed, stands_there}

@@ -1,7 +1,7 @@
 use Rattle.std.proofs.Common.{ℕ, ◌+◌, [], subst}
 use Rattle.allocatee.specs.Allocatee.{Event}
-use Rattle.cluster_spec.specs.Allocatees.{device_after_step}
-use Rattle.cluster_spec.specs.Cluster.{receipt_at}
+use Rattle.bus_spec.specs.Allocatees.{device_after_step}
+use Rattle.bus_spec.specs.Cluster.{receipt_at}
 use Rattle.bus_world.specs.Seats.{StandsFor}
 use Rattle.bus_world.proofs.Seating.{alike_there, its_seat, set_alike, set_seat}
 use Rattle.bus_world.proofs.Within.{same_holds}

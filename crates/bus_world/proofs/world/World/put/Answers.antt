@@ -2,7 +2,7 @@ use Rattle.std.proofs.Common.{◌≡◌, ap, sym, ◌∙◌}
 use Rattle.std.specs.Prelude.{Option, Some, option_map}
 use Rattle.transfer_tx.specs.declared.marked.Marked.{Marked}
 use Rattle.transfer_tx.specs.Views.{queued_of}
-use Rattle.cluster_spec.specs.Allocatees.{after_sending_from, next_from}
+use Rattle.bus_spec.specs.Allocatees.{after_sending_from, next_from}
 use Rattle.bus_world.proofs.Seating.{alike_there, its_seat, set_alike, set_seat}
 use Rattle.bus_world.proofs.Within.{one_more_holds}
 use Rattle.bus_world.proofs.world.World.put.Goals as goal

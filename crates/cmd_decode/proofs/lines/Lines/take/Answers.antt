@@ -1,7 +1,7 @@
 use Rattle.std.proofs.Common.{◌≤◌, ◌++◌, take, length, inr, sym, ap, ◌∙◌, subst, arith}
 use Rattle.std.proofs.lemmas.Bool.{true≢false}
 use Rattle.std.proofs.lemmas.Bool.Decides.{nat_tests}
-use Rattle.cmd_base.specs.Input.{HasNoLineEnd, HasTooLongLine, IsLineEnd}
+use Rattle.cmd_io.specs.Input.{HasNoLineEnd, HasTooLongLine, IsLineEnd}
 use Rattle.dsdl_text.specs.Lines.{Reads}
 use Rattle.cmd_decode.specs.Lines.{IsBadLine}
 use Rattle.cmd_decode.specs.Taking.{TakesLine, TakesSome, text_in}

@@ -1,6 +1,6 @@
 use Rattle.std.proofs.Common.{ap, ◌∙◌, subst, inl}
 use Rattle.alloc_server.specs.Server.{LeavesSome}
-use Rattle.cmd_base.specs.Draws.{next_state, word_at}
+use Rattle.cmd_io.specs.Draws.{next_state, word_at}
 use Rattle.alloc_spec.specs.Step.{Tick}
 use Rattle.cmd_node.specs.Puts.{step_puts}
 use Rattle.cmd_node.specs.Stands.{IsTurning}

@@ -1,10 +1,10 @@
 use Rattle.std.proofs.Common.{[], ◌++◌, ◌∙◌, ap, subst, map}
 use Rattle.std.specs.Io.KnownBytes.{Appends, append_known}
-use Rattle.cmd_base.specs.Output.{WritesFront, WritesLast}
-use Rattle.cmd_base.proofs.Written.{front-of_more, last-failed, last-then}
+use Rattle.cmd_io.specs.Output.{WritesFront, WritesLast}
+use Rattle.cmd_io.proofs.Written.{front-of_more, last-failed, last-then}
 use Rattle.cmd_node.specs.Kept.{kept_line}
 use Rattle.cmd_node.specs.Report.{joined, last_lines, report}
-use Rattle.cluster_spec.specs.Report.{end_line}
+use Rattle.bus_spec.specs.Report.{end_line}
 use Rattle.cmd_node.proofs.steps.LastSteps.write.Goals as goal
 
 pub returns-in_err-write_steps-clause-told : goal.returns-in_err-write_steps-clause-told

@@ -1,5 +1,5 @@
 use Rattle.std.proofs.Common.{◌≡◌, ◌+◌, ◌%◌, subst}
-use Rattle.cmd_base.specs.Draws.{word_at}
+use Rattle.cmd_io.specs.Draws.{word_at}
 use Rattle.replay_text.specs.declared.row.Row.TheVariants.{Crash}
 use Rattle.cmd_soak.specs.Rounds.{draws, gives}
 use Rattle.cmd_soak.specs.Soaking.{StandsFor}

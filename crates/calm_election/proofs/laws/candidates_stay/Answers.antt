@@ -1,6 +1,0 @@
-use Rattle.calm_election.proofs.CandidateRows.{candidate_stays}
-use Rattle.calm_election.proofs.laws.candidates_stay.Goals as goal
-use Rattle.cluster_spec.specs.Cluster.{world_of}
-
-pub returns : goal.returns
-returns c = λ ids rows n row before after in_n harm up up_then stood. candidate_stays (world_of ids rows) n row before after harm up up_then stood

@@ -1,5 +1,0 @@
-use Rattle.calm_leader.proofs.AnswersOffered.{answers}
-use Rattle.calm_leader.proofs.laws.calls_are_answered.Goals as goal
-
-pub returns : goal.returns
-returns c = λ m x request w row delivers me what says listed. answers m x request w row delivers me what says listed

@@ -1,7 +1,0 @@
-use Rattle.calm_rounds.proofs.Returns.{calls_return_in_rounds}
-use Rattle.calm_rounds.proofs.RoundsGrounds.{step_laws}
-use Rattle.calm_rounds.proofs.laws.calls_return_in_rounds.Goals as goal
-
-pub returns : goal.returns
-returns c = let below = c.what_rounds_stand_on.ensures in λ ids rows members harmless.
-    calls_return_in_rounds ids rows (step_laws below) (record { below = below; members = members; harmless = harmless }) (below.entries ids rows members harmless) below.answers_taken

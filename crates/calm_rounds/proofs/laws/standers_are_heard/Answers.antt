@@ -1,5 +1,0 @@
-use Rattle.calm_rounds.proofs.StandingAnewHeard.{standers_are_heard}
-use Rattle.calm_rounds.proofs.laws.standers_are_heard.Goals as goal
-
-pub returns : goal.returns
-returns c = λ ids rows members harmless. standers_are_heard ids rows (c.who_stands_is_heard.ensures ids rows members harmless)

@@ -1,6 +1,0 @@
-use Rattle.calm_rounds.proofs.LeadsWins.{leads_the_group}
-use Rattle.calm_rounds.proofs.LeadsBelow.{lead_laws}
-use Rattle.calm_rounds.proofs.laws.who_wins_at_the_top.Goals as goal
-
-pub returns : goal.returns
-returns c ids rows members harmless = leads_the_group ids rows (lead_laws c.what_rounds_stand_on.ensures ids members rows harmless)

@@ -1,6 +1,0 @@
-use Rattle.cluster_agreement.proofs.Concatenations.{ids_stay}
-use Rattle.cluster_agreement.proofs.OneRowMore.{fits, grown, harmless, lawful, made_more, shown}
-use Rattle.cluster_agreement.proofs.headline.rows_grow_by_one.Goals as goal
-
-pub returns : goal.returns
-returns c = record { members = ids_stay; world = grown; lawful = lawful; harmless = harmless; events = shown; fits = fits; made = made_more }

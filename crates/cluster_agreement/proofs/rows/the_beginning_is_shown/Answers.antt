@@ -1,5 +1,0 @@
-use Rattle.cluster_agreement.proofs.StopsAndOpenings.{beginning_shown}
-use Rattle.cluster_agreement.proofs.rows.the_beginning_is_shown.Goals as goal
-
-pub returns : goal.returns
-returns c = beginning_shown

@@ -1,5 +1,0 @@
-use Rattle.cluster_progress.proofs.Devices.{begins, follows_up, holds, waits}
-use Rattle.cluster_progress.proofs.laws.a_device_goes_on.Goals as goal
-
-pub returns : goal.returns
-returns c = record { first = begins; waits = waits; follows_up = follows_up; holds = holds }

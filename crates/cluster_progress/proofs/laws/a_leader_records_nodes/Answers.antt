@@ -1,5 +1,0 @@
-use Rattle.cluster_progress.proofs.Recording.{records_nodes, records_silent_nodes}
-use Rattle.cluster_progress.proofs.laws.a_leader_records_nodes.Goals as goal
-
-pub returns : goal.returns
-returns c = record { candidates = records_nodes; silent = records_silent_nodes c.silence_is_computed.ensures.only }

@@ -1,5 +1,0 @@
-use Rattle.cluster_progress.proofs.FramesLeave.{follows_on, frames_leave}
-use Rattle.cluster_progress.proofs.laws.followers_follow_on.Goals as goal
-
-pub returns : goal.returns
-returns c = record { frames = frames_leave; steps = follows_on }

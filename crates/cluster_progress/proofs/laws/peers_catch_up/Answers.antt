@@ -1,5 +1,0 @@
-use Rattle.cluster_progress.proofs.CatchingUp.{catches_up}
-use Rattle.cluster_progress.proofs.laws.peers_catch_up.Goals as goal
-
-pub returns : goal.returns
-returns c = λ members me you number two j. catches_up members me you c.law_decisions.ensures.one_verdict number two j

@@ -1,5 +1,0 @@
-use Rattle.cluster_progress.proofs.Alone.{tells_at_once}
-use Rattle.cluster_progress.proofs.laws.who_is_alone_tells_at_once.Goals as goal
-
-pub returns : goal.returns
-returns c = tells_at_once

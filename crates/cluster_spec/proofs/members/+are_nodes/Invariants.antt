@@ -1,5 +1,0 @@
-use Rattle.std.proofs.Common.{length}
-use Rattle.cluster_spec.proofs.members.+are_nodes.Given as goal
-
-abbrev pub decreases-are_nodes : goal.decreases-are_nodes
-decreases-are_nodes l = length l.ids.now
