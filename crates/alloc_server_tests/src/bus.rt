@@ -6,7 +6,8 @@ ghost use Rattle.transfer_rx.specs.Acceptance.{first_signature};
 
 use alloc_server::Event;
 use can_frame::{Frame, Kind, Mark};
-use replay_text::{Row, read_row};
+use bus_rows::Row;
+use replay_text::read_row;
 
 /// A frame of a node outside the cluster.
 pub(crate) const OUTSIDE: Mark = Mark {

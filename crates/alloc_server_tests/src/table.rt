@@ -12,7 +12,8 @@ use alloc_server::{Event, Outcome, Server};
 use arrayvec::ArrayVec;
 use can_frame::Kind;
 use disk_model::MemoryDisk;
-use replay_text::{Told, write_told};
+use bus_rows::Told;
+use replay_text::write_told;
 use std::process::Abort;
 use std::str;
 

@@ -4,4 +4,5 @@ pub mod Ends
 pub mod Extending
 pub mod Extends
 pub mod Lists
+pub mod NodeIds
 pub mod Zeroed

@@ -1,4 +1,5 @@
 pub mod Accepted
+pub mod ClusterMembers
 pub mod Delivered
 pub mod Ending
 pub mod Exchange

@@ -9,13 +9,15 @@
 //!
 //! The parts: the transfers that an allocator sends and receives ([`accept_rows`], [`ident_of`]),
 //! the queue with its transfer IDs ([`Outbox`]), the list of what a step offered ([`Offered`]), and
-//! what goes in and out of a step ([`Event`], [`Outcome`], [`View`]). [`laws`] says that phases of
-//! a step only add puts, and which origin the entries have that a leader records.
+//! what goes in and out of a step ([`Event`], [`Outcome`], [`View`]), and the test of a cluster's node IDs
+//! ([`are_members`], `specs/ClusterMembers.antt`). [`laws`] says that phases of a step only add puts, and which
+//! origin the entries have that a leader records.
 #![tactic(auto)]
 
 mod counters;
 mod event;
 pub mod laws;
+mod members;
 mod offered;
 mod outbox;
 mod rows;
@@ -23,6 +25,7 @@ mod transfers;
 
 pub use can_frame::{Judged, Role, Seen, Sent, What};
 pub use event::{Event, Outcome, View};
+pub use members::are_members;
 pub use offered::Offered;
 pub use outbox::Outbox;
 pub use rows::{accept, accept_rows, is_of_members};

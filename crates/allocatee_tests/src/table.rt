@@ -9,7 +9,8 @@ ghost use Rattle.transfer_rx.specs.Memory.{ReceiverFitsInMemory};
 use allocatee::{AEvent, Allocatee};
 use arrayvec::ArrayVec;
 use can_frame::{Frame, Kind, Mark};
-use replay_text::{Row, Told, read_row, write_told};
+use bus_rows::{Row, Told};
+use replay_text::{read_row, write_told};
 use std::process::Abort;
 use std::str;
 

@@ -1,13 +1,15 @@
 -- Rows that are taken one after the other.
 use Rattle.std.proofs.Common.{◌≡◌, ◌<◌, ℕ, ◌+◌, List, [], ◌∷◌, ◌++◌, refl, sym, ap, ◌∙◌, subst, append_assoc, append-nil, None, Some}
-use Rattle.replay_text.specs.declared.row.Row.{Row}
-use Rattle.replay_text.specs.declared.told.Told.{Told}
+use Rattle.bus_rows.specs.declared.row.Row.{Row}
+use Rattle.bus_rows.specs.declared.told.Told.{Told}
 use Rattle.replay_text.specs.Lines.{BeginsWith, BeginsWithNoRow, ReadsRows}
 use Rattle.bus_spec.specs.Cluster.{Cluster, after_rows, after_row}
 use Rattle.bus_spec.specs.Lawful.{AreLawful, cause}
 use Rattle.bus_spec.specs.OwnLogs.{GivesOnce, KeepsItsWord, OffersItsOwn}
-use Rattle.bus_spec.specs.Report.{row_lines, line_of_row}
-use Rattle.replay_text.specs.ReportLine.{text_of_line, report_line_of}
+use Rattle.bus_spec.specs.Report.{line_of_row}
+use Rattle.allocator_app.specs.WorldReport.{row_lines}
+use Rattle.bus_rows.specs.ReportLine.{report_line_of}
+use Rattle.replay_text.specs.ReportText.{text_of_line}
 use Rattle.bus_spec.specs.declared.unlawful.Unlawful.{Unlawful}
 use Rattle.allocator_app.specs.Input.{FindsRow}
 use Rattle.allocator_app.specs.Report.{ReadsUpTo, ReadsKeepingWord, IsBadRow, IsBeyond, IsRefused}

@@ -1,12 +1,13 @@
 -- How a run ends over a schedule.
 use Rattle.std.proofs.Common.{◌≡◌, ◌≤◌, ◌⊎◌, ◌++◌, ℕ, inl, inr, List, [], length, refl, arith}
 use Rattle.std.specs.declared.option.Option.{Option}
-use Rattle.replay_text.specs.declared.row.Row.{Row}
+use Rattle.bus_rows.specs.declared.row.Row.{Row}
 use Rattle.replay_text.specs.Lines.{ReadsRows}
 use Rattle.replay_text.specs.Schedule.{Reads}
-use Rattle.bus_spec.specs.Cluster.{AreMembers, Cluster, after_rows, cluster}
+use Rattle.alloc_spec.specs.ClusterMembers.{AreMembers}
+use Rattle.bus_spec.specs.Cluster.{Cluster, after_rows, cluster}
 use Rattle.bus_spec.specs.Lawful.{AreLawful}
-use Rattle.bus_spec.specs.Report.{end_lines, row_lines}
+use Rattle.allocator_app.specs.WorldReport.{end_lines, row_lines}
 use Rattle.allocator_app.specs.Report.{IsReport, IsToTheEnd}
 use Rattle.allocator_app.specs.Rows.{Ends, IsTold}
 use Rattle.cmd_io.specs.declared.status.Status.{Status}

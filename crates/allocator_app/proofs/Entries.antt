@@ -6,7 +6,7 @@ use Rattle.std.specs.Prelude.{slice_index_or, Some, None, if◌then◌else◌}
 use Rattle.can_frame.specs.declared.entry.Entry.{Entry}
 use Rattle.can_frame.specs.Log.{blank, entry_at}
 use Rattle.bus_spec.specs.Cluster.{Cluster}
-use Rattle.bus_spec.specs.Report.{all_logs, entry_line, entry_lines, log_lines, member_lines}
+use Rattle.allocator_app.specs.WorldReport.{all_logs, entry_line, entry_lines, log_lines, member_lines}
 use Rattle.allocator_app.specs.Logs.{entry_in}
 
 entry_lines-more : (none : Entry) (start place : ℕ) (log : List Entry) → place < length log →

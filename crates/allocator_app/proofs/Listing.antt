@@ -8,7 +8,7 @@ use Rattle.std.proofs.lemmas.List.Splits.{join_with_byte-slice_split, length-sli
 use Rattle.std.proofs.lemmas.List.Sums.{fails_before_first}
 use Rattle.std.specs.List.{join_with_byte}
 use Rattle.raft_model.specs.Lists.{In}
-use Rattle.bus_spec.specs.Cluster.{AreMembers}
+use Rattle.alloc_spec.specs.ClusterMembers.{AreMembers}
 use Rattle.allocator_app.specs.declared.told.Told.{Told}
 use Rattle.allocator_app.specs.declared.told.Told.TheVariants.{Members, Size}
 use Rattle.allocator_app.specs.Told.{IsCluster, Spells, commas, list_parts}

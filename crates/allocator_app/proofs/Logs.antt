@@ -6,7 +6,8 @@ use Rattle.alloc_spec.specs.declared.event.View.{View}
 use Rattle.bus_spec.specs.Cluster.{Cluster, is_member}
 use Rattle.bus_spec.specs.Members.{MemberStatus}
 use Rattle.bus_spec.specs.Members.MemberStatus.{Down, Up, Failed}
-use Rattle.bus_spec.specs.Report.{entry_lines, running_entry, running_lines, running_view, member_lines, view_at}
+use Rattle.bus_spec.specs.Report.{running_entry, running_view, view_at}
+use Rattle.allocator_app.specs.WorldReport.{entry_lines, running_lines, member_lines}
 use Rattle.allocator_app.specs.Logs.{HasLog, entry_in, log_head}
 
 log_head_of : (id commit : ℕ) (lines : List ℕ) →

@@ -8,7 +8,7 @@ use Rattle.can_logs.specs.declared.form.Form.{Form}
 use Rattle.can_logs.specs.declared.form.Form.TheVariants.{Candump, Slcan}
 use Rattle.can_logs.specs.Forms.{form_word}
 use Rattle.replay_text.specs.Words.{IsHex}
-use Rattle.bus_spec.specs.Cluster.{AreMembers}
+use Rattle.alloc_spec.specs.ClusterMembers.{AreMembers}
 use Rattle.allocator_app.specs.declared.told.Told.{Told}
 use Rattle.allocator_app.specs.declared.told.Told.TheVariants.{Members, Size}
 use Rattle.allocator_app.specs.Told.{IsCluster, Spells, size_of}

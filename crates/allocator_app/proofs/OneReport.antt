@@ -1,13 +1,14 @@
 -- A schedule has one report.
 use Rattle.std.proofs.Common.{◌≡◌, ◌≤◌, ◌<◌, ℕ, ◌+◌, List, [], ◌∷◌, ◌++◌, length, Some, None, refl, sym, ap, ◌∙◌, subst, arith, append_assoc, append-nil}
 use Rattle.std.specs.declared.option.Option.{Option}
-use Rattle.replay_text.specs.declared.row.Row.{Row}
+use Rattle.bus_rows.specs.declared.row.Row.{Row}
 use Rattle.replay_text.specs.Lines.{BeginsWith, ReadsRows, after_line, first_line}
 use Rattle.replay_text.specs.Schedule.{Reads}
 use Rattle.bus_spec.specs.Cluster.{Cluster, after_rows, after_row}
 use Rattle.bus_spec.specs.Lawful.{AreLawful, cause, number_of}
-use Rattle.bus_spec.specs.Report.{row_lines, line_of_row}
-use Rattle.replay_text.specs.ReportLine.{text_of_line}
+use Rattle.bus_spec.specs.Report.{line_of_row}
+use Rattle.allocator_app.specs.WorldReport.{row_lines}
+use Rattle.replay_text.specs.ReportText.{text_of_line}
 use Rattle.bus_spec.specs.declared.unlawful.Unlawful.{Unlawful}
 use Rattle.allocator_app.specs.InPart.{IsText, IsWrittenInPart}
 use Rattle.allocator_app.specs.InPart.IsText.{OfRows, OfAll}

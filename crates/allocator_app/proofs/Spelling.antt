@@ -8,7 +8,7 @@ use Rattle.std.proofs.lemmas.Fmt.{decimal_injective}
 use Rattle.arrayvec.specs.ArrayVec.{ArrayVec}
 use Rattle.raft_model.specs.Lists.{In}
 use Rattle.replay_text.specs.Words.{IsHex}
-use Rattle.bus_spec.specs.Cluster.{AreMembers}
+use Rattle.alloc_spec.specs.ClusterMembers.{AreMembers}
 use Rattle.allocator_app.specs.Words.{SpellsPayload}
 
 -- a word at its place spells the number at this place

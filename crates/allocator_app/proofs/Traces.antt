@@ -6,7 +6,8 @@ use Rattle.outside.specs.declared.received.Received.{Received}
 use Rattle.cmd_io.specs.declared.status.Status.{Status}
 use Rattle.alloc_spec.specs.Rules.{Rules}
 use Rattle.bus_physics.specs.Runs.{StandOnBus}
-use Rattle.bus_spec.specs.Cluster.{AreMembers, cluster}
+use Rattle.alloc_spec.specs.ClusterMembers.{AreMembers}
+use Rattle.bus_spec.specs.Cluster.{cluster}
 use Rattle.cmd_io.specs.declared.status.Status.TheVariants.{Done, Usage, BadRow, Unlawful, ReadFault, WriteFault, Memory, Limit, LinkFault, DiskFault, Damaged, Differ, NoPart, NoValue}
 use Rattle.cmd_node.specs.CutRun.{IsCutAtOpening, IsCutAtTurn, KeepsImages, KeepsOrOpens}
 use Rattle.cmd_node.specs.Nodes.{IsCutInTurn, IsDone, IsEnd, LeavesWith, RunsNodes}

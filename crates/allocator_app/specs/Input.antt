@@ -3,7 +3,7 @@ use Rattle.std.specs.Prelude.{◌≡◌, ◌≤◌, ◌<◌, ℕ, List, ◌++◌
 use Rattle.replay_text.specs.Lines.{BeginsWith, BeginsWithNoRow, after_line}
 use Rattle.allocator_app.specs.declared.input.Next.{Next}
 use Rattle.allocator_app.specs.declared.input.Next.TheVariants as next
-use Rattle.replay_text.specs.declared.row.Row.{Row}
+use Rattle.bus_rows.specs.declared.row.Row.{Row}
 
 -- the row that stands at the front of the bytes, whatever comes behind, and what is left behind it
 pub record FindsRow (row : Row) (before now : List ℕ) : Type 0 where

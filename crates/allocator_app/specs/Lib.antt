@@ -11,3 +11,4 @@ pub mod Rows
 pub mod Soaking
 pub mod Told
 pub mod Words
+pub mod WorldReport

@@ -1,6 +1,6 @@
 -- What holds along the rows of every world.
 use Rattle.std.specs.Prelude.{ℕ, List}
-use Rattle.replay_text.specs.declared.row.Row.{Row}
+use Rattle.bus_rows.specs.declared.row.Row.{Row}
 use Rattle.bus_agreement.specs.Allocatees.{HasAllocatees}
 use Rattle.bus_agreement.specs.Headline.{HasHeadline}
 use Rattle.bus_agreement.specs.Safe.{AreSafe}

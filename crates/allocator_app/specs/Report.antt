@@ -1,11 +1,11 @@
 -- The report of a schedule.
 use Rattle.std.specs.Prelude.{◌≡◌, ◌≢◌, ◌≤◌, ◌<◌, ℕ, ◌+◌, List, [], ◌++◌, codes, decimal, Some}
-use Rattle.replay_text.specs.declared.row.Row.{Row}
+use Rattle.bus_rows.specs.declared.row.Row.{Row}
 use Rattle.replay_text.specs.Lines.{BeginsWith, BeginsWithNoRow, ReadsRows}
 use Rattle.bus_spec.specs.Cluster.{Cluster, after_rows}
 use Rattle.bus_spec.specs.Lawful.{AreLawful, cause, number_of}
 use Rattle.bus_spec.specs.OwnLogs.{KeepsItsWord}
-use Rattle.bus_spec.specs.Report.{end_lines, row_lines}
+use Rattle.allocator_app.specs.WorldReport.{end_lines, row_lines}
 use Rattle.bus_spec.specs.declared.unlawful.Unlawful.{Unlawful}
 use Rattle.cmd_io.specs.declared.status.Status.{Status}
 use Rattle.cmd_io.specs.declared.status.Status.TheVariants.{Done, Usage, BadRow, Unlawful as IsUnlawful, Limit, LinkFault, DiskFault, Damaged, Differ, NoPart, NoValue}

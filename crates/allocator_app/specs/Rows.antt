@@ -6,7 +6,8 @@ use Rattle.replay_text.specs.Lines.{after_line}
 use Rattle.bus_spec.specs.Cluster.{Cluster, cluster}
 use Rattle.bus_spec.specs.Lawful.{number_of}
 use Rattle.bus_spec.specs.OwnLogs.{KeepsItsWord}
-use Rattle.bus_spec.specs.Report.{all_logs, end_line}
+use Rattle.replay_text.specs.Report.{end_line}
+use Rattle.allocator_app.specs.WorldReport.{all_logs}
 use Rattle.allocator_app.specs.InPart.{IsReadInPart, IsWrittenInPart, ReadsAhead}
 use Rattle.cmd_io.specs.NoFurther.{ReadsNoFurther}
 use Rattle.cmd_io.specs.Output.{WritesFront}

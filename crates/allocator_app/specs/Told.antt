@@ -3,7 +3,7 @@ use Rattle.std.specs.Prelude.{◌≡◌, ◌≤◌, ◌==◌, ℕ, Bool, List, [
 use Rattle.std.specs.List.{Contains, slice_split}
 use Rattle.can_frame.specs.Sizes.{most_members}
 use Rattle.alloc_spec.specs.Rules.{Rules, rules_by}
-use Rattle.bus_spec.specs.Cluster.{AreMembers}
+use Rattle.alloc_spec.specs.ClusterMembers.{AreMembers}
 use Rattle.allocator_app.specs.declared.told.Told.{Told}
 use Rattle.allocator_app.specs.declared.told.Told.TheVariants.{Size, Members}
 

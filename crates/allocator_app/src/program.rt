@@ -4,7 +4,7 @@ ghost use Rattle.cmd_decode.specs.Ends.{Decodes};
 ghost use Rattle.cmd_logs.specs.Converted.{Converts};
 ghost use Rattle.cmd_logs.specs.Watched.{Watches};
 ghost use Rattle.outside.specs.Faults.{Rose};
-ghost use Rattle.replay_text.specs.declared.row.Row.{Row};
+ghost use Rattle.bus_rows.specs.declared.row.Row.{Row};
 ghost use Rattle.replay_text.specs.Lines.{ReadsRows};
 ghost use Rattle.cmd_new.specs.Made.{MakesStores};
 ghost use Rattle.cmd_soak.specs.Rounds.{members, soaked};

@@ -4,7 +4,8 @@ ghost use Rattle.bus_world.specs.World.{AcceptsAs, StandsFor, accepts, allocatee
 ghost use Rattle.allocatee.specs.Accepted as device;
 ghost use Rattle.alloc_spec.specs.Accepted as accepted;
 ghost use Rattle.transfer_rx.specs.Acceptance.{first_signature};
-ghost use Rattle.bus_spec.specs.Cluster.{AreMembers, Cluster, cluster};
+ghost use Rattle.alloc_spec.specs.ClusterMembers.{AreMembers};
+ghost use Rattle.bus_spec.specs.Cluster.{Cluster, cluster};
 ghost use Rattle.bus_spec.specs.Receivers.{AllocateeReceives, MemberReceives};
 ghost use Rattle.cmd_io.specs.Counting.{CountsFaults};
 ghost use Rattle.cmd_io.specs.Output.{Grows};

@@ -2,7 +2,7 @@ ghost use Rattle.std.specs.Prelude.{◌≡◌, ◌≤◌, ◌<◌, ◌+◌, ◌+
 ghost use Rattle.can_frame.specs.declared.entry.Entry.{Entry};
 ghost use Rattle.bus_world.specs.World.{StandsFor, rows_taken};
 ghost use Rattle.bus_spec.specs.Cluster.{Cluster};
-ghost use Rattle.bus_spec.specs.Report.{all_logs, entry_line, entry_lines, member_lines};
+ghost use Rattle.allocator_app.specs.WorldReport.{all_logs, entry_line, entry_lines, member_lines};
 ghost use Rattle.allocator_app.specs.Logs.{HasLog, log_head};
 ghost use Rattle.cmd_io.specs.Counting.{CountsFaults};
 ghost use Rattle.cmd_io.specs.Output.{Grows, Writes, WritesLast};

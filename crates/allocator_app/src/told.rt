@@ -6,8 +6,8 @@ ghost use Rattle.allocator_app.specs.declared.told.Told.{Told};
 ghost use Rattle.allocator_app.specs.Told.{AreAmong, IsCluster, Spells, commas, list_of, list_parts, rest_of, size_of};
 
 use crate::words::number_within;
+use alloc_spec::are_members;
 use arrayvec::ArrayVec;
-use bus_spec::are_members;
 use can_frame::sizes::MOST_MEMBERS;
 use replay_text::read_number;
 

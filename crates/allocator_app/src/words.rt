@@ -3,14 +3,14 @@ ghost use Rattle.can_frame.specs.Sizes.{longest_payload, most_members};
 ghost use Rattle.can_logs.specs.declared.form.Form.{Form as FormValue};
 ghost use Rattle.dsdl_text.specs.Words as text_words;
 ghost use Rattle.raft_model.specs.Lists.{In};
-ghost use Rattle.bus_spec.specs.Cluster.{AreMembers};
+ghost use Rattle.alloc_spec.specs.ClusterMembers.{AreMembers};
 ghost use Rattle.allocator_app.specs.declared.told.Told.{Told};
 ghost use Rattle.allocator_app.specs.Words.{AreFew, IsAudit, IsConvert, IsDecode, IsNew, IsNode, IsPlan, IsReplay, IsSize, IsSoak, IsWatch, SpellsPayload};
 
 use crate::plans::Plan;
 use crate::told::read_told;
+use alloc_spec::are_members;
 use arrayvec::ArrayVec;
-use bus_spec::are_members;
 use can_frame::sizes::{LONGEST_PAYLOAD, MOST_MEMBERS};
 use can_logs::Form;
 use dsdl_text::is_name;

@@ -3,9 +3,10 @@ use Rattle.std.proofs.Common.{ℕ, Bool, List, [], ◌∷◌, ◌++◌, sym, sub
 use Rattle.raft_model.specs.Invariants.{Invariants}
 use Rattle.raft_model.specs.Runs as raft
 use Rattle.raft_model.specs.Runs.{Event, InEveryRun, initial_world}
-use Rattle.replay_text.specs.declared.row.Row.{Row}
+use Rattle.bus_rows.specs.declared.row.Row.{Row}
 use Rattle.alloc_spec.specs.Transfers.{SentTransfer}
-use Rattle.bus_spec.specs.Cluster.{AreMembers, Cluster, after_rows, cluster, after_row, world_of}
+use Rattle.alloc_spec.specs.ClusterMembers.{AreMembers}
+use Rattle.bus_spec.specs.Cluster.{Cluster, after_rows, cluster, after_row, world_of}
 use Rattle.bus_spec.specs.Lawful.{DoNoHarm, DoesNoHarm}
 use Rattle.bus_spec.specs.Choices.{AgreesWithDisk, RowAgreesWithDisk}
 use Rattle.bus_spec.specs.Refinement.{events, transfers_of_rows, transfers_of_row, row_events}

@@ -23,7 +23,8 @@ use Rattle.alloc_spec.specs.StepState.{StepState}
 use Rattle.alloc_spec.specs.Step.{Event, step}
 use Rattle.alloc_spec.specs.AllocatorState.{AllocatorState}
 use Rattle.alloc_spec.specs.Transfers.{SentTransfer}
-use Rattle.bus_spec.specs.Cluster.{AreMembers, Cluster}
+use Rattle.alloc_spec.specs.ClusterMembers.{AreMembers}
+use Rattle.bus_spec.specs.Cluster.{Cluster}
 use Rattle.bus_spec.specs.Members.{Failure, Member, after_cut_off, stopped_with}
 use Rattle.bus_spec.specs.Members.MemberStatus.{Failed}
 use Rattle.bus_spec.specs.Choices.{one_if}

@@ -17,7 +17,7 @@ use Rattle.can_frame.specs.Kinds.{is_anonymous}
 use Rattle.dsdl_codec.specs.Allocation.{allocation_of}
 use Rattle.raft_model.specs.Lists.{In, at, at_here, at_other}
 use Rattle.raft_model.specs.Runs as raft
-use Rattle.replay_text.specs.declared.row.Row.TheVariants.{AEnd, AOpen, ARx, ASend, ATick}
+use Rattle.bus_rows.specs.declared.row.Row.TheVariants.{AEnd, AOpen, ARx, ASend, ATick}
 use Rattle.transfer_rx.specs.Acceptance.{first_signature}
 use Rattle.transfer_rx.specs.Origin.{CameWithKey}
 use Rattle.transfer_rx.specs.Reassembly.{Arrival, Delivery, Gives, Setting, next as sessions_after}
@@ -27,7 +27,8 @@ use Rattle.transfer_rx.specs.Sound.{IsDelivered}
 use Rattle.transfer_tx.specs.Queue.{Queued, next_out}
 use Rattle.alloc_spec.specs.Transfers.{SentTransfer}
 use Rattle.bus_spec.specs.Allocatees.{after_sending_from, next_from, device_after_step}
-use Rattle.bus_spec.specs.Cluster.{AreMembers, Cluster, arrival_at, frame_at, in_list, after_row, receipt_at}
+use Rattle.alloc_spec.specs.ClusterMembers.{AreMembers}
+use Rattle.bus_spec.specs.Cluster.{Cluster, arrival_at, frame_at, in_list, after_row, receipt_at}
 use Rattle.bus_spec.specs.Lawful.{absent, cause, is_forged, is_forged_by, arrival_refusal_at, no_allocatee, no_such_frame, nothing_to_send, or_else}
 use Rattle.bus_agreement.specs.Asking.{IsAsking, IsGiven}
 use Rattle.bus_agreement.specs.Frames.{AreHeard, AreTransfers, CameFrom, IsForeign, IsOnBus, WasMade}

@@ -30,7 +30,8 @@ use Rattle.alloc_spec.specs.Step.{Event, step}
 use Rattle.alloc_spec.specs.Step.Event.{Rx, Tick}
 use Rattle.alloc_spec.specs.AllocatorState.{AllocatorState, members_of, start_of}
 use Rattle.alloc_spec.specs.Transfers.{SentTransfer, Offer}
-use Rattle.bus_spec.specs.Cluster.{AreMembers, Cluster}
+use Rattle.alloc_spec.specs.ClusterMembers.{AreMembers}
+use Rattle.bus_spec.specs.Cluster.{Cluster}
 use Rattle.bus_spec.specs.Members.{Member}
 use Rattle.bus_spec.specs.Members.MemberStatus.{Up}
 use Rattle.bus_spec.specs.Refinement.{transfers_of_offers}

@@ -11,8 +11,8 @@ use Rattle.raft_log.specs.KeyDisk.{found_by}
 use Rattle.raft_log.specs.Stored.{Stored}
 use Rattle.raft_model.specs.Lists.{In, at, at_here, at_other}
 use Rattle.raft_model.specs.Runs.{World}
-use Rattle.replay_text.specs.declared.row.Row.{Row}
-use Rattle.replay_text.specs.declared.row.Row.TheVariants.{Crash}
+use Rattle.bus_rows.specs.declared.row.Row.{Row}
+use Rattle.bus_rows.specs.declared.row.Row.TheVariants.{Crash}
 use Rattle.alloc_spec.specs.Transfers.{SentTransfer}
 use Rattle.bus_spec.specs.Cluster.{Cluster, after_rows, cluster, after_row, world_of}
 use Rattle.bus_spec.specs.Lawful.{DoNoHarm, DoesNoHarm, cause, no_node, no_stop}

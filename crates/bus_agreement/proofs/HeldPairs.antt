@@ -13,11 +13,12 @@ use Rattle.raft_model.specs.Messages.Message.{Pairs}
 use Rattle.raft_model.specs.Runs as raft
 use Rattle.raft_model.specs.Runs.{InEveryRun, initial_world}
 use Rattle.raft_model.specs.Safety.{IsSafe}
-use Rattle.replay_text.specs.declared.row.Row.{Row}
+use Rattle.bus_rows.specs.declared.row.Row.{Row}
 use Rattle.transfer_tx.specs.Queue.{Queued, queued_frames}
 use Rattle.alloc_spec.specs.Transfers.{SentTransfer, outgoing, signature_of}
 use Rattle.bus_spec.specs.Choices.{AgreesWithDisk}
-use Rattle.bus_spec.specs.Cluster.{AreMembers, Cluster, cluster, no_frame, world_of}
+use Rattle.alloc_spec.specs.ClusterMembers.{AreMembers}
+use Rattle.bus_spec.specs.Cluster.{Cluster, cluster, no_frame, world_of}
 use Rattle.bus_spec.specs.Lawful.{DoNoHarm}
 use Rattle.bus_spec.specs.Refinement.{events, transfers_of_rows}
 use Rattle.bus_agreement.specs.Allocatees.{Allocatees, HasAllocatees, Holds, IsGivenOnBus, MayHave}

@@ -12,10 +12,11 @@ use Rattle.raft_model.specs.Invariants.{Invariants}
 use Rattle.raft_model.specs.Runs.{Event, InEveryRun, initial_world}
 use Rattle.raft_model.specs.Safety.{IsSafe}
 use Rattle.raft_model.specs.Server.{RaftServer}
-use Rattle.replay_text.specs.declared.row.Row.{Row}
+use Rattle.bus_rows.specs.declared.row.Row.{Row}
 use Rattle.alloc_spec.specs.AllocatorState.{AllocatorState}
 use Rattle.alloc_spec.specs.Transfers.{SentTransfer}
-use Rattle.bus_spec.specs.Cluster.{AreMembers, Cluster, cluster, world_of}
+use Rattle.alloc_spec.specs.ClusterMembers.{AreMembers}
+use Rattle.bus_spec.specs.Cluster.{Cluster, cluster, world_of}
 use Rattle.bus_spec.specs.Lawful.{DoNoHarm}
 use Rattle.bus_spec.specs.Logs.{IsFound, IsGivenFrom, IsOfAllocation, committed, stored_on}
 use Rattle.bus_spec.specs.Members.{MemberStatus, stored_after}

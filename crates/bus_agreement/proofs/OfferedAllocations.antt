@@ -17,7 +17,8 @@ use Rattle.raft_model.specs.Runs as raft
 use Rattle.transfer_rx.specs.Reassembly.{Arrival}
 use Rattle.transfer_tx.specs.Queue.{Queued, queued_frames}
 use Rattle.alloc_spec.specs.Transfers.{SentTransfer, frames_of, pair_of_allocation, ident_of, message_by, message_of, outgoing, pair_message, signature_of}
-use Rattle.bus_spec.specs.Cluster.{AreMembers, Cluster, no_frame}
+use Rattle.alloc_spec.specs.ClusterMembers.{AreMembers}
+use Rattle.bus_spec.specs.Cluster.{Cluster, no_frame}
 use Rattle.bus_spec.specs.Lawful.{is_forged}
 use Rattle.bus_spec.specs.Logs.{IsOfAllocation, IsOffered}
 use Rattle.bus_spec.specs.Members.{MemberStatus}

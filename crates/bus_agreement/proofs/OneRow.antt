@@ -12,8 +12,8 @@ use Rattle.raft_model.specs.Lists.{In, at}
 use Rattle.raft_model.specs.Runs as raft
 use Rattle.raft_model.specs.Runs.{MayOccur, after}
 use Rattle.raft_model.specs.Runs.Event.{Opens, Steps, Stops}
-use Rattle.replay_text.specs.declared.row.Row.{Row}
-use Rattle.replay_text.specs.declared.row.Row.TheVariants.{AEnd, AOpen, ARx, ASend, ATick, Crash, Ext, Fault, Open, Rx, Send, Tick}
+use Rattle.bus_rows.specs.declared.row.Row.{Row}
+use Rattle.bus_rows.specs.declared.row.Row.TheVariants.{AEnd, AOpen, ARx, ASend, ATick, Crash, Ext, Fault, Open, Rx, Send, Tick}
 use Rattle.alloc_spec_laws.specs.Sound.{IsOnTheBus}
 use Rattle.alloc_spec.specs.StepState.{messages}
 use Rattle.alloc_spec.specs.Step.{Event, step}
@@ -23,7 +23,8 @@ use Rattle.alloc_spec.specs.Transfers.{SentTransfer}
 use Rattle.transfer_rx.specs.Reassembly.{Arrival}
 use Rattle.bus_spec.specs.declared.unlawful.Unlawful.TheVariants.{NoFrame, NoNode, Stopped}
 use Rattle.bus_spec.specs.declared.unlawful.Unlawful.TheVariants as unlawful
-use Rattle.bus_spec.specs.Cluster.{AreMembers, Cluster, arrival_at, frame_at, after_row, is_member, no_frame, receipt_of, with_step, tick_of}
+use Rattle.alloc_spec.specs.ClusterMembers.{AreMembers}
+use Rattle.bus_spec.specs.Cluster.{Cluster, arrival_at, frame_at, after_row, is_member, no_frame, receipt_of, with_step, tick_of}
 use Rattle.bus_spec.specs.Lawful.{DoesNoHarm, IsHarmlessAt, already_running, cause, arrival_refusal, is_void_at, no_node, no_such_frame, not_running, cause_of_judgement, or_else}
 use Rattle.bus_spec.specs.Members.{Failure, MemberStatus, Member, is_running, puts_of, member_after_step}
 use Rattle.bus_spec.specs.Members.MemberStatus.{Down, Failed, Up}

@@ -4,7 +4,7 @@ use Rattle.can_frame.specs.declared.identifier.Ident.{Ident}
 use Rattle.can_frame.specs.declared.mark.Mark.{Mark}
 use Rattle.can_frame.specs.Kinds.{is_service}
 use Rattle.raft_model.specs.Runs as raft
-use Rattle.replay_text.specs.declared.row.Row.TheVariants.{Rx}
+use Rattle.bus_rows.specs.declared.row.Row.TheVariants.{Rx}
 use Rattle.alloc_spec.specs.Accepted.{rows, setting_for}
 use Rattle.alloc_spec.specs.Step.{at_moment, at_step}
 use Rattle.alloc_spec.specs.AllocatorState.{AllocatorState}
@@ -12,7 +12,8 @@ use Rattle.alloc_spec.specs.Transfers.{SentTransfer}
 use Rattle.transfer_rx.specs.Acceptance.{is_for}
 use Rattle.transfer_rx.specs.Reassembly.{Arrival, Delivery}
 use Rattle.transfer_rx.specs.Sound.{IsDelivered}
-use Rattle.bus_spec.specs.Cluster.{AreMembers, Cluster, arrival_at, frame_at}
+use Rattle.alloc_spec.specs.ClusterMembers.{AreMembers}
+use Rattle.bus_spec.specs.Cluster.{Cluster, arrival_at, frame_at}
 use Rattle.bus_spec.specs.Lawful.{DoesNoHarm, IsHarmlessAt}
 use Rattle.bus_spec.specs.Members.{MemberStatus}
 use Rattle.bus_agreement.specs.Frames.{WasMade}

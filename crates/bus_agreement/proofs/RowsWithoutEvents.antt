@@ -17,7 +17,7 @@ use Rattle.raft_core.specs.Times.{Sending}
 use Rattle.raft_model.specs.Lists.{In, any, at}
 use Rattle.raft_model.specs.Messages.{Request}
 use Rattle.raft_model.specs.Runs as raft
-use Rattle.replay_text.specs.declared.row.Row.TheVariants.{Crash, Ext, Fault, Send}
+use Rattle.bus_rows.specs.declared.row.Row.TheVariants.{Crash, Ext, Fault, Send}
 use Rattle.transfer_tx.specs.Queue.{Queued, is_least, left_behind, next_out}
 use Rattle.alloc_spec_laws.specs.Coming.{KeepsOrder}
 use Rattle.alloc_spec_laws.specs.Sound.{IsDestination, IsSound}

@@ -6,14 +6,15 @@ use Rattle.raft_model.specs.Lists.{In}
 use Rattle.raft_model.specs.Runs as raft
 use Rattle.raft_model.specs.Runs.{InEveryRun, initial_world}
 use Rattle.raft_model.specs.Server.{RaftServer}
-use Rattle.replay_text.specs.declared.row.Row.{Row}
-use Rattle.replay_text.specs.declared.row.Row.TheVariants.{AEnd, AOpen, ARx, ASend, ATick, Crash, Ext, Fault, Open, Rx, Send, Tick}
+use Rattle.bus_rows.specs.declared.row.Row.{Row}
+use Rattle.bus_rows.specs.declared.row.Row.TheVariants.{AEnd, AOpen, ARx, ASend, ATick, Crash, Ext, Fault, Open, Rx, Send, Tick}
 use Rattle.alloc_spec_laws.specs.Sound.{IsOnTheBus}
 use Rattle.alloc_spec.specs.Step.{Event}
 use Rattle.alloc_spec.specs.AllocatorState.{AllocatorState}
 use Rattle.alloc_spec.specs.Transfers.{SentTransfer}
 use Rattle.bus_spec.specs.Choices.{AgreesWithDisk}
-use Rattle.bus_spec.specs.Cluster.{AreMembers, Cluster, cluster, frame_at, receipt_of, tick_of, world_of}
+use Rattle.alloc_spec.specs.ClusterMembers.{AreMembers}
+use Rattle.bus_spec.specs.Cluster.{Cluster, cluster, frame_at, receipt_of, tick_of, world_of}
 use Rattle.bus_spec.specs.Lawful.{DoNoHarm, DoesNoHarm, cause, no_node, not_running}
 use Rattle.bus_spec.specs.Members.{MemberStatus}
 use Rattle.bus_spec.specs.Members.MemberStatus.{Down, Failed, Up}

@@ -15,7 +15,7 @@ use Rattle.raft_model.specs.Runs.{MayOccur, after}
 use Rattle.raft_model.specs.Runs.Event.{Opens, Stops}
 use Rattle.raft_model.specs.Server as server
 use Rattle.raft_model.specs.Server.{Memory, RaftServer, Store, memory_when_down}
-use Rattle.replay_text.specs.declared.row.Row.TheVariants.{Crash, Open}
+use Rattle.bus_rows.specs.declared.row.Row.TheVariants.{Crash, Open}
 use Rattle.alloc_spec_laws.specs.Coming.{KeepsOrder}
 use Rattle.alloc_spec_laws.specs.Sound.{IsSound}
 use Rattle.alloc_spec.specs.AllocatorState.{AllocatorState, members_of}

@@ -16,7 +16,7 @@ use Rattle.can_frame.specs.Log.{HasPair}
 use Rattle.dsdl_codec.specs.Allocation.{allocation_of}
 use Rattle.dsdl_codec.specs.declared.allocation.Allocation.{Allocation}
 use Rattle.raft_model.specs.Lists.{In}
-use Rattle.replay_text.specs.declared.row.Row.{Row}
+use Rattle.bus_rows.specs.declared.row.Row.{Row}
 use Rattle.transfer_tx.specs.Queue.{Queued, queued_frames}
 use Rattle.alloc_spec.specs.Transfers.{outgoing}
 use Rattle.bus_spec.specs.Cluster.{Cluster, cluster, world_of}

@@ -8,8 +8,8 @@ use Rattle.raft_model.specs.Lists.{In}
 use Rattle.raft_model.specs.Moves.Elections.{term_limit}
 use Rattle.raft_model.specs.Moves.Move.{ProposeEntry}
 use Rattle.raft_model.specs.Server.Role.{Leader}
-use Rattle.replay_text.specs.declared.row.Row.{Row}
-use Rattle.replay_text.specs.declared.row.Row.TheVariants.{Rx as RxRow, Tick as TickRow}
+use Rattle.bus_rows.specs.declared.row.Row.{Row}
+use Rattle.bus_rows.specs.declared.row.Row.TheVariants.{Rx as RxRow, Tick as TickRow}
 use Rattle.transfer_rx.specs.Reassembly.{Arrival}
 use Rattle.alloc_spec_laws.specs.Answering.{AnswersRequests}
 use Rattle.alloc_spec_laws.specs.Blanks.{AddsBlank}

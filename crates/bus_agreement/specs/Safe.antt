@@ -4,8 +4,8 @@ use Rattle.raft_model.specs.Lists.{In}
 use Rattle.raft_model.specs.Messages.{Message}
 use Rattle.raft_model.specs.Runs.{initial_world, run}
 use Rattle.raft_model.specs.Safety.{IsSafe}
-use Rattle.replay_text.specs.declared.row.Row.{Row}
-use Rattle.replay_text.specs.declared.row.Row.TheVariants.{Rx}
+use Rattle.bus_rows.specs.declared.row.Row.{Row}
+use Rattle.bus_rows.specs.declared.row.Row.TheVariants.{Rx}
 use Rattle.alloc_spec.specs.Accepted.{setting_for}
 use Rattle.alloc_spec.specs.Step.{at_moment, at_step}
 use Rattle.alloc_spec.specs.AllocatorState.{AllocatorState}

@@ -1,9 +1,10 @@
 //! The promise on devices, beside the headline: a law, the contract of a function that does nothing.
 
 ghost use Rattle.std.specs.Prelude.{ℕ, List};
-ghost use Rattle.replay_text.specs.declared.row.Row.{Row};
+ghost use Rattle.bus_rows.specs.declared.row.Row.{Row};
 ghost use Rattle.bus_agreement.specs.Allocatees.{HasAllocatees};
-ghost use Rattle.bus_spec.specs.Cluster.{AreMembers, cluster};
+ghost use Rattle.alloc_spec.specs.ClusterMembers.{AreMembers};
+ghost use Rattle.bus_spec.specs.Cluster.{cluster};
 ghost use Rattle.bus_spec.specs.Lawful.{DoNoHarm};
 
 use crate::below::what_is_said_of_frames;

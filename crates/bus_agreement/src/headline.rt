@@ -2,14 +2,15 @@
 
 ghost use Rattle.std.specs.Prelude.{◌≡◌, ◌++◌, ◌∷◌, [], ℕ, Bool, List, None};
 ghost use Rattle.raft_model.specs.Runs.{Event, Lawful, World, initial_world, run};
-ghost use Rattle.replay_text.specs.declared.row.Row.{Row};
+ghost use Rattle.bus_rows.specs.declared.row.Row.{Row};
 ghost use Rattle.bus_agreement.specs.Continues.{Continues};
 ghost use Rattle.bus_agreement.specs.Duty.{AreDutiful};
 ghost use Rattle.bus_agreement.specs.Headline.{HasHeadline, Headline};
 ghost use Rattle.bus_agreement.specs.Mirrors.{BusIsMade, Mirrors, OffersAreMade};
 ghost use Rattle.bus_agreement.specs.Safe.{AreSafe};
 ghost use Rattle.bus_agreement.specs.Shows.{Shows};
-ghost use Rattle.bus_spec.specs.Cluster.{AreMembers, Cluster, cluster};
+ghost use Rattle.alloc_spec.specs.ClusterMembers.{AreMembers};
+ghost use Rattle.bus_spec.specs.Cluster.{Cluster, cluster};
 ghost use Rattle.bus_spec.specs.Cluster.{after_rows, after_row, world_of};
 ghost use Rattle.bus_spec.specs.Lawful.{DoNoHarm, DoesNoHarm, AreLawful, cause};
 ghost use Rattle.bus_spec.specs.Choices.{AgreesWithDisk, RowAgreesWithDisk};

@@ -5,7 +5,7 @@ ghost use Rattle.can_frame.specs.declared.identifier.Kind.TheVariants.{Message a
 ghost use Rattle.raft_model.specs.Lists.{In};
 ghost use Rattle.raft_model.specs.Messages.{Message};
 ghost use Rattle.raft_model.specs.Runs.{World};
-ghost use Rattle.replay_text.specs.declared.row.Row.TheVariants.{Rx as RxRow};
+ghost use Rattle.bus_rows.specs.declared.row.Row.TheVariants.{Rx as RxRow};
 ghost use Rattle.alloc_spec_laws.specs.Coming.{TakesFrom};
 ghost use Rattle.alloc_spec.specs.Judging.{IsHarmless};
 ghost use Rattle.alloc_spec.specs.Step.Event.{Rx};
@@ -17,7 +17,8 @@ ghost use Rattle.transfer_tx.specs.Queue.{Queued};
 ghost use Rattle.bus_agreement.specs.Frames.{AreHeard, AreTransfers, CameFrom, IsOnBus, WasMade};
 ghost use Rattle.bus_agreement.specs.Safe.{IsDeliveredTo, IsOneTransfer};
 ghost use Rattle.bus_agreement.specs.Shows.{HoldsOfMade, IsAtWork, Shows};
-ghost use Rattle.bus_spec.specs.Cluster.{AreMembers, Cluster};
+ghost use Rattle.alloc_spec.specs.ClusterMembers.{AreMembers};
+ghost use Rattle.bus_spec.specs.Cluster.{Cluster};
 ghost use Rattle.bus_spec.specs.Lawful.{DoesNoHarm, is_forged};
 
 use crate::below::{what_is_said_of_frames, what_is_said_of_messages};

@@ -15,8 +15,8 @@ use Rattle.can_frame.specs.Kinds.{is_anonymous}
 use Rattle.raft_log.specs.KeyDisk.{are_put}
 use Rattle.raft_model.specs.Lists.{In}
 use Rattle.raft_model.specs.Runs as raft
-use Rattle.replay_text.specs.declared.row.Row.{Row}
-use Rattle.replay_text.specs.declared.row.Row.TheVariants.{AEnd, AOpen, ARx, ASend, ATick, Crash, Ext, Fault, Open, Rx, Send, Tick}
+use Rattle.bus_rows.specs.declared.row.Row.{Row}
+use Rattle.bus_rows.specs.declared.row.Row.TheVariants.{AEnd, AOpen, ARx, ASend, ATick, Crash, Ext, Fault, Open, Rx, Send, Tick}
 use Rattle.transfer_rx.specs.declared.key.Key.{Key}
 use Rattle.transfer_rx.specs.Keys.{key_of}
 use Rattle.transfer_rx.specs.Reassembly.{Arrival, Gives, answer, piece_in}
@@ -33,7 +33,8 @@ use Rattle.alloc_spec.specs.StepState.{StepState}
 use Rattle.alloc_spec.specs.Transfers.{Offer, SentTransfer, ident_of, kind_of, number_of, signature_of}
 use Rattle.alloc_spec_laws.specs.Responses.{AnswersAsked, IsResponse, ResponsesAnswer}
 use Rattle.bus_spec.specs.declared.unlawful.Unlawful.{Unlawful}
-use Rattle.bus_spec.specs.Cluster.{AreMembers, Cluster, after_row, after_rows, arrival_at, cluster, frame_at, receipt_of, tick_of, world_of}
+use Rattle.alloc_spec.specs.ClusterMembers.{AreMembers}
+use Rattle.bus_spec.specs.Cluster.{Cluster, after_row, after_rows, arrival_at, cluster, frame_at, receipt_of, tick_of, world_of}
 use Rattle.bus_spec.specs.Lawful.{AreLawful, arrival_refusal, cause, no_node, no_such_frame, not_running, or_else}
 use Rattle.bus_spec.specs.Members.{Member, MemberStatus, puts_of}
 use Rattle.bus_spec.specs.Members.MemberStatus.{Down, Failed, Up}

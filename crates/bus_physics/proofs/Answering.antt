@@ -5,8 +5,8 @@ use Rattle.can_frame.specs.declared.identifier.Kind.TheVariants.{Response}
 use Rattle.can_frame.specs.declared.mark.Mark.{Mark}
 use Rattle.raft_log.specs.KeyDisk.{are_put}
 use Rattle.raft_model.specs.Lists.{In}
-use Rattle.replay_text.specs.declared.row.Row.{Row}
-use Rattle.replay_text.specs.declared.row.Row.TheVariants.{AEnd, AOpen, ARx, ASend, ATick, Crash, Ext, Fault, Open, Rx, Send, Tick}
+use Rattle.bus_rows.specs.declared.row.Row.{Row}
+use Rattle.bus_rows.specs.declared.row.Row.TheVariants.{AEnd, AOpen, ARx, ASend, ATick, Crash, Ext, Fault, Open, Rx, Send, Tick}
 use Rattle.transfer_rx.specs.Reassembly.{Arrival}
 use Rattle.alloc_spec_laws.specs.Responses.{IsResponse, ResponsesAnswer}
 use Rattle.alloc_spec.specs.Accepted.{setting_for}

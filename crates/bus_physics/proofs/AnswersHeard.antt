@@ -13,8 +13,8 @@ use Rattle.can_frame.specs.Identifier.{identifier_number, identifier_of}
 use Rattle.can_frame.specs.Kinds.{is_service, is_anonymous}
 use Rattle.raft_model.specs.Lists.{In}
 use Rattle.raft_model.specs.Runs as raft
-use Rattle.replay_text.specs.declared.row.Row.{Row}
-use Rattle.replay_text.specs.declared.row.Row.TheVariants.{AEnd, AOpen, ARx, ASend, ATick, Crash, Ext, Fault, Open, Rx, Send, Tick}
+use Rattle.bus_rows.specs.declared.row.Row.{Row}
+use Rattle.bus_rows.specs.declared.row.Row.TheVariants.{AEnd, AOpen, ARx, ASend, ATick, Crash, Ext, Fault, Open, Rx, Send, Tick}
 use Rattle.transfer_rx.specs.declared.key.Key.{Key}
 use Rattle.transfer_rx.specs.Acceptance.{accepted, first_signature, is_for, wanted, with_signature}
 use Rattle.transfer_rx.specs.Keys.{key_of, same_key}
@@ -25,7 +25,8 @@ use Rattle.alloc_spec.specs.Accepted.{rows}
 use Rattle.alloc_spec.specs.Transfers.{SentTransfer, ident_of, kind_of, number_of, signature_of}
 use Rattle.alloc_spec_laws.specs.Saying.{IsSaid}
 use Rattle.bus_spec.specs.Allocatees.{next_from}
-use Rattle.bus_spec.specs.Cluster.{AreMembers, Cluster, after_row, after_rows, arrival_at, frame_at, from_outside, in_list, is_member}
+use Rattle.alloc_spec.specs.ClusterMembers.{AreMembers}
+use Rattle.bus_spec.specs.Cluster.{Cluster, after_row, after_rows, arrival_at, frame_at, from_outside, in_list, is_member}
 use Rattle.bus_spec.specs.Lawful.{AreLawful, arrival_refusal, cause, is_forged, is_forged_by, no_node, no_such_frame, not_running, or_else}
 use Rattle.alloc_spec.specs.Accepted.{is_members_service}
 use Rattle.bus_spec.specs.Members.{next_frame}

@@ -13,8 +13,8 @@ use Rattle.raft_model.specs.Lists.{In}
 use Rattle.raft_model.specs.Messages.{Request}
 use Rattle.raft_model.specs.Runs as raft
 use Rattle.raft_model.specs.Server.{Memory}
-use Rattle.replay_text.specs.declared.row.Row.{Row}
-use Rattle.replay_text.specs.declared.row.Row.TheVariants.{Rx}
+use Rattle.bus_rows.specs.declared.row.Row.{Row}
+use Rattle.bus_rows.specs.declared.row.Row.TheVariants.{Rx}
 use Rattle.transfer_rx.specs.Acceptance.{is_for}
 use Rattle.transfer_rx.specs.Reassembly.{Answer, Arrival, Delivery, Gives, answer}
 use Rattle.transfer_rx.specs.Sound.{IsDelivered}
@@ -27,7 +27,8 @@ use Rattle.alloc_spec.specs.Transfers.{SentTransfer, number_of}
 use Rattle.alloc_spec_laws.proofs.Choices.{eq_false, eq_true}
 use Rattle.alloc_spec_laws.proofs.DistinctTransfers.{rank}
 use Rattle.bus_spec.specs.declared.unlawful.Unlawful.{Unlawful}
-use Rattle.bus_spec.specs.Cluster.{AreMembers, Cluster, arrival_at, frame_at, receipt_of}
+use Rattle.alloc_spec.specs.ClusterMembers.{AreMembers}
+use Rattle.bus_spec.specs.Cluster.{Cluster, arrival_at, frame_at, receipt_of}
 use Rattle.bus_spec.specs.Lawful.{arrival_refusal, cause, no_node, no_such_frame, not_running, or_else}
 use Rattle.bus_spec.specs.Members.{MemberStatus}
 use Rattle.bus_spec.specs.Members.MemberStatus.{Up}

@@ -1,7 +1,7 @@
 -- Two lists of rows, one behind the other, that are lawful together.
 use Rattle.std.proofs.Common.{◌≡◌, List, [], ◌∷◌, ◌++◌, refl}
 use Rattle.std.specs.Prelude.{None}
-use Rattle.replay_text.specs.declared.row.Row.{Row}
+use Rattle.bus_rows.specs.declared.row.Row.{Row}
 use Rattle.bus_spec.specs.Cluster.{Cluster, after_row, after_rows}
 use Rattle.bus_spec.specs.Lawful.{AreLawful, cause}
 

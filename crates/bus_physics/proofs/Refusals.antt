@@ -4,7 +4,7 @@ use Rattle.std.specs.Prelude.{◌&&◌, not, max, nat_eq, is_some, if◌then◌e
 use Rattle.can_frame.specs.declared.step.Judged.{Judged}
 use Rattle.can_frame.specs.declared.step.Judged.TheVariants.{Fine, Stale, Torn}
 use Rattle.raft_model.specs.Lists.{In}
-use Rattle.replay_text.specs.declared.row.Row.TheVariants.{ARx, Rx}
+use Rattle.bus_rows.specs.declared.row.Row.TheVariants.{ARx, Rx}
 use Rattle.transfer_rx.specs.Reassembly.{Answer, Arrival, Delivery, answer}
 use Rattle.transfer_rx.specs.Reassembly.Answer.{Continues, Drops, Gives}
 use Rattle.allocatee.specs.Accepted as device

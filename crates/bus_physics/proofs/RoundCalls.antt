@@ -5,13 +5,14 @@ use Rattle.can_frame.specs.declared.step.What.TheVariants.{AppQ, VoteQ}
 use Rattle.raft_core.specs.Times.{Times}
 use Rattle.raft_model.specs.Lists.{In}
 use Rattle.raft_model.specs.Server.{Memory}
-use Rattle.replay_text.specs.declared.row.Row.{Row}
+use Rattle.bus_rows.specs.declared.row.Row.{Row}
 use Rattle.alloc_spec.specs.AllocatorState.{AllocatorState}
 use Rattle.alloc_spec.specs.Step.{Event, step}
 use Rattle.alloc_spec.specs.Transfers.{SentTransfer, kind_of}
 use Rattle.alloc_spec_laws.specs.Calls.{CallsAreMade}
 use Rattle.alloc_spec_laws.specs.Sound.{IsDestination}
-use Rattle.bus_spec.specs.Cluster.{AreMembers, cluster, world_of}
+use Rattle.alloc_spec.specs.ClusterMembers.{AreMembers}
+use Rattle.bus_spec.specs.Cluster.{cluster, world_of}
 use Rattle.bus_spec.specs.Lawful.{AreLawful}
 use Rattle.bus_spec.specs.Refinement.{transfers_of_rows}
 use Rattle.bus_agreement.specs.LawsBelow.{FrameLaws}

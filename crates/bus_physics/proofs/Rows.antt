@@ -10,7 +10,7 @@ use Rattle.can_frame.specs.declared.step.Judged.TheVariants.{Stale, Torn}
 use Rattle.can_frame.specs.Kinds.{is_service, is_anonymous}
 use Rattle.raft_model.specs.Lists.{In}
 use Rattle.raft_model.specs.Runs as raft
-use Rattle.replay_text.specs.declared.row.Row.TheVariants.{ARx, Rx}
+use Rattle.bus_rows.specs.declared.row.Row.TheVariants.{ARx, Rx}
 use Rattle.transfer_rx.specs.Acceptance.{first_signature, is_for}
 use Rattle.transfer_rx.specs.Keys.{key_of}
 use Rattle.transfer_rx.specs.Reassembly.{Arrival, Delivery, Gives, answer}
@@ -22,7 +22,8 @@ use Rattle.alloc_spec.specs.AllocatorState.{AllocatorState}
 use Rattle.alloc_spec.specs.Transfers.{SentTransfer, number_of}
 use Rattle.alloc_spec_laws.proofs.Choices.{and_right, not_true}
 use Rattle.bus_spec.specs.declared.unlawful.Unlawful.TheVariants as unlawful
-use Rattle.bus_spec.specs.Cluster.{AreMembers, Cluster, arrival_at, frame_at}
+use Rattle.alloc_spec.specs.ClusterMembers.{AreMembers}
+use Rattle.bus_spec.specs.Cluster.{Cluster, arrival_at, frame_at}
 use Rattle.bus_spec.specs.Lawful.{cause, is_forged}
 use Rattle.bus_spec.specs.Members.{MemberStatus}
 use Rattle.bus_agreement.specs.Frames.{CameFrom, WasMade}

@@ -11,13 +11,14 @@ use Rattle.raft_model.specs.Lists.{In, at_here}
 use Rattle.raft_model.specs.Runs as raft
 use Rattle.raft_model.specs.Runs.{initial_world}
 use Rattle.raft_model.specs.Server.{RaftServer}
-use Rattle.replay_text.specs.declared.row.Row.{Row}
-use Rattle.replay_text.specs.declared.row.Row.TheVariants.{AEnd, AOpen, ARx, ASend, ATick, Crash, Ext, Fault, Open, Rx, Send, Tick}
+use Rattle.bus_rows.specs.declared.row.Row.{Row}
+use Rattle.bus_rows.specs.declared.row.Row.TheVariants.{AEnd, AOpen, ARx, ASend, ATick, Crash, Ext, Fault, Open, Rx, Send, Tick}
 use Rattle.alloc_spec.specs.AllocatorState.{AllocatorState}
 use Rattle.alloc_spec.specs.Step.{Event, step}
 use Rattle.alloc_spec.specs.StepState.{StepState}
 use Rattle.alloc_spec.specs.Transfers.{SentTransfer}
-use Rattle.bus_spec.specs.Cluster.{AreMembers, Cluster, after_row, arrival_at, cluster, frame_at, receipt_of, tick_of, world_of}
+use Rattle.alloc_spec.specs.ClusterMembers.{AreMembers}
+use Rattle.bus_spec.specs.Cluster.{Cluster, after_row, arrival_at, cluster, frame_at, receipt_of, tick_of, world_of}
 use Rattle.bus_spec.specs.Lawful.{AreLawful, arrival_refusal, cause, no_node, no_such_frame, not_running, or_else}
 use Rattle.bus_spec.specs.Members.{Member, MemberStatus, after_cut_off, member_after_step, puts_of}
 use Rattle.bus_spec.specs.Members.MemberStatus.{Down, Failed, Up}

@@ -13,8 +13,8 @@ use Rattle.can_frame.specs.Identifier.{identifier_of}
 use Rattle.can_frame.specs.Kinds.{is_anonymous}
 use Rattle.raft_model.specs.Lists.{In, at}
 use Rattle.raft_model.specs.Runs as raft
-use Rattle.replay_text.specs.declared.row.Row.{Row}
-use Rattle.replay_text.specs.declared.row.Row.TheVariants.{AEnd, AOpen, ARx, ASend, ATick, Crash, Ext, Fault, Open, Rx, Send, Tick}
+use Rattle.bus_rows.specs.declared.row.Row.{Row}
+use Rattle.bus_rows.specs.declared.row.Row.TheVariants.{AEnd, AOpen, ARx, ASend, ATick, Crash, Ext, Fault, Open, Rx, Send, Tick}
 use Rattle.transfer_tx.specs.Queue.{Queued, is_least, left_behind, next_out, queued_frames}
 use Rattle.allocatee.specs.Allocatee.{Device, Event, opening, step}
 use Rattle.allocatee.specs.Allocatee.Event.{Rx as Receives, Tick as Ticks}
@@ -24,7 +24,8 @@ use Rattle.allocatee.proofs.Giving.{frame_queue}
 use Rattle.alloc_spec.specs.AllocatorState.{AllocatorState}
 use Rattle.alloc_spec.specs.Transfers.{ident_of, kind_of}
 use Rattle.bus_spec.specs.Allocatees.{after_sending_from, device_after_step, next_from}
-use Rattle.bus_spec.specs.Cluster.{AreMembers, Cluster, after_row, cluster, from_outside, in_list, receipt_at, world_of}
+use Rattle.alloc_spec.specs.ClusterMembers.{AreMembers}
+use Rattle.bus_spec.specs.Cluster.{Cluster, after_row, cluster, from_outside, in_list, receipt_at, world_of}
 use Rattle.bus_spec.specs.Lawful.{AreLawful, cause, is_forged, no_node, not_running, nothing_to_send, or_else}
 use Rattle.bus_spec.specs.Members.{MemberStatus, next_frame}
 use Rattle.bus_spec.specs.Members.MemberStatus.{Down, Failed, Up}

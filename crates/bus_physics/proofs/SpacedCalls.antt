@@ -12,8 +12,8 @@ use Rattle.raft_core.specs.Times.{Times, is_awaited, opened_times}
 use Rattle.raft_log.specs.KeyDisk.{are_put, is_open_on, opening_on, puts_on}
 use Rattle.raft_model.specs.Lists.{In}
 use Rattle.raft_model.specs.Server.{Memory, Store}
-use Rattle.replay_text.specs.declared.row.Row.{Row}
-use Rattle.replay_text.specs.declared.row.Row.TheVariants.{AEnd, AOpen, ARx, ASend, ATick, Crash, Ext, Fault, Open as Opens, Rx, Send, Tick}
+use Rattle.bus_rows.specs.declared.row.Row.{Row}
+use Rattle.bus_rows.specs.declared.row.Row.TheVariants.{AEnd, AOpen, ARx, ASend, ATick, Crash, Ext, Fault, Open as Opens, Rx, Send, Tick}
 use Rattle.transfer_rx.specs.Reassembly.{Answer, Continues, Delivery, Drops, Gives, answer}
 use Rattle.transfer_tx.specs.Queue.{Queued}
 use Rattle.alloc_spec.specs.Accepted.{setting_for}

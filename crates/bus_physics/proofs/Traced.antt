@@ -4,8 +4,8 @@ use Rattle.std.specs.Prelude.{not, if◌then◌else◌}
 use Rattle.can_frame.specs.declared.step.Judged.{Judged}
 use Rattle.can_frame.specs.declared.step.Judged.TheVariants.{Fine, Torn, Stale}
 use Rattle.outside.specs.declared.pattern.Pattern.TheVariants.{Old}
-use Rattle.replay_text.specs.declared.row.Row.{Row}
-use Rattle.replay_text.specs.declared.row.Row.TheVariants.{Crash, Rx, Tick}
+use Rattle.bus_rows.specs.declared.row.Row.{Row}
+use Rattle.bus_rows.specs.declared.row.Row.TheVariants.{Crash, Rx, Tick}
 use Rattle.transfer_rx.specs.Reassembly.{Arrival}
 use Rattle.alloc_spec.specs.Judging.{arrival_judgement}
 use Rattle.bus_spec.specs.declared.unlawful.Unlawful.{Unlawful}

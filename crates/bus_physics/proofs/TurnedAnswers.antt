@@ -4,7 +4,7 @@ use Rattle.std.specs.Prelude.{◌==◌, ◌||◌}
 use Rattle.std.proofs.lemmas.Bool.Decides.{eqb_tells}
 use Rattle.can_frame.specs.declared.identifier.Kind.TheVariants.{Response}
 use Rattle.raft_model.specs.Lists.{In}
-use Rattle.replay_text.specs.declared.row.Row.{Row}
+use Rattle.bus_rows.specs.declared.row.Row.{Row}
 use Rattle.transfer_rx.specs.Acceptance.{first_signature}
 use Rattle.transfer_tx.specs.Queue.{Queued}
 use Rattle.alloc_spec.specs.Accepted.{rows as accepted_rows}
@@ -13,7 +13,8 @@ use Rattle.alloc_spec.specs.Step.{Event, step}
 use Rattle.alloc_spec.specs.Transfers.{number_of}
 use Rattle.alloc_spec_laws.specs.Apart.{AreAllApart}
 use Rattle.alloc_spec_laws.specs.Responses.{ResponsesAnswer}
-use Rattle.bus_spec.specs.Cluster.{AreMembers, cluster, frame_at, world_of}
+use Rattle.alloc_spec.specs.ClusterMembers.{AreMembers}
+use Rattle.bus_spec.specs.Cluster.{cluster, frame_at, world_of}
 use Rattle.bus_spec.specs.Lawful.{AreLawful, cause, no_such_frame}
 use Rattle.alloc_spec.specs.Accepted.{is_members_service}
 use Rattle.bus_spec.specs.Refinement.{transfers_of_rows}

@@ -21,8 +21,8 @@ use Rattle.can_frame.specs.Cutting.{Piece, frames_of as pieces_of, piece_from}
 use Rattle.can_frame.specs.Kinds.{is_anonymous}
 use Rattle.raft_model.specs.Lists.{In}
 use Rattle.raft_model.specs.Runs as raft
-use Rattle.replay_text.specs.declared.row.Row.{Row}
-use Rattle.replay_text.specs.declared.row.Row.TheVariants.{ARx}
+use Rattle.bus_rows.specs.declared.row.Row.{Row}
+use Rattle.bus_rows.specs.declared.row.Row.TheVariants.{ARx}
 use Rattle.transfer_rx.specs.declared.key.Key.{Key}
 use Rattle.transfer_rx.specs.Acceptance.{first_signature, wanted}
 use Rattle.transfer_rx.specs.Keys.{key_of}
@@ -37,7 +37,8 @@ use Rattle.allocatee.specs.Accepted as device
 use Rattle.allocatee.specs.Allocatee.{Device}
 use Rattle.alloc_spec.specs.Transfers.{SentTransfer, signature_of}
 use Rattle.bus_spec.specs.declared.unlawful.Unlawful.TheVariants as unlawful
-use Rattle.bus_spec.specs.Cluster.{AreMembers, Cluster, arrival_at, frame_at}
+use Rattle.alloc_spec.specs.ClusterMembers.{AreMembers}
+use Rattle.bus_spec.specs.Cluster.{Cluster, arrival_at, frame_at}
 use Rattle.bus_spec.specs.Lawful.{cause, is_forged}
 use Rattle.bus_agreement.specs.Frames.{CameFrom}
 use Rattle.bus_agreement.specs.LawsBelow.{FrameLaws}

@@ -17,8 +17,8 @@ use Rattle.can_frame.specs.Cutting.{Piece, frame_count, frames_of as pieces_of, 
 use Rattle.can_frame.specs.Kinds.{is_anonymous}
 use Rattle.raft_model.specs.Lists.{In}
 use Rattle.raft_model.specs.Runs as raft
-use Rattle.replay_text.specs.declared.row.Row.{Row}
-use Rattle.replay_text.specs.declared.row.Row.TheVariants.{Rx}
+use Rattle.bus_rows.specs.declared.row.Row.{Row}
+use Rattle.bus_rows.specs.declared.row.Row.TheVariants.{Rx}
 use Rattle.transfer_rx.specs.declared.key.Key.{Key}
 use Rattle.transfer_rx.specs.Keys.{key_of}
 use Rattle.transfer_rx.specs.Origin.{IsIdleOrOf}
@@ -31,7 +31,8 @@ use Rattle.alloc_spec.specs.Accepted.{rows, setting_for}
 use Rattle.alloc_spec.specs.AllocatorState.{AllocatorState}
 use Rattle.alloc_spec.specs.Transfers.{SentTransfer, kind_of, number_of, signature_of}
 use Rattle.bus_spec.specs.declared.unlawful.Unlawful.TheVariants as unlawful
-use Rattle.bus_spec.specs.Cluster.{AreMembers, Cluster, arrival_at, frame_at}
+use Rattle.alloc_spec.specs.ClusterMembers.{AreMembers}
+use Rattle.bus_spec.specs.Cluster.{Cluster, arrival_at, frame_at}
 use Rattle.bus_spec.specs.Lawful.{cause, is_forged}
 use Rattle.bus_spec.specs.Members.{MemberStatus}
 use Rattle.bus_agreement.specs.Frames.{CameFrom}

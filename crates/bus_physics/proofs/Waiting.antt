@@ -5,8 +5,8 @@ use Rattle.std.proofs.lemmas.Bool.Decides.{eqb_tells}
 use Rattle.raft_log.specs.KeyDisk.{are_put, is_open_on, opening_on, puts_on}
 use Rattle.raft_model.specs.Lists.{In}
 use Rattle.raft_model.specs.Messages.{Request}
-use Rattle.replay_text.specs.declared.row.Row.{Row}
-use Rattle.replay_text.specs.declared.row.Row.TheVariants.{AEnd, AOpen, ARx, ASend, ATick, Crash, Ext, Fault, Open, Rx, Send, Tick}
+use Rattle.bus_rows.specs.declared.row.Row.{Row}
+use Rattle.bus_rows.specs.declared.row.Row.TheVariants.{AEnd, AOpen, ARx, ASend, ATick, Crash, Ext, Fault, Open, Rx, Send, Tick}
 use Rattle.alloc_spec_laws.specs.Calls.{CallsAreMade}
 use Rattle.alloc_spec_laws.proofs.DistinctTransfers.{rank}
 use Rattle.alloc_spec.specs.AllocatorState.{AllocatorState}

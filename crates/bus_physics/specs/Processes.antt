@@ -2,7 +2,7 @@
 use Rattle.std.specs.Prelude.{⊤, ◌≡◌, ◌+◌, ◌*◌, true, false, List, [], ◌∷◌, Some, None}
 use Rattle.can_frame.specs.Identifier.{identifier_of}
 use Rattle.outside.specs.declared.pattern.Pattern.TheVariants.{Old}
-use Rattle.replay_text.specs.declared.row.Row.TheVariants.{Crash, Tick}
+use Rattle.bus_rows.specs.declared.row.Row.TheVariants.{Crash, Tick}
 use Rattle.bus_spec.specs.declared.unlawful.Unlawful.{Unlawful}
 use Rattle.bus_spec.specs.Cluster.{Cluster, after_row, after_rows}
 use Rattle.bus_spec.specs.Lawful.{cause, is_forged, no_such_frame}

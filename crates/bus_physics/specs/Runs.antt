@@ -1,7 +1,8 @@
 -- A run of `node` in a trace whose rows happen at times on a physical bus.
 use Rattle.std.specs.Prelude.{◌≡◌, ◌⊎◌, ℕ, List, [], ◌++◌}
 use Rattle.alloc_spec.specs.Rules.{Rules}
-use Rattle.bus_spec.specs.Cluster.{AreMembers, cluster}
+use Rattle.alloc_spec.specs.ClusterMembers.{AreMembers}
+use Rattle.bus_spec.specs.Cluster.{cluster}
 use Rattle.cmd_node.specs.Opening.{RunInput}
 use Rattle.cmd_node_laws.specs.Processes.{Point}
 use Rattle.cmd_node_laws.specs.Stands.{IsRunIn}

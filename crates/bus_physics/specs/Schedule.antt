@@ -1,7 +1,7 @@
 -- A schedule whose rows happen at times: on a physical bus each of its rows is lawful, but where frames are lost.
 use Rattle.std.specs.Prelude.{⊤, ◌≡◌, ℕ, Bool, true, false, List, [], ◌∷◌, ◌++◌, Some}
-use Rattle.replay_text.specs.declared.row.Row.{Row}
-use Rattle.replay_text.specs.declared.row.Row.TheVariants.{ARx, Rx}
+use Rattle.bus_rows.specs.declared.row.Row.{Row}
+use Rattle.bus_rows.specs.declared.row.Row.TheVariants.{ARx, Rx}
 use Rattle.bus_spec.specs.declared.unlawful.Unlawful.{Unlawful}
 use Rattle.bus_spec.specs.declared.unlawful.Unlawful.TheVariants.{Stale, Torn}
 use Rattle.bus_spec.specs.Cluster.{Cluster, after_row, arrival_at, cluster, frame_at, world_of}

@@ -4,12 +4,13 @@ ghost use Rattle.std.specs.Prelude.{None, false, ◌≡◌, ◌⊎◌, ◌+◌, 
 ghost use Rattle.can_frame.specs.Cutting.{frame_count};
 ghost use Rattle.can_frame.specs.declared.step.What.TheVariants.{Alloc};
 ghost use Rattle.raft_model.specs.Lists.{In};
-ghost use Rattle.replay_text.specs.declared.row.Row.{Row};
+ghost use Rattle.bus_rows.specs.declared.row.Row.{Row};
 ghost use Rattle.alloc_spec.specs.Rules.{Rules};
 ghost use Rattle.alloc_spec.specs.Transfers.{SentTransfer};
-ghost use Rattle.replay_text.specs.declared.row.Row.TheVariants.{ARx, Rx};
+ghost use Rattle.bus_rows.specs.declared.row.Row.TheVariants.{ARx, Rx};
 ghost use Rattle.bus_spec.specs.declared.unlawful.Unlawful.TheVariants.{Stale, Torn};
-ghost use Rattle.bus_spec.specs.Cluster.{AreMembers, arrival_at, cluster, frame_at, world_of};
+ghost use Rattle.alloc_spec.specs.ClusterMembers.{AreMembers};
+ghost use Rattle.bus_spec.specs.Cluster.{arrival_at, cluster, frame_at, world_of};
 ghost use Rattle.bus_spec.specs.Lawful.{AreLawful, cause, no_such_frame};
 ghost use Rattle.bus_spec.specs.Refinement.{transfers_of_rows};
 ghost use Rattle.bus_physics.specs.Physics.{AllComeInTurn, ComesInTurn, ComesOnce};

@@ -6,8 +6,8 @@ use Rattle.kv_store.specs.KeyDisk.{restarted_on}
 use Rattle.raft_core.specs.StoredPuts.{store_of}
 use Rattle.raft_log.specs.Stored.{Stored}
 use Rattle.raft_model.specs.Server.{Store}
-use Rattle.replay_text.specs.declared.row.Row.{Row}
-use Rattle.replay_text.specs.declared.row.Row.TheVariants.{Crash}
+use Rattle.bus_rows.specs.declared.row.Row.{Row}
+use Rattle.bus_rows.specs.declared.row.Row.TheVariants.{Crash}
 use Rattle.bus_spec.specs.Cluster.{Cluster, after_row}
 use Rattle.bus_spec.specs.Members.{Failure, MemberStatus, stored_after}
 use Rattle.bus_spec.specs.Members.MemberStatus.{Down, Up, Failed}

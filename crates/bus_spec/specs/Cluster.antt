@@ -1,12 +1,10 @@
 -- The world of a list of rows: the members of a cluster, the allocatees that are there, and the frames of their bus;
 -- and the world that a lawful row leaves. The rows that are taken are numbered from 1; where a row is a step, its
 -- number is the number of the step.
-use Rattle.std.specs.Prelude.{ℕ, ◌≤◌, ◌+◌, ◌-◌, ◌==◌, Bool, List, [], ◌∷◌, ◌++◌, length, slice_index_or, Option, Some, None, if◌then◌else◌}
-use Rattle.can_frame.specs.Sizes.{most_members}
-use Rattle.raft_model.specs.Lists.{In, any, at}
-use Rattle.raft_model.specs.Members.{HasNoneTwice}
-use Rattle.replay_text.specs.declared.row.Row.{Row}
-use Rattle.replay_text.specs.declared.row.Row.TheVariants.{Open, Tick, Rx, Send, Ext, Crash, Fault, AOpen, ATick, ARx, ASend, AEnd}
+use Rattle.std.specs.Prelude.{ℕ, ◌+◌, ◌-◌, ◌==◌, Bool, List, [], ◌∷◌, ◌++◌, length, slice_index_or, Option, Some, None, if◌then◌else◌}
+use Rattle.raft_model.specs.Lists.{any, at}
+use Rattle.bus_rows.specs.declared.row.Row.{Row}
+use Rattle.bus_rows.specs.declared.row.Row.TheVariants.{Open, Tick, Rx, Send, Ext, Crash, Fault, AOpen, ATick, ARx, ASend, AEnd}
 use Rattle.allocatee.specs.Allocatee.{Device, opening}
 use Rattle.allocatee.specs.Allocatee as device
 use Rattle.transfer_rx.specs.Reassembly.{Arrival}
@@ -15,17 +13,6 @@ use Rattle.alloc_spec.specs.Rules.{Rules, rules_by}
 use Rattle.alloc_spec.specs.Step.{Event}
 use Rattle.bus_spec.specs.Allocatees.{after_sending_from, next_from, device_after_step}
 use Rattle.bus_spec.specs.Members.{Member, after_sending, after_crash, with_failure_armed, fresh_member, next_frame, after_opening, member_after_step}
-
--- node IDs of 1 to 125
-abbrev pub AreNodes : List ℕ → Type 0
-AreNodes ids = (n : ℕ) → In n ids → (1 ≤ n) × (n ≤ 125)
-
--- 1 to 5 members, with different node IDs
-pub record AreMembers (ids : List ℕ) : Type 0 where
-  pub some : 1 ≤ length ids
-  pub few : length ids ≤ most_members
-  pub nodes : AreNodes ids
-  pub once : HasNoneTwice ids
 
 -- The world: the members by their node IDs, the allocatees by their numbers, the bus, and how many rows have been taken.
 -- Of a member that is not on the list no row is lawful.

@@ -9,7 +9,7 @@ use Rattle.raft_log.specs.KeyDisk.{are_put}
 use Rattle.raft_log.specs.Stored.{Stored}
 use Rattle.raft_model.specs.Lists.{In}
 use Rattle.raft_model.specs.Server.{committed}
-use Rattle.replay_text.specs.declared.row.Row.{Row}
+use Rattle.bus_rows.specs.declared.row.Row.{Row}
 use Rattle.alloc_spec.specs.Delivered.{StepResult}
 use Rattle.alloc_spec.specs.StepState.{pairs}
 use Rattle.alloc_spec.specs.Step.{Event, step}

@@ -1,18 +1,16 @@
--- What each row tells, and the report of a list of rows.
-use Rattle.std.specs.Prelude.{ℕ, zero, suc, ◌+◌, ◌==◌, nat_lt, List, [], ◌∷◌, ◌++◌, length, codes, decimal, if◌then◌else◌, Option, Some, None}
-use Rattle.std.specs.Option.{option_and_then, option_map, option_map_or}
-use Rattle.hex.specs.Hex.{encode_lower}
+-- What each row tells, and what a member shows.
+use Rattle.std.specs.Prelude.{ℕ, ◌+◌, ◌==◌, nat_lt, List, length, if◌then◌else◌, Option, Some, None}
+use Rattle.std.specs.Option.{option_and_then, option_map}
 use Rattle.can_frame.specs.declared.entry.Entry.{Entry}
 use Rattle.can_frame.specs.declared.step.Seen.{Seen}
 use Rattle.can_frame.specs.declared.step.Sent.{Sent}
 use Rattle.kv_store.specs.KeyDisk.{KeyDisk}
 use Rattle.raft_log.specs.KeyDisk.{are_put, is_open_on, opening_on, puts_on}
 use Rattle.raft_log.specs.Stored.{Stored}
-use Rattle.raft_model.specs.Server.{Store, committed}
-use Rattle.replay_text.specs.declared.row.Row.{Row}
-use Rattle.replay_text.specs.declared.row.Row.TheVariants.{Open, Tick, Rx, Send, Ext, Crash, Fault, AOpen, ATick, ARx, ASend, AEnd}
-use Rattle.replay_text.specs.ReportLine.{ReportLine, text_of_line}
-use Rattle.replay_text.specs.ReportLine.ReportLine.{HasOpened, HasStepped, HasFailed, HasStopped, WasArmed, HasSent, CameFromOutside, HasCome, HasAsked, HasPut, HasLeft}
+use Rattle.bus_rows.specs.declared.row.Row.{Row}
+use Rattle.bus_rows.specs.declared.row.Row.TheVariants.{Open, Tick, Rx, Send, Ext, Crash, Fault, AOpen, ATick, ARx, ASend, AEnd}
+use Rattle.bus_rows.specs.ReportLine.{ReportLine}
+use Rattle.bus_rows.specs.ReportLine.ReportLine.{HasOpened, HasStepped, HasFailed, HasStopped, WasArmed, HasSent, CameFromOutside, HasCome, HasAsked, HasPut, HasLeft}
 use Rattle.allocatee.specs.Allocatee as device
 use Rattle.allocatee.specs.Allocatee.{Device}
 use Rattle.transfer_tx.specs.Queue.{Queued}
@@ -22,7 +20,7 @@ use Rattle.alloc_spec.specs.StepState.{listing_of}
 use Rattle.alloc_spec.specs.Step.{Event, step}
 use Rattle.alloc_spec.specs.AllocatorState.{AllocatorState, entry_of as allocator_entry, view_of}
 use Rattle.bus_spec.specs.Allocatees.{next_from}
-use Rattle.bus_spec.specs.Cluster.{Cluster, cluster, is_member, after_row, receipt_at, receipt_of, tick_of, world_of}
+use Rattle.bus_spec.specs.Cluster.{Cluster, is_member, receipt_at, receipt_of, tick_of}
 use Rattle.bus_spec.specs.Members.{MemberStatus, Member, next_frame, puts_of, server_of}
 use Rattle.bus_spec.specs.Members.MemberStatus.{Down, Up, Failed}
 
@@ -115,50 +113,3 @@ running_entry status place = option_and_then (λ server. entry_in server place) 
 
 abbrev pub entry_of : Cluster → ℕ → ℕ → Option Entry
 entry_of w n place = if is_member w.ids n then running_entry (w.member n).status place else None
-
--- ---- the report
-
--- the lines of rows, the first of them with the number after that of the rows before
-abbrev pub row_lines : Cluster → List Row → List ℕ
-row_lines w [] = []
-row_lines w (row ∷ rows) = text_of_line (w.rows + 1) (line_of_row w row) ++ row_lines (after_row w row) rows
-
--- an entry at its place, counted from 1
-abbrev pub entry_line : ℕ → Entry → List ℕ
-entry_line place entry =
-    decimal place ++ codes " " ++ decimal entry.node ++ codes " " ++ encode_lower entry.uid ++ codes "\n"
-
-abbrev pub entry_lines : ℕ → List Entry → List ℕ
-entry_lines place [] = []
-entry_lines place (entry ∷ entries) = entry_line place entry ++ entry_lines (suc place) entries
-
--- the log of a member: its commit index, and a line for each committed entry
-abbrev pub log_lines_of : ℕ → Store → List ℕ
-log_lines_of n store =
-    codes "log " ++ decimal n ++ codes " " ++ decimal store.commit ++ codes "\n" ++ entry_lines 1 (committed store)
-
-abbrev pub running_lines : ℕ → MemberStatus → List ℕ
-running_lines n status = option_map_or (λ server. log_lines_of n server.raft_server.store) (server_of status) []
-
-abbrev pub member_lines : Cluster → ℕ → List ℕ
-member_lines w n = if is_member w.ids n then running_lines n (w.member n).status else []
-
--- by rising node ID: the logs of so many nodes from this one on
-abbrev pub log_lines : Cluster → ℕ → ℕ → List ℕ
-log_lines w n zero = []
-log_lines w n (suc more) = member_lines w n ++ log_lines w (suc n) more
-
-abbrev pub end_line : ℕ → List ℕ
-end_line rows = codes "end " ++ decimal rows ++ codes "\n"
-
--- the logs of all members that run and have not failed
-unfoldable pub all_logs : Cluster → List ℕ
-all_logs w = log_lines w 1 125
-
--- the logs, and then how many rows there were
-abbrev pub end_lines : Cluster → List ℕ
-end_lines w = all_logs w ++ end_line w.rows
-
--- of lawful rows
-abbrev pub report : List ℕ → List Row → List ℕ
-report ids rows = row_lines (cluster ids) rows ++ end_lines (world_of ids rows)

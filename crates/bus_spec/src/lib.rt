@@ -6,14 +6,12 @@
 //! shows (`Refinement`), what members have committed and offer (`Logs`), and that each keeps its word
 //! (`OwnLogs`). `bus_world` shows that its code is this very world.
 //!
-//! The code here is what its users share: the causes of a refusal ([`Unlawful`]), the test of a cluster's node IDs
-//! ([`are_members`]), and what a step tells ([`told_of_step`]).
+//! The code here is what its users share: the causes of a refusal ([`Unlawful`]), and what a step tells
+//! ([`told_of_step`]).
 #![tactic(auto)]
 
-mod members;
 mod told;
 mod unlawful;
 
-pub use members::are_members;
 pub use told::told_of_step;
 pub use unlawful::{Unlawful, WorldFault};

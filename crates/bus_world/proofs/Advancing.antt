@@ -22,7 +22,7 @@ use Rattle.alloc_spec.specs.AllocatorState.{AllocatorState}
 use Rattle.alloc_server.specs.declared.server.Server.{Server}
 use Rattle.alloc_server.specs.Server.{StepsTo, disk_of, durable_of, fault_of}
 use Rattle.bus_spec.specs.Report.{line_of_failure, line_of_outcome}
-use Rattle.replay_text.specs.ReportLine.ReportLine.{HasFailed, HasStopped}
+use Rattle.bus_rows.specs.ReportLine.ReportLine.{HasFailed, HasStopped}
 use Rattle.bus_world.specs.OnDisk.{IsClosedOn, IsUpOn}
 
 abbrev pub LawOfMemberPuts : Ghosts MemoryDisk → Type 0

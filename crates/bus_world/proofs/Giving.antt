@@ -13,8 +13,8 @@ use Rattle.raft_log.specs.KeyDisk.{are_put, puts_on}
 use Rattle.raft_log.specs.Stored.{Stored}
 use Rattle.raft_model.specs.Lists.{In, at, at_here}
 use Rattle.raft_model.specs.Server.{Store, committed}
-use Rattle.replay_text.specs.declared.row.Row.{Row}
-use Rattle.replay_text.specs.declared.row.Row.TheVariants.{Open, Tick, Rx, Send, Ext, Crash, Fault, AOpen, ATick, ARx, ASend, AEnd}
+use Rattle.bus_rows.specs.declared.row.Row.{Row}
+use Rattle.bus_rows.specs.declared.row.Row.TheVariants.{Open, Tick, Rx, Send, Ext, Crash, Fault, AOpen, ATick, ARx, ASend, AEnd}
 use Rattle.alloc_spec_laws.specs.Giving as law
 use Rattle.alloc_spec.specs.StepState.{StepState, pairs}
 use Rattle.alloc_spec.specs.Step.{Event, step}

@@ -20,8 +20,8 @@ use Rattle.bus_spec.specs.Cluster.{rules_of}
 use Rattle.bus_spec.specs.Members.{Member as MemberState, MemberStatus, after_opening, is_running, stopped_with}
 use Rattle.bus_spec.specs.Members.MemberStatus.{Down, Up, Failed}
 use Rattle.bus_spec.specs.Report.{line_of_failure, line_of_opening, line_of_stored}
-use Rattle.replay_text.specs.ReportLine.{ReportLine}
-use Rattle.replay_text.specs.ReportLine.ReportLine.{HasOpened}
+use Rattle.bus_rows.specs.ReportLine.{ReportLine}
+use Rattle.bus_rows.specs.ReportLine.ReportLine.{HasOpened}
 use Rattle.bus_world.specs.OnDisk.{IsUpOn}
 use Rattle.bus_world.specs.Places.{HasStatus}
 use Rattle.bus_world.specs.declared.place.Place.{Place}

@@ -13,8 +13,8 @@ use Rattle.alloc_server.specs.Server.{disk_of}
 use Rattle.bus_spec.specs.Members.{MemberStatus, Member as MemberState, after_cut_off, is_running, puts_of, member_after_step, stopped_with}
 use Rattle.bus_spec.specs.Members.MemberStatus.{Down, Up, Failed}
 use Rattle.bus_spec.specs.Report.{line_of_failure, line_of_step, line_of_view}
-use Rattle.replay_text.specs.ReportLine.{ReportLine, is_stop}
-use Rattle.replay_text.specs.ReportLine.ReportLine.{HasFailed, HasStopped}
+use Rattle.bus_rows.specs.ReportLine.{ReportLine, is_stop}
+use Rattle.bus_rows.specs.ReportLine.ReportLine.{HasFailed, HasStopped}
 use Rattle.bus_world.specs.OnDisk.{HasFailedOn, IsClosedOn, IsUpOn}
 use Rattle.bus_world.specs.Places.{HasStatus}
 use Rattle.bus_world.specs.declared.place.Place.{Place}

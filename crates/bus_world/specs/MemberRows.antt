@@ -1,12 +1,12 @@
 -- What a row for the members answers and leaves, for every state that they stand for.
 use Rattle.std.specs.Prelude.{◌≡◌, ◌≤◌, ◌+◌, None, Some, length}
-use Rattle.replay_text.specs.declared.row.Row.{Row}
-use Rattle.replay_text.specs.declared.told.Told.{Told}
+use Rattle.bus_rows.specs.declared.row.Row.{Row}
+use Rattle.bus_rows.specs.declared.told.Told.{Told}
 use Rattle.bus_spec.specs.declared.unlawful.Unlawful.{Unlawful}
 use Rattle.bus_spec.specs.Cluster.{Cluster, effect_of}
 use Rattle.bus_spec.specs.Lawful.{cause}
 use Rattle.bus_spec.specs.Report.{line_of_row as told_by}
-use Rattle.replay_text.specs.ReportLine.{report_line_of}
+use Rattle.bus_rows.specs.ReportLine.{report_line_of}
 use Rattle.bus_world.specs.Members.{Holds, StandsFor}
 use Rattle.bus_world.specs.declared.members.Members.{Members}
 

@@ -2,7 +2,8 @@
 use Rattle.std.specs.Prelude.{◌≡◌, ◌==◌, ℕ, ◌-◌, ◌<◌, List, length, map, position, Option, slice_index_or}
 use Rattle.transfer_tx.specs.declared.marked.Marked.{Marked}
 use Rattle.transfer_tx.specs.Views.{queued_of}
-use Rattle.bus_spec.specs.Cluster.{AreMembers, Cluster}
+use Rattle.alloc_spec.specs.ClusterMembers.{AreMembers}
+use Rattle.bus_spec.specs.Cluster.{Cluster}
 use Rattle.bus_spec.specs.Members.{Member as MemberState}
 use Rattle.bus_world.specs.Stands.{StandsFor as StandsForMember}
 use Rattle.bus_world.specs.declared.member.Member.{Member}

@@ -1,12 +1,12 @@
 -- What a row of a world answers and leaves, for every state that the world stands for.
 use Rattle.std.specs.Prelude.{◌≡◌, None, Some}
-use Rattle.replay_text.specs.declared.row.Row.{Row}
-use Rattle.replay_text.specs.declared.told.Told.{Told}
+use Rattle.bus_rows.specs.declared.row.Row.{Row}
+use Rattle.bus_rows.specs.declared.told.Told.{Told}
 use Rattle.bus_spec.specs.declared.unlawful.Unlawful.{Unlawful}
 use Rattle.bus_spec.specs.Cluster.{Cluster, effect_of}
 use Rattle.bus_spec.specs.Lawful.{cause}
 use Rattle.bus_spec.specs.Report.{line_of_row as told_by}
-use Rattle.replay_text.specs.ReportLine.{report_line_of}
+use Rattle.bus_rows.specs.ReportLine.{report_line_of}
 use Rattle.bus_world.specs.MemberRows as members
 use Rattle.bus_world.specs.Members.{Holds}
 use Rattle.bus_world.specs.Seats.{AreSeatsOf}

@@ -1,7 +1,7 @@
 //! The rows that are for one allocatee.
 
 ghost use Rattle.std.specs.Prelude.{◌≡◌, ◌<◌, suc, None, Some, IfOk, IfErr, IsErr, OnOk, length};
-ghost use Rattle.replay_text.specs.declared.row.Row.TheVariants.{AOpen, ATick, ARx, ASend, AEnd};
+ghost use Rattle.bus_rows.specs.declared.row.Row.TheVariants.{AOpen, ATick, ARx, ASend, AEnd};
 ghost use Rattle.allocatee.specs.Stands.{event_of};
 ghost use Rattle.bus_spec.specs.Cluster.{Cluster, receipt_at};
 ghost use Rattle.bus_spec.specs.Lawful.{absent, cause, no_allocatee, or_else, present};
@@ -10,9 +10,9 @@ ghost use Rattle.bus_spec.specs.Receivers.{AllocateeReceives};
 use crate::rows::copy_of;
 use crate::world::World;
 use allocatee::AEvent;
+use bus_rows::Told;
 use bus_spec::Unlawful;
 use can_frame::{Judged, Kind, Uid};
-use replay_text::Told;
 
 impl<F: Fn(Kind, u16) -> Option<u64> + Copy, G: Fn(Kind, u16) -> Option<u64> + Copy> World<F, G> {
     ghost use Rattle.bus_world.specs.Rows.{Keeps, Leaves, Refuses, Tells};

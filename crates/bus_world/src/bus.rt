@@ -2,7 +2,7 @@
 
 ghost use Rattle.std.specs.Prelude.{◌≡◌, ◌≤◌, ◌<◌, ◌+◌, ◌++◌, ◌∷◌, [], None, Some, IfOk, IfErr, IsErr, OnOk, length, vec_capacity};
 ghost use Rattle.can_frame.specs.Identifier.{identifier_of};
-ghost use Rattle.replay_text.specs.declared.row.Row.TheVariants.{Rx, Send, Ext};
+ghost use Rattle.bus_rows.specs.declared.row.Row.TheVariants.{Rx, Send, Ext};
 ghost use Rattle.alloc_server.specs.Server.{event_of};
 ghost use Rattle.bus_spec.specs.Cluster.{Cluster, receipt_of};
 ghost use Rattle.bus_spec.specs.Lawful.{cause, is_forged, no_node, not_running, or_else};
@@ -11,9 +11,9 @@ ghost use Rattle.bus_spec.specs.Receivers.{MemberReceives};
 use crate::members::Members;
 use alloc_server::Event;
 use alloc_spec::is_of_members;
+use bus_rows::Told;
 use bus_spec::Unlawful;
 use can_frame::{Frame, Ident, Judged, Kind, Mark};
-use replay_text::Told;
 use transfer_tx::Marked;
 
 impl<F: Fn(Kind, u16) -> Option<u64> + Copy> Members<F> {

@@ -13,8 +13,8 @@ ghost use Rattle.bus_spec.specs.Members.{Member as MemberState, after_sending, w
 ghost use Rattle.bus_spec.specs.Members.MemberStatus.{Down};
 ghost use Rattle.bus_spec.specs.Receivers.{MemberReceives};
 ghost use Rattle.bus_spec.specs.Report.{line_of_failure, running_entry, running_view, line_of_opening, line_of_step};
-ghost use Rattle.replay_text.specs.ReportLine.{is_stop, report_line_of};
-ghost use Rattle.replay_text.specs.ReportLine.ReportLine.{HasOpened, HasStopped, WasArmed};
+ghost use Rattle.bus_rows.specs.ReportLine.{is_stop, report_line_of};
+ghost use Rattle.bus_rows.specs.ReportLine.ReportLine.{HasOpened, HasStopped, WasArmed};
 ghost use Rattle.bus_world.specs.Patterns.{IsFilled};
 
 use crate::patterns::copy_of;
@@ -22,6 +22,7 @@ use crate::place::Place;
 use crate::steps::advance;
 use alloc_server::{Event, Server, View};
 use arrayvec::ArrayVec;
+use bus_rows::Told;
 use can_frame::{Entry, Frame, Judged, Kind, Mark};
 use disk_model::{IMAGE, MemoryDisk};
 use outside::Pattern;
@@ -29,7 +30,6 @@ use raft_log::laws::{
     a_member_on_the_disk_by_states, an_image_stands_for_one_state, the_disk_by_states,
     zeros_are_the_first_state,
 };
-use replay_text::Told;
 use transfer_rx::AcceptRow;
 use transfer_tx::Marked;
 

@@ -2,7 +2,7 @@
 
 ghost use Rattle.std.specs.Prelude.{◌≡◌, ◌<◌, ◌≤◌, length, IfOk, IfErr, IsErr, OnOk};
 ghost use Rattle.can_frame.specs.Sizes.{blocks, most_members, sessions};
-ghost use Rattle.replay_text.specs.declared.row.Row.TheVariants.{Open, Tick, Crash, Fault};
+ghost use Rattle.bus_rows.specs.declared.row.Row.TheVariants.{Open, Tick, Crash, Fault};
 ghost use Rattle.transfer_rx.specs.Memory.{ReceiverFitsInMemory};
 ghost use Rattle.bus_world.specs.Members.{ids_of};
 ghost use Rattle.bus_world.specs.Patterns.{IsFilled};
@@ -13,11 +13,11 @@ use crate::member::Member;
 use crate::members::Members;
 use alloc_server::Event;
 use arrayvec::ArrayVec;
+use bus_rows::Told;
 use bus_spec::Unlawful;
 use can_frame::Kind;
 use can_frame::sizes::MOST_MEMBERS;
 use outside::Pattern;
-use replay_text::Told;
 use transfer_rx::AcceptRow;
 
 impl<F: Fn(Kind, u16) -> Option<u64> + Copy> Members<F> {

@@ -8,13 +8,13 @@ ghost use Rattle.bus_spec.specs.Allocatees.{after_sending_from, next_from, devic
 ghost use Rattle.bus_spec.specs.Lawful.{arrival_refusal_at, cause_of_judgement};
 ghost use Rattle.bus_spec.specs.Receivers.{AllocateeReceives};
 ghost use Rattle.bus_spec.specs.Report.{line_of_step_at};
-ghost use Rattle.replay_text.specs.ReportLine.{report_line_of};
-ghost use Rattle.replay_text.specs.ReportLine.ReportLine.{HasCome, HasLeft};
+ghost use Rattle.bus_rows.specs.ReportLine.{report_line_of};
+ghost use Rattle.bus_rows.specs.ReportLine.ReportLine.{HasCome, HasLeft};
 
 use allocatee::{AEvent, Allocatee};
 use arrayvec::ArrayVec;
+use bus_rows::Told;
 use can_frame::{Frame, Judged, Kind, Mark, Uid};
-use replay_text::Told;
 use transfer_rx::AcceptRow;
 use transfer_tx::Marked;
 

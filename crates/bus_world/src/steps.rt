@@ -8,16 +8,16 @@ ghost use Rattle.alloc_spec.specs.AllocatorState.{AllocatorState, view_of};
 ghost use Rattle.alloc_server.specs.Server.{accepts, event_of};
 ghost use Rattle.bus_spec.specs.Receivers.{MemberReceives};
 ghost use Rattle.bus_spec.specs.Report.{line_of_failure, line_of_view};
-ghost use Rattle.replay_text.specs.ReportLine.{report_line_of};
-ghost use Rattle.replay_text.specs.ReportLine.ReportLine.{HasFailed};
+ghost use Rattle.bus_rows.specs.ReportLine.{report_line_of};
+ghost use Rattle.bus_rows.specs.ReportLine.ReportLine.{HasFailed};
 ghost use Rattle.bus_world.specs.OnDisk.{HasFailedOn, IsClosedOn, IsUpOn};
 
 use alloc_server::{Event, Server};
+use bus_rows::Told;
 use bus_spec::told_of_step;
 use can_frame::Kind;
 use disk_model::MemoryDisk;
 use raft_log::laws::a_member_on_the_disk_by_states;
-use replay_text::Told;
 
 /// A step of a server that runs: what it tells. Where its disk cut it off, the server has failed.
 pub(crate) fn advance<F: Fn(Kind, u16) -> Option<u64> + Copy>(

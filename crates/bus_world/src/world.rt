@@ -1,20 +1,21 @@
 ghost use Rattle.std.specs.Prelude.{◌≡◌, ◌≤◌, ◌<◌, ◌+◌, ◌++◌, ◌∷◌, ◌↔◌, ◌^◌, ℕ, List, [], None, Some, IfOk, IfErr, IfSome, IsErr, OnOk, length, slice_index_or};
 ghost use Rattle.disk_model.specs.Pattern.{IsUsable};
 ghost use Rattle.outside.specs.declared.pattern.Pattern.{Pattern};
-ghost use Rattle.replay_text.specs.declared.row.Row.{Row};
-ghost use Rattle.replay_text.specs.declared.row.Row.TheVariants.{AOpen, Crash};
+ghost use Rattle.bus_rows.specs.declared.row.Row.{Row};
+ghost use Rattle.bus_rows.specs.declared.row.Row.TheVariants.{AOpen, Crash};
 ghost use Rattle.allocatee.specs.Accepted as device;
 ghost use Rattle.alloc_spec.specs.Accepted as accepted;
 ghost use Rattle.bus_agreement.specs.Allocatees.{HasAllocatees};
 ghost use Rattle.bus_agreement.specs.Duty.{AreDutiful};
 ghost use Rattle.bus_agreement.specs.Headline.{HasHeadline};
 ghost use Rattle.bus_agreement.specs.Safe.{AreSafe};
-ghost use Rattle.bus_spec.specs.Cluster.{AreMembers, Cluster, cluster, after_row, world_of};
+ghost use Rattle.alloc_spec.specs.ClusterMembers.{AreMembers};
+ghost use Rattle.bus_spec.specs.Cluster.{Cluster, cluster, after_row, world_of};
 ghost use Rattle.bus_spec.specs.Lawful.{AreLawful, cause};
 ghost use Rattle.bus_spec.specs.OwnLogs.{OffersItsOwn};
 ghost use Rattle.bus_spec.specs.Receivers.{AllocateeReceives, MemberReceives};
 ghost use Rattle.bus_spec.specs.Report.{entry_of, line_of_row as told_by, view_at};
-ghost use Rattle.replay_text.specs.ReportLine.{report_line_of};
+ghost use Rattle.bus_rows.specs.ReportLine.{report_line_of};
 ghost use Rattle.bus_spec.specs.declared.unlawful.WorldFault.TheVariants.{BadIds};
 ghost use Rattle.bus_world.specs.Seats.{Accepts, AreEmpty};
 ghost use Rattle.bus_world.specs.declared.seat.Seat.{Seat};
@@ -28,9 +29,9 @@ use bus_agreement::allocatees::the_allocatees;
 use bus_agreement::headline::{
     lawful_rows_do_no_harm, rows_are_dutiful, rows_are_safe, rows_grow_by_one, the_headline,
 };
+use bus_rows::{Row, Told};
 use bus_spec::{Unlawful, WorldFault};
 use can_frame::{Entry, Kind};
-use replay_text::{Row, Told};
 use std::alloc::Global;
 use transfer_rx::AcceptRow;
 

@@ -1,8 +1,8 @@
 -- Rows that a world may be given.
 use Rattle.std.specs.Prelude.{◌<◌, ⊤}
 use Rattle.disk_model.specs.Pattern.{IsUsable}
-use Rattle.replay_text.specs.declared.row.Row.{Row}
-use Rattle.replay_text.specs.declared.row.Row.TheVariants.{Open, Tick, Rx, Send, Ext, Crash, Fault, AOpen, ATick, ARx, ASend, AEnd}
+use Rattle.bus_rows.specs.declared.row.Row.{Row}
+use Rattle.bus_rows.specs.declared.row.Row.TheVariants.{Open, Tick, Rx, Send, Ext, Crash, Fault, AOpen, ATick, ARx, ASend, AEnd}
 
 -- a pattern of bytes has one at least, and a node ID that is preferred is below 128
 abbrev pub HasPattern : Row → Type 0

@@ -10,7 +10,7 @@ ghost use Rattle.bus_world_tests.specs.Rows.{HasPattern};
 use bus_world::World;
 use can_frame::Kind;
 use outside::Pattern;
-use replay_text::{Row, Told};
+use bus_rows::{Row, Told};
 
 /// What an allocator receives.
 pub(crate) fn accept(kind: Kind, number: u16) -> Option<u64>

@@ -6,7 +6,8 @@ use arrayvec::ArrayVec;
 use bus_world::World;
 use can_frame::Kind;
 use outside::Pattern;
-use replay_text::{Row, Told, read_row};
+use bus_rows::{Row, Told};
+use replay_text::read_row;
 
 /// What is armed at a member.
 #[derive(Clone, Copy)]

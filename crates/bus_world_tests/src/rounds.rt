@@ -7,7 +7,8 @@ use crate::play::{Course, take};
 use crate::schedule::REQUESTS;
 use bus_world::World;
 use can_frame::Kind;
-use replay_text::{Row, read_row};
+use bus_rows::Row;
+use replay_text::read_row;
 
 /// How many frames the rounds may take.
 pub(crate) const ROOM: usize = 1000;

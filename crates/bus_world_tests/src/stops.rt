@@ -5,7 +5,7 @@ use crate::schedule::WORKED_CLUSTER;
 use alloc_spec::accept_rows;
 use allocatee::allocatee_rows;
 use bus_world::World;
-use replay_text::Row;
+use bus_rows::Row;
 use std::alloc::Global;
 use std::test::Fail;
 

@@ -4,7 +4,7 @@ use Rattle.std.specs.Prelude.{◌==◌, ◌↔◌, ◌||◌, IsTrue, min}
 use Rattle.std.specs.List.{list_any}
 use Rattle.std.proofs.lemmas.Bool.Decides.{eqb_tells, leb_tells}
 use Rattle.alloc_spec.specs.Rules.{IsToldAll, rules_by}
-use Rattle.bus_spec.specs.Cluster.{AreMembers}
+use Rattle.alloc_spec.specs.ClusterMembers.{AreMembers}
 use Rattle.raft_model.specs.Lists.{In}
 
 is_in : (xs : List ℕ) (x : ℕ) → list_any (λ y. y == x) xs ≡ true → In x xs

@@ -7,7 +7,7 @@ ghost use Rattle.raft_model.specs.Lists.{In};
 ghost use Rattle.transfer_rx.specs.Acceptance.{first_signature};
 
 use alloc_server::{Event, Role, Server, accept_rows};
-use bus_spec::are_members;
+use alloc_spec::are_members;
 use c_disk::FdDisk;
 use can_frame::sizes::MOST_MEMBERS;
 use can_frame::{Entry, Kind};

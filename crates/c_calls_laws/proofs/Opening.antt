@@ -6,7 +6,7 @@ use Rattle.raft_core.specs.StoredPuts.{store_of}
 use Rattle.raft_log.specs.KeyDisk.{opening_on}
 use Rattle.raft_log.specs.Stored.{Put, Stored, after_puts, opening_puts}
 use Rattle.raft_model.specs.Server.{Store}
-use Rattle.replay_text.specs.declared.row.Row.TheVariants.{Open}
+use Rattle.bus_rows.specs.declared.row.Row.TheVariants.{Open}
 use Rattle.alloc_ghost_erasure.specs.Unmarked.{unmarked_server}
 use Rattle.alloc_spec.specs.AllocatorState.{AllocatorState}
 use Rattle.alloc_spec.specs.Rules.{Rules, opening_by}

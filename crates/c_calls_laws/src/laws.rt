@@ -1,10 +1,11 @@
 //! Laws of the definitions, each the contract of a function that does nothing.
 
 ghost use Rattle.std.specs.Prelude.{◌≡◌, ◌∷◌, ◌++◌, [], ℕ, suc, false, true, List, length, map};
-ghost use Rattle.replay_text.specs.declared.row.Row.{Row};
-ghost use Rattle.replay_text.specs.declared.row.Row.TheVariants.{Open};
+ghost use Rattle.bus_rows.specs.declared.row.Row.{Row};
+ghost use Rattle.bus_rows.specs.declared.row.Row.TheVariants.{Open};
 ghost use Rattle.bus_agreement.specs.Headline.{HasHeadline};
-ghost use Rattle.bus_spec.specs.Cluster.{AreMembers, Cluster, after_row, after_rows, cluster, world_of};
+ghost use Rattle.alloc_spec.specs.ClusterMembers.{AreMembers};
+ghost use Rattle.bus_spec.specs.Cluster.{Cluster, after_row, after_rows, cluster, world_of};
 ghost use Rattle.bus_spec.specs.Lawful.{DoNoHarm};
 ghost use Rattle.cmd_node_laws.specs.Mirrored.{sent_by};
 ghost use Rattle.c_calls.specs.declared.node.Node.{Node};

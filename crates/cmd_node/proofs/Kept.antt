@@ -2,8 +2,9 @@
 use Rattle.std.proofs.Common.{◌≡◌, ℕ, ◌+◌, ◌-◌, ◌<◌, suc, List, [], ◌∷◌, ◌++◌, length, map, drop, refl, sym, ap, ◌∙◌, append_assoc, length-append, length-drop, arith}
 use Rattle.std.proofs.lemmas.List.{drop-append-le, drop-drop, drop-map, length-map, map-append}
 use Rattle.std.specs.Prelude.{Some, None, slice_get}
-use Rattle.replay_text.specs.declared.told.Told.{Told}
-use Rattle.replay_text.specs.ReportLine.{report_line_of, text_of_line}
+use Rattle.bus_rows.specs.declared.told.Told.{Told}
+use Rattle.bus_rows.specs.ReportLine.{report_line_of}
+use Rattle.replay_text.specs.ReportText.{text_of_line}
 use Rattle.cmd_node.specs.Report.{joined, last_lines}
 use Rattle.cmd_node.specs.Kept.{kept_line}
 use Rattle.cmd_node.specs.declared.step.NumberedStep.{NumberedStep}

@@ -2,7 +2,7 @@
 use Rattle.std.specs.Prelude.{ℕ, ◌-◌, List, [], ◌++◌, length, drop, flat_map, codes, decimal}
 use Rattle.cmd_io.specs.declared.status.Status.{Status}
 use Rattle.cmd_io.specs.declared.status.Status.TheVariants.{LinkFault, DiskFault, Damaged}
-use Rattle.bus_spec.specs.Report.{end_line}
+use Rattle.replay_text.specs.Report.{end_line}
 
 -- a run reports so many steps at most, the last ones
 abbrev pub steps_told : ℕ

@@ -12,7 +12,7 @@ use Rattle.alloc_spec.specs.Step.{Event, Tick, after_pop, step}
 use Rattle.alloc_spec.specs.AllocatorState.{AllocatorState, view_of}
 use Rattle.transfer_tx.specs.Queue.{Queued, next_out}
 use Rattle.bus_spec.specs.Report.{line_of_view}
-use Rattle.replay_text.specs.ReportLine.{text_of_line}
+use Rattle.replay_text.specs.ReportText.{text_of_line}
 use Rattle.cmd_node.specs.Frames.{event_in, raw_of}
 
 -- an allocator that runs: its server, what its disk has stored, where the generator of its words stands, the items that

@@ -6,7 +6,7 @@ ghost use Rattle.outside.specs.Faults.{Rose};
 ghost use Rattle.cmd_io.specs.Output.{WritesFront};
 ghost use Rattle.alloc_spec.specs.Accepted as accepted;
 ghost use Rattle.transfer_rx.specs.Acceptance.{first_signature};
-ghost use Rattle.bus_spec.specs.Cluster.{AreMembers};
+ghost use Rattle.alloc_spec.specs.ClusterMembers.{AreMembers};
 ghost use Rattle.bus_spec.specs.Receivers.{MemberReceives};
 ghost use Rattle.alloc_spec.specs.Rules.{rules_by};
 ghost use Rattle.cmd_node.specs.Cut.{IsCut};

@@ -4,7 +4,7 @@ ghost use Rattle.std.specs.Prelude.{◌≡◌, suc, ◌<◌, ◌≤◌, ◌+◌,
 ghost use Rattle.std.specs.Prelude.{[], ℕ, List, Option, Some, None, IfSome, IfErr, IsSome, OnOk, OnErr, Err};
 ghost use Rattle.std.specs.Prelude.{length, slice_index_or, slice_set, vec_capacity};
 ghost use Rattle.can_frame.specs.Sizes.{most_members};
-ghost use Rattle.bus_spec.specs.Cluster.{AreMembers};
+ghost use Rattle.alloc_spec.specs.ClusterMembers.{AreMembers};
 ghost use Rattle.bus_spec.specs.Receivers.{MemberReceives};
 ghost use Rattle.alloc_spec.specs.Rules.{rules_by};
 ghost use Rattle.cmd_node.specs.Ends.{refusal_of};

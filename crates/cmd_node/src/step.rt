@@ -1,4 +1,4 @@
-use replay_text::Told;
+use bus_rows::Told;
 
 /// A step that was made, and what it told.
 #[derive(Drop)]

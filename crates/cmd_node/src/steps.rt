@@ -4,15 +4,17 @@ ghost use Rattle.std.specs.Prelude.{◌≡◌, ◌<◌, ◌≤◌, ◌+◌, ◌+
 ghost use Rattle.std.specs.Prelude.{List, length, map, IfSome, OnOk};
 ghost use Rattle.outside.specs.Faults.{HasCause};
 ghost use Rattle.cmd_io.specs.Output.{Grows, Writes, WritesLast};
-ghost use Rattle.replay_text.specs.ReportLine.{report_line_of, text_of_line};
+ghost use Rattle.bus_rows.specs.ReportLine.{report_line_of};
+ghost use Rattle.replay_text.specs.ReportText.{text_of_line};
 ghost use Rattle.cmd_node.specs.Report.{joined, report};
 ghost use Rattle.cmd_node.specs.Kept.{kept_line};
 
 use crate::step::NumberedStep;
+use bus_rows::Told;
 use circular_buffer::HeapCircularBuffer;
 use cmd_io::{Output, number_line};
 use outside::{Failed, Sink};
-use replay_text::{Told, write_told};
+use replay_text::write_told;
 use std::alloc::Global;
 
 /// How many steps are kept.

@@ -9,8 +9,9 @@ use Rattle.outside.specs.declared.received.Received.{Received}
 use Rattle.raft_core.specs.StoredPuts.{PutWithOrigin, store_of, stored_puts}
 use Rattle.raft_model.specs.Lists.{In}
 use Rattle.raft_model.specs.Members.{HasNoneTwice}
-use Rattle.replay_text.specs.declared.row.Row.{Row}
-use Rattle.bus_spec.specs.Cluster.{AreMembers, Cluster, after_rows, cluster, is_member, rules_of}
+use Rattle.bus_rows.specs.declared.row.Row.{Row}
+use Rattle.alloc_spec.specs.ClusterMembers.{AreMembers}
+use Rattle.bus_spec.specs.Cluster.{Cluster, after_rows, cluster, is_member, rules_of}
 use Rattle.bus_spec.specs.Members.{is_running}
 use Rattle.cmd_io.specs.Draws.{next_state, word_at}
 use Rattle.cmd_node.specs.Opening.{RunInput, opened_at, readings_after}

@@ -6,7 +6,7 @@ use Rattle.raft_log.specs.Rules.{StandsForState}
 use Rattle.raft_log.specs.Stored.{AfterSome, Put, Stored, after_put, after_puts}
 use Rattle.raft_model.specs.Lists.{In}
 use Rattle.raft_model.specs.Members.{HasNoneTwice}
-use Rattle.replay_text.specs.declared.row.Row.{Row}
+use Rattle.bus_rows.specs.declared.row.Row.{Row}
 use Rattle.alloc_spec.specs.AllocatorState.{AllocatorState}
 use Rattle.bus_agreement.specs.Headline.{HasHeadline, Headline}
 use Rattle.bus_spec.specs.Choices.{AgreesWithDisk}

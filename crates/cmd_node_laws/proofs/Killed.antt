@@ -8,7 +8,7 @@ use Rattle.outside.specs.declared.pattern.Pattern.TheVariants.{Old}
 use Rattle.raft_log.specs.KeyDisk.{are_put, done_on, puts_on}
 use Rattle.raft_log.specs.Stored.{Stored}
 use Rattle.raft_model.specs.Lists.{at_here, at_other}
-use Rattle.replay_text.specs.declared.row.Row.TheVariants.{Crash}
+use Rattle.bus_rows.specs.declared.row.Row.TheVariants.{Crash}
 use Rattle.alloc_spec.specs.StepState.{StepState}
 use Rattle.alloc_spec.specs.Step.{Event}
 use Rattle.alloc_spec.specs.AllocatorState.{AllocatorState}

@@ -9,8 +9,8 @@ use Rattle.outside.specs.Traffic.{next_item}
 use Rattle.cmd_io.specs.Draws.{next_state, word_at}
 use Rattle.raft_core.specs.StoredPuts.{PutWithOrigin}
 use Rattle.raft_log.specs.Stored.{Stored}
-use Rattle.replay_text.specs.declared.row.Row.{Row}
-use Rattle.replay_text.specs.declared.row.Row.TheVariants.{Crash, Ext, Rx, Tick}
+use Rattle.bus_rows.specs.declared.row.Row.{Row}
+use Rattle.bus_rows.specs.declared.row.Row.TheVariants.{Crash, Ext, Rx, Tick}
 use Rattle.transfer_rx.specs.Reassembly.{Arrival, Delivery, Setting, answer}
 use Rattle.transfer_rx.specs.Reassembly.Answer.{Gives}
 use Rattle.transfer_rx.specs.Sessions.{Session}

@@ -8,7 +8,7 @@ use Rattle.outside.specs.declared.pattern.Pattern.TheVariants.{Old}
 use Rattle.raft_core.specs.StoredPuts.{store_of}
 use Rattle.raft_log.specs.KeyDisk.{is_open_on, opening_on}
 use Rattle.raft_log.specs.Stored.{Put, Stored, after_puts, opening_puts}
-use Rattle.replay_text.specs.declared.row.Row.TheVariants.{Crash, Open}
+use Rattle.bus_rows.specs.declared.row.Row.TheVariants.{Crash, Open}
 use Rattle.alloc_spec.specs.AllocatorState.{AllocatorState}
 use Rattle.alloc_spec.specs.Rules.{Rules, opening_by}
 use Rattle.bus_spec.specs.Cluster.{Cluster, after_row, rules_of, with_member}

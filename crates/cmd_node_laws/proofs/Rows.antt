@@ -5,7 +5,7 @@ use Rattle.std.proofs.lemmas.List.{get_or_at, length-append}
 use Rattle.can_frame.specs.declared.frame.Frame.{Frame}
 use Rattle.can_frame.specs.Identifier.{identifier_of}
 use Rattle.outside.specs.declared.pattern.Pattern.TheVariants.{Old}
-use Rattle.replay_text.specs.declared.row.Row.TheVariants.{Crash, Ext, Open, Rx, Send, Tick}
+use Rattle.bus_rows.specs.declared.row.Row.TheVariants.{Crash, Ext, Open, Rx, Send, Tick}
 use Rattle.transfer_tx.specs.Queue.{Queued, next_out}
 use Rattle.alloc_spec.specs.StepState.{StepState}
 use Rattle.alloc_spec.specs.Step.{Event, after_pop, step}

@@ -11,7 +11,7 @@ use Rattle.raft_core.specs.StoredPuts.{store_of}
 use Rattle.raft_log.specs.KeyDisk.{opening_on}
 use Rattle.raft_log.specs.Stored.{Put, Stored, after_puts, opening_puts}
 use Rattle.raft_model.specs.Lists.{at_here, at_other}
-use Rattle.replay_text.specs.declared.row.Row.TheVariants.{Open}
+use Rattle.bus_rows.specs.declared.row.Row.TheVariants.{Open}
 use Rattle.transfer_rx.specs.Reassembly.{Arrival, Delivery, Setting, answer}
 use Rattle.transfer_rx.specs.Reassembly.Answer.{Gives}
 use Rattle.transfer_rx.specs.Sessions.{Session}
@@ -30,7 +30,7 @@ use Rattle.cmd_node_laws.specs.Traces.{Came, Event, DiesInTurn, DiesAtOpening, M
 use Rattle.cmd_node_laws.specs.Mirrored.{AreCalm, Carries, IsMirrored, raw_by}
 use Rattle.bus_agreement.proofs.Concatenations.{same_ids}
 use Rattle.bus_agreement.proofs.Lists.{never}
-use Rattle.replay_text.specs.declared.row.Row.{Row}
+use Rattle.bus_rows.specs.declared.row.Row.{Row}
 use Rattle.cmd_node_laws.specs.Processes.{ComesNext, GoesOn, HasStoredAt, IsWaiting, OneOf, Point, StandAt, StandsAt, TakesTurn, is_of_these, next_point, place_of, running_at, together_at, whose}
 use Rattle.cmd_node_laws.specs.Processes as at_point
 use Rattle.cmd_node_laws.specs.Stands.{IsFollowed}

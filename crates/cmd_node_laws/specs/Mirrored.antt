@@ -4,8 +4,8 @@ use Rattle.disk_model.specs.Memory.{nothing_set}
 use Rattle.outside.specs.declared.received.RawFrame.{RawFrame}
 use Rattle.outside.specs.declared.received.Received.{Received}
 use Rattle.outside.specs.declared.received.Received.TheVariants.{Frame, Junk, Nothing}
-use Rattle.replay_text.specs.declared.row.Row.{Row}
-use Rattle.replay_text.specs.declared.row.Row.TheVariants.{Send}
+use Rattle.bus_rows.specs.declared.row.Row.{Row}
+use Rattle.bus_rows.specs.declared.row.Row.TheVariants.{Send}
 use Rattle.alloc_spec.specs.AllocatorState.{AllocatorState}
 use Rattle.transfer_tx.specs.Queue.{Queued}
 use Rattle.alloc_ghost_erasure.specs.Unmarked.{unmarked_server}

@@ -11,9 +11,10 @@ use Rattle.raft_log.specs.Rules.{StandsForState}
 use Rattle.raft_log.specs.Stored.{Stored}
 use Rattle.raft_model.specs.Lists.{In}
 use Rattle.raft_model.specs.Members.{HasNoneTwice}
-use Rattle.replay_text.specs.declared.row.Row.{Row}
+use Rattle.bus_rows.specs.declared.row.Row.{Row}
 use Rattle.alloc_spec.specs.Rules.{Rules, tells}
-use Rattle.bus_spec.specs.Cluster.{AreMembers, Cluster, after_rows, cluster, rules_of}
+use Rattle.alloc_spec.specs.ClusterMembers.{AreMembers}
+use Rattle.bus_spec.specs.Cluster.{Cluster, after_rows, cluster, rules_of}
 use Rattle.bus_spec.specs.Members.MemberStatus.{Down}
 use Rattle.cmd_node.specs.Opening.{RunInput, readings_after}
 use Rattle.cmd_node.specs.Turn.{Running}

@@ -7,8 +7,8 @@ use Rattle.std.specs.Prelude.{◌≡◌, ⊤, ℕ, ◌+◌, ◌*◌, Bool, true,
 use Rattle.can_frame.specs.declared.frame.Frame.{Frame}
 use Rattle.can_frame.specs.Identifier.{identifier_of}
 use Rattle.outside.specs.declared.pattern.Pattern.TheVariants.{Old}
-use Rattle.replay_text.specs.declared.row.Row.{Row}
-use Rattle.replay_text.specs.declared.row.Row.TheVariants.{Open, Tick, Rx, Send, Ext, Crash, AOpen, ATick, ARx, ASend, AEnd}
+use Rattle.bus_rows.specs.declared.row.Row.{Row}
+use Rattle.bus_rows.specs.declared.row.Row.TheVariants.{Open, Tick, Rx, Send, Ext, Crash, AOpen, ATick, ARx, ASend, AEnd}
 use Rattle.transfer_tx.specs.Queue.{Queued}
 use Rattle.bus_spec.specs.Cluster.{Cluster, after_rows, arrival_at, frame_at, is_member, after_row}
 use Rattle.bus_spec.specs.Lawful.{IsHarmlessAt, cause, is_forged, no_such_frame}

@@ -11,8 +11,8 @@ use Rattle.raft_log.specs.KeyDisk.{are_put, is_open_on, opening_on, put_state_on
 use Rattle.raft_log.specs.DeviceCalls.{key_of}
 use Rattle.raft_log.specs.Stored.{Put, Stored, after_put, opening_puts}
 use Rattle.raft_model.specs.Lists.{In, any, at}
-use Rattle.replay_text.specs.declared.row.Row.{Row}
-use Rattle.replay_text.specs.declared.row.Row.TheVariants.{Open, Tick, Rx, Send, Ext, Crash, Fault, AOpen, ATick, ARx, ASend, AEnd}
+use Rattle.bus_rows.specs.declared.row.Row.{Row}
+use Rattle.bus_rows.specs.declared.row.Row.TheVariants.{Open, Tick, Rx, Send, Ext, Crash, Fault, AOpen, ATick, ARx, ASend, AEnd}
 use Rattle.alloc_spec.specs.StepState.{StepState}
 use Rattle.alloc_spec.specs.Step.{Event, step}
 use Rattle.alloc_spec.specs.AllocatorState.{AllocatorState}

@@ -2,14 +2,14 @@
 use Rattle.std.proofs.Common.{◌≡◌, ◌≤◌, ◌+◌, ◌*◌, ◌-◌, ℕ, zero, suc, Bool, true, false, List, ◌++◌, length, refl, ap, ◌∙◌, arith, length-append, Option, Some, None}
 use Rattle.std.proofs.Math.Nat.{mul-le-mul_right}
 use Rattle.std.specs.Prelude.{◌==◌, ◌%◌, ◌/◌, if◌then◌else◌}
-use Rattle.replay_text.specs.declared.row.Row.{Row}
-use Rattle.replay_text.specs.declared.row.Row.TheVariants.{Open, Tick, Rx, Send, Ext, Crash, Fault, AOpen, ATick, ARx, ASend, AEnd}
+use Rattle.bus_rows.specs.declared.row.Row.{Row}
+use Rattle.bus_rows.specs.declared.row.Row.TheVariants.{Open, Tick, Rx, Send, Ext, Crash, Fault, AOpen, ATick, ARx, ASend, AEnd}
 use Rattle.transfer_tx.specs.Queue.{Queued}
 use Rattle.bus_spec.specs.Allocatees.{next_from}
 use Rattle.bus_spec.specs.Cluster.{Cluster, in_list, after_row}
 use Rattle.bus_spec.specs.Members.{next_frame}
 use Rattle.bus_spec.specs.Report.{line_of_row}
-use Rattle.replay_text.specs.ReportLine.{is_stop}
+use Rattle.bus_rows.specs.ReportLine.{is_stop}
 use Rattle.cmd_soak.specs.Growth.{Fits, Grows, growth}
 use Rattle.cmd_soak.specs.Requests.{request}
 use Rattle.cmd_soak.specs.Rounds.{Soak, arms, arms_by_chance, asks_in_time, begins, draws, drawn, each, for_each, gives, has_heard, has_round, has_turn, hears, hears_all, is_refused, one_if, opens, repeats, sends, sends_some, shows, stop, takes, ticks, word}

@@ -2,7 +2,7 @@
 use Rattle.std.proofs.Common.{◌≡◌, ◌≤◌, ◌<◌, ℕ, zero, suc, List, [], ◌∷◌, length, take, inl, inr, lit<, arith}
 use Rattle.raft_model.specs.Lists.{In}
 use Rattle.raft_model.specs.Members.{HasNoneTwice}
-use Rattle.bus_spec.specs.Cluster.{AreMembers}
+use Rattle.alloc_spec.specs.ClusterMembers.{AreMembers}
 use Rattle.cmd_soak.specs.Rounds.{members}
 
 in_take : (n count : ℕ) (ids : List ℕ) → In n (take count ids) → In n ids

@@ -6,11 +6,11 @@ use Rattle.bus_world.specs.World.{StandsFor as IsWorld, frame_room}
 use Rattle.bus_world.specs.declared.world.World.{World}
 use Rattle.outside.specs.declared.pattern.Pattern.TheVariants.{Bytes}
 use Rattle.cmd_io.specs.Draws.{next_state, word_at}
-use Rattle.replay_text.specs.declared.row.Row.{Row}
-use Rattle.replay_text.specs.declared.row.Row.TheVariants.{Open, Tick, Rx, Send, Ext, Crash}
+use Rattle.bus_rows.specs.declared.row.Row.{Row}
+use Rattle.bus_rows.specs.declared.row.Row.TheVariants.{Open, Tick, Rx, Send, Ext, Crash}
 use Rattle.bus_spec.specs.Cluster.{cluster, after_row}
 use Rattle.bus_spec.specs.Report.{line_of_row}
-use Rattle.replay_text.specs.ReportLine.{is_stop}
+use Rattle.bus_rows.specs.ReportLine.{is_stop}
 use Rattle.cmd_soak.specs.Growth.{Fits, Grows, growth, room_for}
 use Rattle.cmd_soak.specs.Requests.{request}
 use Rattle.cmd_soak.specs.Rounds.{Soak, arms, arms_by_chance, asks_in_time, begins, draws, drawn, each, for_each, gives, has_heard, has_round, has_turn, hears, hears_all, is_refused, members, one_if, opens, repeats, seeded, sends, sends_some, shows, takes, ticks, word}

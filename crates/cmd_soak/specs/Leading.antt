@@ -1,7 +1,7 @@
 -- The rows that were taken, as rows of a cluster.
 use Rattle.std.specs.Prelude.{⊤, ◌≡◌, ℕ, Bool, true, false, List, [], ◌∷◌}
-use Rattle.replay_text.specs.declared.row.Row.{Row}
-use Rattle.replay_text.specs.declared.row.Row.TheVariants.{Open, Tick, Rx, Send, Ext, Crash, Fault, AOpen, ATick, ARx, ASend, AEnd}
+use Rattle.bus_rows.specs.declared.row.Row.{Row}
+use Rattle.bus_rows.specs.declared.row.Row.TheVariants.{Open, Tick, Rx, Send, Ext, Crash, Fault, AOpen, ATick, ARx, ASend, AEnd}
 use Rattle.bus_spec.specs.Cluster.{cluster, world_of}
 use Rattle.bus_spec.specs.Lawful.{AreLawful}
 use Rattle.cmd_soak.specs.Rounds.{Soak}

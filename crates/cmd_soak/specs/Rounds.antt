@@ -2,12 +2,12 @@
 use Rattle.std.specs.Prelude.{ℕ, zero, suc, ◌+◌, ◌-◌, ◌*◌, ◌/◌, ◌%◌, ◌==◌, Bool, List, [], ◌∷◌, ◌++◌, length, take, is_some, if◌then◌else◌}
 use Rattle.outside.specs.declared.pattern.Pattern.TheVariants.{Bytes}
 use Rattle.cmd_io.specs.Draws.{next_state, word_at}
-use Rattle.replay_text.specs.declared.row.Row.{Row}
-use Rattle.replay_text.specs.declared.row.Row.TheVariants.{Open, Tick, Rx, Send, Ext, Crash}
+use Rattle.bus_rows.specs.declared.row.Row.{Row}
+use Rattle.bus_rows.specs.declared.row.Row.TheVariants.{Open, Tick, Rx, Send, Ext, Crash}
 use Rattle.bus_spec.specs.Cluster.{Cluster, cluster, after_row}
 use Rattle.bus_spec.specs.Lawful.{cause}
 use Rattle.bus_spec.specs.Report.{line_of_row, view_at}
-use Rattle.replay_text.specs.ReportLine.{is_stop}
+use Rattle.bus_rows.specs.ReportLine.{is_stop}
 use Rattle.cmd_soak.specs.Requests.{request}
 use Rattle.cmd_soak.specs.declared.turn.Turn.{Turn}
 use Rattle.cmd_soak.specs.declared.turn.Turn.TheVariants.{Open as Opening, Tick as Ticking, Hear as Hearing, Send as Sending}

@@ -6,7 +6,7 @@ use Rattle.bus_world.specs.World.{StandsFor as IsWorld, accepts, allocatees_acce
 use Rattle.bus_world.specs.declared.world.World.{World}
 use Rattle.can_frame.specs.declared.identifier.Kind.{Kind}
 use Rattle.cmd_soak.specs.Growth.{Fits}
-use Rattle.replay_text.specs.declared.row.Row.{Row}
+use Rattle.bus_rows.specs.declared.row.Row.{Row}
 use Rattle.cmd_soak.specs.Rounds.{Soak, is_refused, takes}
 use Rattle.cmd_soak.specs.declared.soaking.Soaking.{Soaking}
 

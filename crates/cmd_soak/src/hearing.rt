@@ -1,12 +1,12 @@
 ghost use Rattle.std.specs.Prelude.{◌≡◌, ◌<◌, ℕ, List};
 ghost use Rattle.disk_model.specs.Pattern.{IsUsable};
 ghost use Rattle.outside.specs.declared.pattern.Pattern.{Pattern};
-ghost use Rattle.replay_text.specs.declared.row.Row.TheVariants.{AOpen, Crash};
+ghost use Rattle.bus_rows.specs.declared.row.Row.TheVariants.{AOpen, Crash};
 ghost use Rattle.cmd_soak.specs.Rounds.{hears, hears_all, repeats};
 
 use crate::soaking::Soaking;
+use bus_rows::Row;
 use can_frame::Kind;
-use replay_text::Row;
 
 /// One frame of so many is lost.
 const FRAMES_PER_LOSS: u32 = 16;

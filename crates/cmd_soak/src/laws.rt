@@ -3,8 +3,9 @@
 ghost use Rattle.std.specs.Prelude.{◌≡◌, ℕ, ◌≤◌, Bool, List, is_some};
 ghost use Rattle.can_frame.specs.Sizes.{most_members};
 ghost use Rattle.raft_model.specs.Lists.{In};
-ghost use Rattle.replay_text.specs.declared.row.Row.{Row};
-ghost use Rattle.bus_spec.specs.Cluster.{AreMembers, world_of};
+ghost use Rattle.bus_rows.specs.declared.row.Row.{Row};
+ghost use Rattle.alloc_spec.specs.ClusterMembers.{AreMembers};
+ghost use Rattle.bus_spec.specs.Cluster.{world_of};
 ghost use Rattle.bus_spec.specs.Members.{is_running};
 ghost use Rattle.bus_spec.specs.Report.{view_at};
 ghost use Rattle.cmd_soak.specs.Leading.{HasNoFault, IsLed};

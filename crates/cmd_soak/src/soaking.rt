@@ -2,8 +2,8 @@ ghost use Rattle.std.specs.Prelude.{◌≡◌, ◌≤◌, ◌<◌, ◌*◌, ℕ,
 ghost use Rattle.can_frame.specs.Sizes.{most_members};
 ghost use Rattle.disk_model.specs.Pattern.{IsUsable};
 ghost use Rattle.outside.specs.declared.pattern.Pattern.{Pattern};
-ghost use Rattle.replay_text.specs.declared.row.Row.TheVariants.{AOpen, Crash};
-ghost use Rattle.replay_text.specs.ReportLine.{is_stop as tells_of_stop, report_line_of};
+ghost use Rattle.bus_rows.specs.declared.row.Row.TheVariants.{AOpen, Crash};
+ghost use Rattle.bus_rows.specs.ReportLine.{is_stop as tells_of_stop, report_line_of};
 ghost use Rattle.cmd_soak.specs.Counts.{counts_of};
 ghost use Rattle.cmd_soak.specs.Rounds.{Soak, asks_in_time, each, for_each, gives, has_round, shows as is_shown};
 
@@ -11,10 +11,10 @@ use crate::counts::Counts;
 use crate::pairs::pairs;
 use crate::requests::request;
 use crate::turn::Turn;
+use bus_rows::{Row, Told};
 use bus_world::World;
 use can_frame::Kind;
 use cmd_io::Draws;
-use replay_text::{Row, Told};
 
 /// A cluster, and what came of the rows that it was given.
 #[derive(Drop)]

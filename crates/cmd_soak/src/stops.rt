@@ -4,9 +4,9 @@ ghost use Rattle.cmd_soak.specs.Rounds.{arms, arms_by_chance};
 
 use crate::soaking::Soaking;
 use arrayvec::ArrayVec;
+use bus_rows::Row;
 use can_frame::Kind;
 use outside::Pattern;
-use replay_text::Row;
 
 /// One round of so many arms a stop.
 const ROUNDS_PER_STOP: u32 = 64;

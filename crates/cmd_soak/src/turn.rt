@@ -4,8 +4,8 @@ ghost use Rattle.cmd_soak.specs.Growth.{room_for};
 ghost use Rattle.cmd_soak.specs.Rounds.{each, has_turn, opens, sends_some, ticks};
 
 use crate::soaking::Soaking;
+use bus_rows::Row;
 use can_frame::Kind;
-use replay_text::Row;
 
 /// How many frames a member puts on the bus in its turn, at the most.
 const MOST_SENT: u8 = 8;

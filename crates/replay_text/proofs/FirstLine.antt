@@ -3,7 +3,7 @@ use Rattle.std.proofs.Common.{◌≡◌, ◌≢◌, ◌<◌, ◌≤◌, ℕ, Lis
 use Rattle.std.specs.List.{All}
 use Rattle.std.proofs.lemmas.Bool.{ne_eqb}
 use Rattle.std.proofs.lemmas.List.Elements.{All-head, All-tail}
-use Rattle.replay_text.specs.declared.row.Row.{Row}
+use Rattle.bus_rows.specs.declared.row.Row.{Row}
 use Rattle.replay_text.specs.Lines.{BeginsWith, NoRowBegins, ReadsRows, after_line, first_line}
 use Rattle.replay_text.specs.Schedule.{Reads}
 use Rattle.replay_text.proofs.Spelled.{no_line_feed, short_line}

@@ -1,6 +1,6 @@
 pub mod Digits
 pub mod Lines
 pub mod Report
-pub mod ReportLine
+pub mod ReportText
 pub mod Schedule
 pub mod Words

@@ -1,7 +1,7 @@
 -- Rows from the front of some bytes. A line is the bytes up to the next line feed (byte 10), which ends it.
 -- No row has a line of more than 74 bytes, so a longer front without a line feed begins with no row.
 use Rattle.std.specs.Prelude.{◌≡◌, ◌≢◌, ◌==◌, ℕ, List, [], ◌∷◌, Option, Some, None, if◌then◌else◌}
-use Rattle.replay_text.specs.declared.row.Row.{Row}
+use Rattle.bus_rows.specs.declared.row.Row.{Row}
 use Rattle.replay_text.specs.Schedule.{Reads}
 
 -- the bytes before the first line feed; all of them where there is none

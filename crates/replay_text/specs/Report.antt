@@ -51,3 +51,7 @@ allocatee_head row a = decimal row ++ codes " a" ++ decimal a
 abbrev pub state_word : Option ℕ → List ℕ
 state_word None = codes "wait"
 state_word (Some node) = codes "hold:" ++ decimal node
+
+-- how many rows there were, at the end
+abbrev pub end_line : ℕ → List ℕ
+end_line rows = codes "end " ++ decimal rows ++ codes "\n"

@@ -1,7 +1,7 @@
 //! Laws of the definitions, each the contract of a function that does nothing.
 
 ghost use Rattle.std.specs.Prelude.{◌≡◌, ◌≢◌, ◌<◌, ◌≤◌, ◌++◌, ◌∷◌, [], ℕ, List, All, length};
-ghost use Rattle.replay_text.specs.declared.row.Row.{Row};
+ghost use Rattle.bus_rows.specs.declared.row.Row.{Row};
 ghost use Rattle.replay_text.specs.Schedule.{IsRow, Reads, row_text};
 ghost use Rattle.replay_text.specs.Lines.{BeginsWith, NoRowBegins, ReadsRows};
 

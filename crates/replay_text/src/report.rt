@@ -2,10 +2,12 @@ ghost use Rattle.std.specs.Prelude.{◌≡◌, ◌≤◌, ◌<◌, ◌+◌, ◌*
 ghost use Rattle.hex.specs.Hex.{encode_lower};
 ghost use Rattle.replay_text.specs.Words.{identifier_bytes};
 ghost use Rattle.replay_text.specs.Report.{role_letter, seen_word, sent_mark, state_word};
-ghost use Rattle.replay_text.specs.ReportLine.{report_line_of, text_of_line};
+ghost use Rattle.bus_rows.specs.ReportLine.{report_line_of};
+ghost use Rattle.replay_text.specs.ReportText.{text_of_line};
 
-use crate::{Line, Told};
+use crate::Line;
 use arrayvec::ArrayVec;
+use bus_rows::Told;
 use can_frame::{Frame, NodeId, Role, Seen, Sent};
 
 /// The line that tells what row number `row` did, its line feed included. The longest is that of a step

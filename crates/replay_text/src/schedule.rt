@@ -3,11 +3,10 @@ ghost use Rattle.arrayvec.specs.ArrayVec.{ArrayVec as Items};
 ghost use Rattle.hex.specs.Hex.{IsBytes};
 ghost use Rattle.can_frame.specs.declared.frame.Frame.{Frame as FrameValue};
 ghost use Rattle.outside.specs.declared.pattern.Pattern.{Pattern as PatternValue};
-ghost use Rattle.replay_text.specs.declared.row.Row.{Row as RowValue};
+ghost use Rattle.bus_rows.specs.declared.row.Row.{Row as RowValue};
 ghost use Rattle.replay_text.specs.Schedule.{Reads, ReadsWords, IsOfAllocatee, IsOfCluster, IsPattern, IsRepeated, SpellsPattern, last_moment};
 ghost use Rattle.replay_text.specs.Words.{IsHex, identifier_bytes, words};
 
-use crate::Row;
 use crate::laws::a_line_has_one_row;
 use crate::word::{
     front_number, last_number, one_word, read_bytes, read_identifier, read_uid, split_word,

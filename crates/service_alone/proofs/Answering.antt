@@ -10,7 +10,7 @@ use Rattle.can_frame.specs.Cutting.{frame_count}
 use Rattle.can_frame.specs.Identifier.{identifier_number}
 use Rattle.dsdl_codec.specs.declared.allocation.Allocation.{Allocation}
 use Rattle.dsdl_codec.specs.Allocation.{IsAllocation, allocation_bytes, allocation_of}
-use Rattle.replay_text.specs.declared.row.Row.TheVariants.{Rx as RxRow}
+use Rattle.bus_rows.specs.declared.row.Row.TheVariants.{Rx as RxRow}
 use Rattle.transfer_rx.specs.Reassembly.{Arrival, Gives, answer as receiver_answer}
 use Rattle.transfer_rx.specs.Reassembly as receiver
 use Rattle.transfer_rx.specs.Sessions.{Session}

@@ -7,7 +7,7 @@ use Rattle.can_frame.specs.Identifier.{identifier_number}
 use Rattle.dsdl_codec.specs.declared.allocation.Allocation.{Allocation}
 use Rattle.dsdl_codec.specs.Allocation.{allocation_bytes}
 use Rattle.raft_model.specs.Lists.{at_here}
-use Rattle.replay_text.specs.declared.row.Row.TheVariants.{AEnd, AOpen, ASend, ATick}
+use Rattle.bus_rows.specs.declared.row.Row.TheVariants.{AEnd, AOpen, ASend, ATick}
 use Rattle.transfer_rx.specs.Sessions.{Session}
 use Rattle.transfer_tx.specs.Queue.{Queued, marked, next_out, queued_frames}
 use Rattle.allocatee.specs.Allocatee.{Device, Tick, after_pop, opening, step}

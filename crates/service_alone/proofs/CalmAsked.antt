@@ -1,8 +1,8 @@
 -- A request waits in the device's queue, and goes out.
 use Rattle.std.proofs.Common.{◌≡◌, ℕ, ◌+◌, ◌*◌, ◌<◌, ◌≤◌, List, [], ◌∷◌, ◌++◌, length, length-append, inl, inr, refl, sym, ◌∙◌, ap, subst, arith, Option, None, Some}
 use Rattle.can_frame.specs.declared.entry.Entry.{Entry}
-use Rattle.replay_text.specs.declared.row.Row.{Row}
-use Rattle.replay_text.specs.declared.row.Row.TheVariants.{ASend}
+use Rattle.bus_rows.specs.declared.row.Row.{Row}
+use Rattle.bus_rows.specs.declared.row.Row.TheVariants.{ASend}
 use Rattle.transfer_tx.specs.Queue.{Queued}
 use Rattle.service_alone.specs.Calm.{Clocks, IsCalmRow, IsInTime, OnItsWay, Pace, Traffic, queue_at, traffic_after, waits_after}
 use Rattle.service_alone.proofs.CalmDevice.{device_as}

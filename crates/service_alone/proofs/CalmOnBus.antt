@@ -6,8 +6,8 @@ use Rattle.alloc_exchange.specs.Exchange.{Accepted, after, last_moment}
 use Rattle.can_frame.specs.declared.entry.Entry.{Entry}
 use Rattle.can_frame.specs.declared.step.What.TheVariants.{Alloc}
 use Rattle.can_frame.specs.Cutting.{frame_count}
-use Rattle.replay_text.specs.declared.row.Row.{Row}
-use Rattle.replay_text.specs.declared.row.Row.TheVariants.{Rx}
+use Rattle.bus_rows.specs.declared.row.Row.{Row}
+use Rattle.bus_rows.specs.declared.row.Row.TheVariants.{Rx}
 use Rattle.transfer_tx.specs.Queue.{Queued, queued_frames}
 use Rattle.transfer_tx.specs.Run.{of_identifier}
 use Rattle.alloc_spec.specs.AllocatorState.{AllocatorState}

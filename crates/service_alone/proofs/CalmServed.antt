@@ -5,7 +5,7 @@ use Rattle.can_frame.specs.declared.entry.Entry.{Entry}
 use Rattle.can_frame.specs.Log.{HasPair}
 use Rattle.id_selector.specs.Choice.{IsChoice, chosen}
 use Rattle.raft_model.specs.Lists.{In}
-use Rattle.replay_text.specs.declared.row.Row.TheVariants.{AOpen}
+use Rattle.bus_rows.specs.declared.row.Row.TheVariants.{AOpen}
 use Rattle.transfer_tx.specs.Queue.{Queued}
 use Rattle.transfer_tx.specs.Run.{of_identifier}
 use Rattle.allocatee.specs.Allocatee.{opening}

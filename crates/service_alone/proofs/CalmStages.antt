@@ -6,8 +6,8 @@ use Rattle.alloc_exchange.specs.declared.heard.Heard.TheVariants.{FollowUp as Fo
 use Rattle.alloc_exchange.specs.Exchange.{Accepted, after, answer, last_moment, recent_requests}
 use Rattle.can_frame.specs.declared.entry.Entry.{Entry}
 use Rattle.dsdl_codec.specs.declared.allocation.Allocation.{Allocation}
-use Rattle.replay_text.specs.declared.row.Row.{Row}
-use Rattle.replay_text.specs.declared.row.Row.TheVariants.{AEnd, AOpen, ARx, ASend, ATick, Crash, Ext, Fault, Open, Rx, Send, Tick}
+use Rattle.bus_rows.specs.declared.row.Row.{Row}
+use Rattle.bus_rows.specs.declared.row.Row.TheVariants.{AEnd, AOpen, ARx, ASend, ATick, Crash, Ext, Fault, Open, Rx, Send, Tick}
 use Rattle.transfer_rx.specs.declared.key.Key.{Key}
 use Rattle.transfer_rx.specs.Sessions.{Session}
 use Rattle.transfer_tx.specs.Queue.{Queued}

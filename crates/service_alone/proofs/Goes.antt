@@ -1,7 +1,7 @@
 -- Lawful rows that come one after another.
 use Rattle.std.proofs.Common.{◌≡◌, ℕ, suc, ◌+◌, ◌≤◌, List, [], ◌∷◌, ◌++◌, length, length-append, refl, subst, sym, arith, None}
-use Rattle.replay_text.specs.declared.row.Row.{Row}
-use Rattle.replay_text.specs.declared.row.Row.TheVariants.{AEnd, AOpen, ARx, ASend, ATick, Crash, Ext, Fault, Open, Rx, Send, Tick}
+use Rattle.bus_rows.specs.declared.row.Row.{Row}
+use Rattle.bus_rows.specs.declared.row.Row.TheVariants.{AEnd, AOpen, ARx, ASend, ATick, Crash, Ext, Fault, Open, Rx, Send, Tick}
 use Rattle.bus_spec.specs.Cluster.{Cluster, after_row, after_rows}
 use Rattle.bus_spec.specs.Lawful.{AreLawful, cause}
 use Rattle.service_alone.specs.Alone.{AreInTime, clock_after}

@@ -10,7 +10,7 @@ use Rattle.raft_model.specs.Lists.{In}
 use Rattle.raft_model.specs.Moves.Elections.{term_limit}
 use Rattle.raft_model.specs.Runs.{InEveryRun, initial_world}
 use Rattle.raft_model.specs.Server.{Store}
-use Rattle.replay_text.specs.declared.row.Row.{Row}
+use Rattle.bus_rows.specs.declared.row.Row.{Row}
 use Rattle.transfer_tx.specs.Queue.{Queued}
 use Rattle.allocatee.specs.Allocatee.{Device}
 use Rattle.alloc_spec.specs.AllocatorState.{AllocatorState}
@@ -21,7 +21,8 @@ use Rattle.service_steps.specs.ComingBack.{HasGrown}
 use Rattle.bus_agreement.specs.Continues.{Continues}
 use Rattle.bus_agreement.proofs.StopsAndOpenings.{DiskLaws, opened_store}
 use Rattle.bus_spec.specs.Choices.{AgreesWithDisk}
-use Rattle.bus_spec.specs.Cluster.{AreMembers, Cluster, cluster, world_of}
+use Rattle.alloc_spec.specs.ClusterMembers.{AreMembers}
+use Rattle.bus_spec.specs.Cluster.{Cluster, cluster, world_of}
 use Rattle.bus_spec.specs.Lawful.{DoNoHarm}
 use Rattle.bus_spec.specs.Refinement.{events, transfers_of_rows}
 use Rattle.bus_spec.specs.Members.{is_running}

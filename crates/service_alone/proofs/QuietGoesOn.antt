@@ -1,7 +1,7 @@
 -- Quiet rows can always go on, to any later moment.
 use Rattle.std.proofs.Common.{◌≡◌, ℕ, zero, suc, ◌+◌, ◌≤◌, List, [], ◌∷◌, ◌++◌, length, refl, ap, subst, arith}
-use Rattle.replay_text.specs.declared.row.Row.{Row}
-use Rattle.replay_text.specs.declared.row.Row.TheVariants.{Send, Tick}
+use Rattle.bus_rows.specs.declared.row.Row.{Row}
+use Rattle.bus_rows.specs.declared.row.Row.TheVariants.{Send, Tick}
 use Rattle.transfer_tx.specs.Queue.{Queued}
 use Rattle.service_alone.specs.Calm.{NothingWaits, Pace, Timed, queue_of, rows_in}
 use Rattle.service_alone.specs.CalmRecovery.{AreQuiet, IsQuietRow, KeepsPace, OwnTraffic, own_traffic_after}

@@ -1,8 +1,8 @@
 -- The rows of a quiet bus, one by one: each is lawful where the allocator runs.
 use Rattle.std.proofs.Common.{◌≡◌, ◌≢◌, ◌⊎◌, ℕ, ◌+◌, ◌≤◌, true, List, [], ◌∷◌, length, inl, inr, refl, sym, ◌∙◌, ap, subst, arith, None}
 use Rattle.std.specs.Prelude.{is_some, not}
-use Rattle.replay_text.specs.declared.row.Row.{Row}
-use Rattle.replay_text.specs.declared.row.Row.TheVariants.{AEnd, AOpen, ARx, ASend, ATick, Crash, Ext, Fault, Open, Rx, Send, Tick}
+use Rattle.bus_rows.specs.declared.row.Row.{Row}
+use Rattle.bus_rows.specs.declared.row.Row.TheVariants.{AEnd, AOpen, ARx, ASend, ATick, Crash, Ext, Fault, Open, Rx, Send, Tick}
 use Rattle.transfer_tx.specs.Queue.{Queued, next_out}
 use Rattle.alloc_spec.specs.AllocatorState.{AllocatorState}
 use Rattle.service_alone.specs.Calm.{Pace}

@@ -5,7 +5,7 @@ use Rattle.raft_model.specs.Invariants.{Invariants, SoundStore}
 use Rattle.raft_model.specs.Lists.{In}
 use Rattle.raft_model.specs.Runs.{InEveryRun, World, initial_world, run}
 use Rattle.raft_model.specs.Server.{Store}
-use Rattle.replay_text.specs.declared.row.Row.{Row}
+use Rattle.bus_rows.specs.declared.row.Row.{Row}
 use Rattle.alloc_spec.specs.AllocatorState.{AllocatorState}
 use Rattle.alloc_spec.specs.Transfers.{SentTransfer}
 use Rattle.bus_agreement.specs.Continues.{Continues}

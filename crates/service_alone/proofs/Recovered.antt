@@ -8,8 +8,8 @@ use Rattle.raft_model.specs.Invariants.{SoundStore}
 use Rattle.raft_model.specs.Lists.{In}
 use Rattle.raft_model.specs.Server.{Store}
 use Rattle.raft_model.proofs.Stored.{last_below}
-use Rattle.replay_text.specs.declared.row.Row.{Row}
-use Rattle.replay_text.specs.declared.row.Row.TheVariants.{AOpen, Crash, Open}
+use Rattle.bus_rows.specs.declared.row.Row.{Row}
+use Rattle.bus_rows.specs.declared.row.Row.TheVariants.{AOpen, Crash, Open}
 use Rattle.alloc_spec.specs.AllocatorState.{AllocatorState}
 use Rattle.alloc_spec.specs.Rules.{opening_by, rules_by}
 use Rattle.bus_agreement.specs.Allocatees.{Holds}

@@ -9,8 +9,8 @@ use Rattle.node_discovery.specs.Watch.{Watched, history}
 use Rattle.raft_core.specs.Times.{wait}
 use Rattle.raft_model.specs.Moves.Elections.{term_limit}
 use Rattle.raft_model.specs.Server.{Store}
-use Rattle.replay_text.specs.declared.row.Row.{Row}
-use Rattle.replay_text.specs.declared.row.Row.TheVariants.{Send, Tick}
+use Rattle.bus_rows.specs.declared.row.Row.{Row}
+use Rattle.bus_rows.specs.declared.row.Row.TheVariants.{Send, Tick}
 use Rattle.transfer_tx.specs.Queue.{Queued, left_behind}
 use Rattle.alloc_spec.specs.AllocatorState.{AllocatorState}
 use Rattle.alloc_spec.specs.Step.{after_pop, step}

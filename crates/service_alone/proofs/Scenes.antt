@@ -8,7 +8,7 @@ use Rattle.raft_log.specs.Stored.{Stored}
 use Rattle.kv_store.specs.KeyDisk.{KeyDisk}
 use Rattle.raft_model.specs.Lists.{at_here}
 use Rattle.raft_model.specs.Server.{Store}
-use Rattle.replay_text.specs.declared.row.Row.TheVariants.{Crash, Open, Tick}
+use Rattle.bus_rows.specs.declared.row.Row.TheVariants.{Crash, Open, Tick}
 use Rattle.transfer_tx.specs.Queue.{Queued}
 use Rattle.allocatee.specs.Allocatee.{Device}
 use Rattle.alloc_spec.specs.AllocatorState.{AllocatorState}

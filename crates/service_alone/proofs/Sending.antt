@@ -4,7 +4,7 @@ use Rattle.std.specs.Prelude.{⊤, nat_le, not}
 use Rattle.std.specs.List.{list_all}
 use Rattle.can_frame.specs.Cutting.{Piece, frames_of}
 use Rattle.can_frame.specs.Identifier.{identifier_number}
-use Rattle.replay_text.specs.declared.row.Row.TheVariants.{Send}
+use Rattle.bus_rows.specs.declared.row.Row.TheVariants.{Send}
 use Rattle.transfer_tx.specs.declared.outgoing.Outgoing.{Outgoing}
 use Rattle.transfer_tx.specs.Queue.{Queued, is_least, left_behind, marked, next_out, queued_frames}
 use Rattle.allocatee.specs.Allocatee.{Device}

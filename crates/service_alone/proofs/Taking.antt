@@ -11,7 +11,7 @@ use Rattle.can_frame.specs.Cutting.{Piece, frame_bytes, frames_of}
 use Rattle.can_frame.specs.Identifier.{identifier_number}
 use Rattle.dsdl_codec.specs.declared.allocation.Allocation.{Allocation}
 use Rattle.dsdl_codec.specs.Allocation.{allocation_of}
-use Rattle.replay_text.specs.declared.row.Row.TheVariants.{ARx}
+use Rattle.bus_rows.specs.declared.row.Row.TheVariants.{ARx}
 use Rattle.transfer_rx.specs.Parts.{IsPart}
 use Rattle.transfer_rx.specs.Reassembly.{Answer, Arrival, Continues, Drops, Gives, answer, next}
 use Rattle.transfer_rx.specs.Run.{is_of, run}

@@ -1,8 +1,8 @@
 -- Rows that meet the premises of calm: an allocator that is alone leads, and a device comes and hears a NodeStatus; and
 -- rows that meet those of a quiet bus.
 use Rattle.std.specs.Prelude.{ℕ, false, List, [], ◌∷◌, replicate}
-use Rattle.replay_text.specs.declared.row.Row.{Row}
-use Rattle.replay_text.specs.declared.row.Row.TheVariants.{AOpen, ARx, ATick, Open, Send, Tick}
+use Rattle.bus_rows.specs.declared.row.Row.{Row}
+use Rattle.bus_rows.specs.declared.row.Row.TheVariants.{AOpen, ARx, ATick, Open, Send, Tick}
 use Rattle.service_alone.specs.Calm.{Clocks, Pace, Timed}
 use Rattle.bus_spec.specs.Cluster.{Cluster, after_row, world_of}
 

@@ -9,8 +9,8 @@ use Rattle.raft_core.specs.StoredPuts.{store_of}
 use Rattle.raft_core.specs.Times.{wait}
 use Rattle.raft_model.specs.Moves.Elections.{term_limit}
 use Rattle.raft_model.specs.Server.{Store}
-use Rattle.replay_text.specs.declared.row.Row.{Row}
-use Rattle.replay_text.specs.declared.row.Row.TheVariants.{Crash, Open, Send, Tick}
+use Rattle.bus_rows.specs.declared.row.Row.{Row}
+use Rattle.bus_rows.specs.declared.row.Row.TheVariants.{Crash, Open, Send, Tick}
 use Rattle.bus_agreement.specs.Allocatees.{Holds}
 use Rattle.service_alone.specs.Alone.{MayBeServed}
 use Rattle.service_steps.specs.ComingBack.{HasGrown}

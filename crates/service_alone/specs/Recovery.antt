@@ -5,7 +5,7 @@ use Rattle.can_frame.specs.Zeros.{zeros}
 use Rattle.raft_model.specs.Lists.{In}
 use Rattle.raft_model.specs.Moves.Elections.{term_limit}
 use Rattle.raft_model.specs.Runs.{initial_world, run}
-use Rattle.replay_text.specs.declared.row.Row.{Row}
+use Rattle.bus_rows.specs.declared.row.Row.{Row}
 use Rattle.service_steps.specs.Coming.{CanCome}
 use Rattle.service_steps.specs.ComingBack.{IsMajority, IsTold}
 use Rattle.bus_spec.specs.Choices.{AgreesWithDisk}

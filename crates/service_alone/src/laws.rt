@@ -11,11 +11,12 @@ ghost use Rattle.service_alone.specs.CalmRecovery.{RecoversForNew, RestsSoon, Se
 ghost use Rattle.service_alone.specs.CalmRecovery.{StaysReady, StaysSettled, StopsAtOnce, no_own_traffic};
 ghost use Rattle.service_alone.specs.CalmRecovery.{time_to_settle};
 ghost use Rattle.service_alone.specs.Recovery.{AreNeverStuck};
-ghost use Rattle.bus_spec.specs.Cluster.{AreMembers, after_row, cluster, world_of};
+ghost use Rattle.alloc_spec.specs.ClusterMembers.{AreMembers};
+ghost use Rattle.bus_spec.specs.Cluster.{after_row, cluster, world_of};
 ghost use Rattle.bus_spec.specs.Lawful.{DoNoHarm};
 ghost use Rattle.raft_model.specs.Server.{empty_store};
-ghost use Rattle.replay_text.specs.declared.row.Row.{Row};
-ghost use Rattle.replay_text.specs.declared.row.Row.TheVariants.{Open};
+ghost use Rattle.bus_rows.specs.declared.row.Row.{Row};
+ghost use Rattle.bus_rows.specs.declared.row.Row.TheVariants.{Open};
 
 use bus_agreement::headline::{a_choice_fits, rows_are_shown, rows_grow_by_one};
 use can_frame::laws::{

@@ -6,8 +6,8 @@ use Rattle.raft_core.specs.Times.{Sending, is_overdue, is_silent}
 use Rattle.raft_model.specs.Lists.{In, at, at_here, at_other}
 use Rattle.raft_model.specs.Messages.{Request}
 use Rattle.raft_model.specs.Server.Role.{Leader}
-use Rattle.replay_text.specs.declared.row.Row.{Row}
-use Rattle.replay_text.specs.declared.row.Row.TheVariants.{AEnd, AOpen, ARx, ASend, ATick, Crash, Ext, Fault, Open, Rx, Send, Tick}
+use Rattle.bus_rows.specs.declared.row.Row.{Row}
+use Rattle.bus_rows.specs.declared.row.Row.TheVariants.{AEnd, AOpen, ARx, ASend, ATick, Crash, Ext, Fault, Open, Rx, Send, Tick}
 use Rattle.alloc_spec.specs.AllocatorState.{AllocatorState, members_of, start_of}
 use Rattle.alloc_spec.specs.Step.{Event, after_pop, moment_of, step}
 use Rattle.alloc_spec_laws.proofs.Choices.{either}

@@ -6,8 +6,8 @@ use Rattle.can_frame.specs.Identifier.{identifier_number}
 use Rattle.dsdl_codec.specs.declared.allocation.Allocation.{Allocation}
 use Rattle.dsdl_codec.specs.Allocation.{allocation_bytes}
 use Rattle.raft_model.specs.Lists.{In, at_here}
-use Rattle.replay_text.specs.declared.row.Row.{Row}
-use Rattle.replay_text.specs.declared.row.Row.TheVariants.{ATick, Rx}
+use Rattle.bus_rows.specs.declared.row.Row.{Row}
+use Rattle.bus_rows.specs.declared.row.Row.TheVariants.{ATick, Rx}
 use Rattle.transfer_rx.specs.Reassembly.{Arrival}
 use Rattle.transfer_tx.specs.declared.outgoing.Outgoing.{Outgoing}
 use Rattle.transfer_tx.specs.Queue.{Queued, queued_frames}

@@ -6,8 +6,8 @@ use Rattle.can_frame.specs.declared.step.What.{What}
 use Rattle.can_frame.specs.Identifier.{identifier_number}
 use Rattle.can_frame.specs.Kinds.{is_anonymous}
 use Rattle.raft_model.specs.Lists.{In}
-use Rattle.replay_text.specs.declared.row.Row.{Row}
-use Rattle.replay_text.specs.declared.row.Row.TheVariants.{Send}
+use Rattle.bus_rows.specs.declared.row.Row.{Row}
+use Rattle.bus_rows.specs.declared.row.Row.TheVariants.{Send}
 use Rattle.transfer_rx.specs.Acceptance.{is_for, wanted}
 use Rattle.transfer_rx.specs.Sessions.{Session}
 use Rattle.alloc_spec.specs.AllocatorState.{AllocatorState}

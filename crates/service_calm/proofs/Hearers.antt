@@ -1,6 +1,6 @@
 -- A party that hears one member: what each calm row leaves of its receiver.
 use Rattle.std.proofs.Common.{◌≡◌, ℕ, ◌+◌, ◌<◌, ◌≤◌, true, false, List, length, max, Some}
-use Rattle.replay_text.specs.declared.row.Row.{Row}
+use Rattle.bus_rows.specs.declared.row.Row.{Row}
 use Rattle.transfer_rx.specs.Reassembly.{Gives, answer, next}
 use Rattle.transfer_rx.specs.Outcome.{blocks_used}
 use Rattle.transfer_rx.specs.Sessions.{Session}

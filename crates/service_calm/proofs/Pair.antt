@@ -9,8 +9,8 @@ use Rattle.can_frame.specs.declared.identifier.Kind.TheVariants.{Message}
 use Rattle.can_frame.specs.Identifier.{identifier_number}
 use Rattle.can_frame.specs.Kinds.{is_anonymous}
 use Rattle.raft_model.specs.Lists.{In, at, at_here, at_other}
-use Rattle.replay_text.specs.declared.row.Row.{Row}
-use Rattle.replay_text.specs.declared.row.Row.TheVariants.{AEnd, AOpen, ARx, ASend, ATick, Crash, Ext, Fault, Open, Rx, Send, Tick}
+use Rattle.bus_rows.specs.declared.row.Row.{Row}
+use Rattle.bus_rows.specs.declared.row.Row.TheVariants.{AEnd, AOpen, ARx, ASend, ATick, Crash, Ext, Fault, Open, Rx, Send, Tick}
 use Rattle.transfer_rx.specs.Acceptance.{is_for, wanted}
 use Rattle.transfer_rx.specs.declared.key.Key.{Key}
 use Rattle.transfer_rx.specs.Keys.{key_of}

@@ -8,7 +8,7 @@ use Rattle.raft_core.specs.Handled as handled
 use Rattle.raft_model.specs.Lists.{In}
 use Rattle.raft_model.specs.Messages.Message.{Requests}
 use Rattle.raft_model.specs.Server.Role.{Follower, Leader}
-use Rattle.replay_text.specs.declared.row.Row.{Row}
+use Rattle.bus_rows.specs.declared.row.Row.{Row}
 use Rattle.alloc_spec.specs.AllocatorState.{AllocatorState, members_of}
 use Rattle.alloc_spec.specs.Transfers.{Offer, SentTransfer, id_of}
 use Rattle.service_steps.specs.InTime.{HearsLeader}

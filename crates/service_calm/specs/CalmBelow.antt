@@ -5,8 +5,8 @@ use Rattle.can_frame.specs.Cutting.{bytes_cut, cut_length, frames_of, joined}
 use Rattle.raft_model.specs.Invariants.{Invariants}
 use Rattle.raft_model.specs.Lists.{In}
 use Rattle.raft_model.specs.Runs.{InEveryRun, World, initial_world}
-use Rattle.replay_text.specs.declared.row.Row.{Row}
-use Rattle.replay_text.specs.declared.row.Row.TheVariants.{Rx as RxRow}
+use Rattle.bus_rows.specs.declared.row.Row.{Row}
+use Rattle.bus_rows.specs.declared.row.Row.TheVariants.{Rx as RxRow}
 use Rattle.transfer_rx.specs.declared.accept.Wanted.{Wanted}
 use Rattle.transfer_rx.specs.Keys.{key_of}
 use Rattle.transfer_rx.specs.Marks.{is_whole}
@@ -27,7 +27,8 @@ use Rattle.bus_agreement.specs.Safe.{IsDeliveredTo, IsOneTransfer}
 use Rattle.bus_agreement.specs.Shows.{Shows}
 use Rattle.bus_agreement.specs.StepLaws.{MoreLaws, StepLaws}
 use Rattle.bus_spec.specs.Choices.{AgreesWithDisk}
-use Rattle.bus_spec.specs.Cluster.{AreMembers, Cluster, after_row, after_rows, cluster, world_of}
+use Rattle.alloc_spec.specs.ClusterMembers.{AreMembers}
+use Rattle.bus_spec.specs.Cluster.{Cluster, after_row, after_rows, cluster, world_of}
 use Rattle.bus_spec.specs.Lawful.{DoNoHarm, DoesNoHarm}
 use Rattle.bus_spec.specs.Refinement.{events, transfers_of_row, transfers_of_rows}
 

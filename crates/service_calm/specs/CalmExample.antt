@@ -5,8 +5,8 @@ use Rattle.can_frame.specs.declared.identifier.Kind.TheVariants.{Response}
 use Rattle.can_frame.specs.declared.step.What.TheVariants.{AppQ, Stat, VoteQ}
 use Rattle.dsdl_codec.specs.declared.append_request.AppendRequest.{AppendRequest}
 use Rattle.raft_model.specs.Messages.Message.{Requests}
-use Rattle.replay_text.specs.declared.row.Row.{Row}
-use Rattle.replay_text.specs.declared.row.Row.TheVariants.{AOpen, ARx, Open, Rx, Send, Tick}
+use Rattle.bus_rows.specs.declared.row.Row.{Row}
+use Rattle.bus_rows.specs.declared.row.Row.TheVariants.{AOpen, ARx, Open, Rx, Send, Tick}
 use Rattle.alloc_spec.specs.Transfers.{Offer, id_of, kind_of}
 use Rattle.service_alone.specs.Calm.{Pace, Timed, end_of, rows_in}
 use Rattle.service_calm.specs.Calm.{Device, Member, Party}

@@ -9,8 +9,8 @@ use Rattle.can_frame.specs.Kinds.{is_service}
 use Rattle.can_frame.specs.Sizes.{blocks, sessions}
 use Rattle.can_frame.specs.Timing.{transfer_timeout}
 use Rattle.raft_model.specs.Lists.{In}
-use Rattle.replay_text.specs.declared.row.Row.{Row}
-use Rattle.replay_text.specs.declared.row.Row.TheVariants.{Rx}
+use Rattle.bus_rows.specs.declared.row.Row.{Row}
+use Rattle.bus_rows.specs.declared.row.Row.TheVariants.{Rx}
 use Rattle.transfer_rx.specs.Keys.{key_of}
 use Rattle.transfer_rx.specs.Outcome.{blocks_used}
 use Rattle.transfer_rx.specs.Reassembly.{Delivery, Gives, answer}

@@ -6,8 +6,8 @@ use Rattle.can_frame.specs.Identifier.{identifier_number}
 use Rattle.can_frame.specs.Timing.{transfer_timeout}
 use Rattle.dsdl_codec.specs.declared.allocation.Allocation.{Allocation}
 use Rattle.raft_model.specs.Lists.{In}
-use Rattle.replay_text.specs.declared.row.Row.{Row}
-use Rattle.replay_text.specs.declared.row.Row.TheVariants.{ARx, ATick, Rx}
+use Rattle.bus_rows.specs.declared.row.Row.{Row}
+use Rattle.bus_rows.specs.declared.row.Row.TheVariants.{ARx, ATick, Rx}
 use Rattle.transfer_rx.specs.Keys.{key_of}
 use Rattle.transfer_rx.specs.Outcome.{blocks_used}
 use Rattle.transfer_rx.specs.Reassembly.{Gives, answer}

@@ -2,8 +2,8 @@
 -- hears it and sends an Allocation, and the device hears that.
 use Rattle.std.specs.Prelude.{ℕ, List, [], ◌∷◌, ◌++◌, None, replicate, true}
 use Rattle.can_frame.specs.declared.step.What.TheVariants.{Alloc}
-use Rattle.replay_text.specs.declared.row.Row.{Row}
-use Rattle.replay_text.specs.declared.row.Row.TheVariants.{AOpen, ARx, ASend, ATick, Rx, Send, Tick}
+use Rattle.bus_rows.specs.declared.row.Row.{Row}
+use Rattle.bus_rows.specs.declared.row.Row.TheVariants.{AOpen, ARx, ASend, ATick, Rx, Send, Tick}
 use Rattle.alloc_spec.specs.Transfers.{Offer}
 use Rattle.service_alone.specs.Calm.{Timed, rows_in}
 use Rattle.service_calm.specs.Calm.{Device, Member, Party}

@@ -19,10 +19,11 @@ ghost use Rattle.service_calm.specs.DevicesExample.{allocation_offer, answering_
 ghost use Rattle.service_calm.specs.DevicesExample.{asking_group, asking_row, asking_rows, asking_start};
 ghost use Rattle.service_calm.specs.DevicesExample.{asking_world, rows_before};
 ghost use Rattle.service_calm.specs.GoesOn.{CalmGoesOn};
-ghost use Rattle.bus_spec.specs.Cluster.{AreMembers, cluster};
+ghost use Rattle.alloc_spec.specs.ClusterMembers.{AreMembers};
+ghost use Rattle.bus_spec.specs.Cluster.{cluster};
 ghost use Rattle.bus_spec.specs.Lawful.{DoNoHarm};
 ghost use Rattle.raft_model.specs.Lists.{In};
-ghost use Rattle.replay_text.specs.declared.row.Row.{Row};
+ghost use Rattle.bus_rows.specs.declared.row.Row.{Row};
 
 use alloc_spec_laws::laws::{
     members_of_a_step, steps_stay_in_range, transfers_of_a_step_are_apart,

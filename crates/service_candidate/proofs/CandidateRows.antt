@@ -1,7 +1,7 @@
 -- What a row that does no harm leaves of a candidate.
 use Rattle.std.proofs.Common.{ℕ, ◌≡◌, ◌+◌, refl, sym, subst, inl, inr}
 use Rattle.raft_model.specs.Server.Role.{Candidate}
-use Rattle.replay_text.specs.declared.row.Row.{Row}
+use Rattle.bus_rows.specs.declared.row.Row.{Row}
 use Rattle.alloc_spec.specs.AllocatorState.{AllocatorState}
 use Rattle.service_candidate.specs.Votes.{HearsAppend, IsCandidateStill}
 use Rattle.service_candidate.proofs.CandidatesStay.{StillIs, still_at_frame, still_at_tick}

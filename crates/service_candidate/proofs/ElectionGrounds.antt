@@ -3,7 +3,7 @@ use Rattle.std.proofs.Common.{◌≡◌, ◌+◌, ◌<◌, ◌≤◌, ℕ, true,
 use Rattle.raft_model.specs.Lists.{In}
 use Rattle.raft_model.specs.Messages.{Message}
 use Rattle.raft_model.specs.Server.{Store}
-use Rattle.replay_text.specs.declared.row.Row.{Row}
+use Rattle.bus_rows.specs.declared.row.Row.{Row}
 use Rattle.alloc_spec.specs.AllocatorState.{AllocatorState, knows_all}
 use Rattle.alloc_spec.specs.Rules.{opening_by}
 use Rattle.alloc_spec.specs.Transfers.{Offer, SentTransfer}
@@ -24,7 +24,8 @@ use Rattle.service_calm.specs.Comes.{Sends, Throughout, sent_by}
 use Rattle.service_calm.proofs.CallsRead.{sent_made}
 use Rattle.service_calm.proofs.Grounds.{calm_laws, its_run, made, shown, well}
 use Rattle.service_calm.proofs.Group.{AreWell}
-use Rattle.bus_spec.specs.Cluster.{AreMembers, after_rows, cluster, rules_of, world_of}
+use Rattle.alloc_spec.specs.ClusterMembers.{AreMembers}
+use Rattle.bus_spec.specs.Cluster.{after_rows, cluster, rules_of, world_of}
 use Rattle.bus_spec.specs.Lawful.{DoNoHarm, DoesNoHarm}
 use Rattle.bus_spec.specs.Members.MemberStatus.{Up}
 

@@ -14,7 +14,7 @@ use Rattle.raft_model.specs.Log.{NotAbove}
 use Rattle.raft_model.specs.Members.{IsAll}
 use Rattle.raft_model.specs.Server.{Store}
 use Rattle.raft_model.specs.Server.Role.{Leader}
-use Rattle.replay_text.specs.declared.row.Row.{Row}
+use Rattle.bus_rows.specs.declared.row.Row.{Row}
 use Rattle.transfer_tx.specs.Run.{of_identifier}
 use Rattle.alloc_spec.specs.AllocatorState.{AllocatorState, knows_all, members_of, start_of}
 use Rattle.alloc_spec.specs.Rules.{IsToldAll, Rules, opening_by, times_with}
@@ -38,7 +38,8 @@ use Rattle.service_candidate.specs.Wins.{AppendsUnheard, IsBehind, IsCalmStandin
 use Rattle.service_candidate.proofs.WhoAsks.{AskedNobody}
 use Rattle.service_candidate.proofs.WinsFronts.{throughout_join}
 use Rattle.service_candidate.proofs.FirstToStand.{AllFollow, IsFound, find, nobody_leads, nobody_stands}
-use Rattle.bus_spec.specs.Cluster.{AreMembers, Cluster, after_row, after_rows, rules_of, world_of}
+use Rattle.alloc_spec.specs.ClusterMembers.{AreMembers}
+use Rattle.bus_spec.specs.Cluster.{Cluster, after_row, after_rows, rules_of, world_of}
 use Rattle.bus_spec.specs.Lawful.{DoNoHarm}
 use Rattle.bus_spec.specs.Members.MemberStatus.{Up}
 

@@ -15,7 +15,7 @@ use Rattle.raft_model.specs.Moves.Elections.{with_term}
 use Rattle.raft_model.specs.Runs as raft
 use Rattle.raft_model.specs.Server.{Put, Store, put_all}
 use Rattle.raft_model.specs.Server.Role.{Candidate, Follower}
-use Rattle.replay_text.specs.declared.row.Row.{Row}
+use Rattle.bus_rows.specs.declared.row.Row.{Row}
 use Rattle.alloc_spec.specs.AllocatorState.{AllocatorState}
 use Rattle.alloc_spec.specs.Step.{step}
 use Rattle.alloc_spec.specs.Transfers.{Offer, SentTransfer}
@@ -43,7 +43,8 @@ use Rattle.service_candidate.proofs.FirstToStand.{at_first}
 use Rattle.service_candidate.proofs.MadeInCalm.{IsMadeIn, Reaches, comes_new, made_later, reach}
 use Rattle.service_candidate.proofs.Unled.{HasStood, has_stood}
 use Rattle.service_candidate.proofs.VotesSaid.{SaysStore, candidates_ask, says_its_store}
-use Rattle.bus_spec.specs.Cluster.{AreMembers, Cluster, after_row, after_rows, cluster, world_of}
+use Rattle.alloc_spec.specs.ClusterMembers.{AreMembers}
+use Rattle.bus_spec.specs.Cluster.{Cluster, after_row, after_rows, cluster, world_of}
 use Rattle.bus_spec.specs.Lawful.{DoNoHarm, DoesNoHarm}
 use Rattle.bus_spec.specs.Members.MemberStatus.{Up}
 use Rattle.bus_spec.specs.Refinement.{transfers_of_rows}

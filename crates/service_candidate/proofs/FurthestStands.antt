@@ -7,7 +7,7 @@ use Rattle.raft_model.specs.Lists.{In}
 use Rattle.raft_model.specs.Log.{NotAbove}
 use Rattle.raft_model.specs.Runs as raft
 use Rattle.raft_model.specs.Server.Role.{Follower}
-use Rattle.replay_text.specs.declared.row.Row.{Row}
+use Rattle.bus_rows.specs.declared.row.Row.{Row}
 use Rattle.alloc_spec.specs.AllocatorState.{AllocatorState}
 use Rattle.alloc_spec.specs.Transfers.{SentTransfer}
 use Rattle.alloc_spec_laws.proofs.Choices.{lt_tells}
@@ -28,7 +28,8 @@ use Rattle.service_candidate.specs.Waits.{GivesVote, StandsBy, WaitsAnew, WaitsH
 use Rattle.service_candidate.proofs.ElectionsEnd.{all_run, is_opened, none_waits, opened}
 use Rattle.service_candidate.proofs.Furthest.{harmless_at, holds_behind, one_more, stood_at, vote_for}
 use Rattle.service_candidate.proofs.Unled.{HasStood, IsLedIn, ends_before, nobody_or_led}
-use Rattle.bus_spec.specs.Cluster.{AreMembers, Cluster, after_rows, cluster, world_of}
+use Rattle.alloc_spec.specs.ClusterMembers.{AreMembers}
+use Rattle.bus_spec.specs.Cluster.{Cluster, after_rows, cluster, world_of}
 use Rattle.bus_spec.specs.Lawful.{DoNoHarm, DoesNoHarm}
 use Rattle.bus_spec.specs.Members.{MemberStatus}
 use Rattle.bus_spec.specs.Members.MemberStatus.{Down, Failed, Up}

@@ -9,7 +9,7 @@ use Rattle.can_frame.specs.Identifier.{identifier_number, identifier_of}
 use Rattle.can_frame.specs.Kinds.{is_service}
 use Rattle.raft_model.specs.Lists.{In}
 use Rattle.raft_model.specs.Server.Role.{Leader}
-use Rattle.replay_text.specs.declared.row.Row.{Row}
+use Rattle.bus_rows.specs.declared.row.Row.{Row}
 use Rattle.transfer_rx.specs.Acceptance.{is_for}
 use Rattle.transfer_rx.specs.Reassembly.{Arrival, Delivery, Gives, answer}
 use Rattle.transfer_tx.specs.Queue.{Queued}

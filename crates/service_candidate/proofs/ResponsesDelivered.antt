@@ -9,7 +9,7 @@ use Rattle.can_frame.specs.Cutting.{frame_count}
 use Rattle.can_frame.specs.Kinds.{is_anonymous}
 use Rattle.raft_model.specs.Lists.{In}
 use Rattle.raft_model.specs.Runs as raft
-use Rattle.replay_text.specs.declared.row.Row.TheVariants.{Rx}
+use Rattle.bus_rows.specs.declared.row.Row.TheVariants.{Rx}
 use Rattle.transfer_rx.specs.declared.key.Key.{Key}
 use Rattle.transfer_rx.specs.Keys.{key_of}
 use Rattle.transfer_rx.specs.Reassembly.{Arrival, Delivery, Gives, answer, piece_in}
@@ -30,7 +30,8 @@ use Rattle.bus_agreement.proofs.OneRow.{IsReceived, is_harmless, is_received}
 use Rattle.bus_agreement.proofs.Pieces.{whole_at}
 use Rattle.bus_agreement.proofs.WholeTransfers.{IsFrom, from_bus, members_own, some_is}
 use Rattle.service_calm.specs.Comes.{delivery_of}
-use Rattle.bus_spec.specs.Cluster.{AreMembers, Cluster, arrival_at, frame_at}
+use Rattle.alloc_spec.specs.ClusterMembers.{AreMembers}
+use Rattle.bus_spec.specs.Cluster.{Cluster, arrival_at, frame_at}
 use Rattle.bus_spec.specs.Lawful.{DoesNoHarm, IsHarmlessAt, is_forged}
 use Rattle.bus_spec.specs.Members.{MemberStatus}
 use Rattle.bus_spec.specs.Members.MemberStatus.{Up}

@@ -7,8 +7,8 @@ use Rattle.raft_model.specs.Messages.{Request}
 use Rattle.raft_model.specs.Runs as raft
 use Rattle.raft_model.specs.Server.{Role}
 use Rattle.raft_model.specs.Server.Role.{Leader}
-use Rattle.replay_text.specs.declared.row.Row.{Row}
-use Rattle.replay_text.specs.declared.row.Row.TheVariants.{Rx}
+use Rattle.bus_rows.specs.declared.row.Row.{Row}
+use Rattle.bus_rows.specs.declared.row.Row.TheVariants.{Rx}
 use Rattle.transfer_rx.specs.Reassembly.{Delivery, Gives, answer}
 use Rattle.alloc_spec.specs.Accepted.{setting_for}
 use Rattle.alloc_spec.specs.AllocatorState.{AllocatorState, members_of}
@@ -24,7 +24,8 @@ use Rattle.service_candidate.proofs.RowsLeave.{row_leaves}
 use Rattle.service_candidate.proofs.VotesPend.{IsNext, Still, pends_at_frame, pends_at_tick}
 use Rattle.service_calm.specs.Comes.{delivery_of}
 use Rattle.service_calm.proofs.Counting.{now_after}
-use Rattle.bus_spec.specs.Cluster.{AreMembers, Cluster, after_row, arrival_at, frame_at, receipt_of, tick_of}
+use Rattle.alloc_spec.specs.ClusterMembers.{AreMembers}
+use Rattle.bus_spec.specs.Cluster.{Cluster, after_row, arrival_at, frame_at, receipt_of, tick_of}
 use Rattle.bus_spec.specs.Lawful.{DoesNoHarm}
 use Rattle.bus_spec.specs.Members.{MemberStatus}
 use Rattle.bus_spec.specs.Members.MemberStatus.{Up}

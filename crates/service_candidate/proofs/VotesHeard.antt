@@ -13,7 +13,7 @@ use Rattle.raft_core.specs.Handled as handled
 use Rattle.raft_model.specs.Invariants.{Invariants, IsBound}
 use Rattle.raft_model.specs.Lists.{In}
 use Rattle.raft_model.specs.Server.{RaftServer}
-use Rattle.replay_text.specs.declared.row.Row.TheVariants.{Rx}
+use Rattle.bus_rows.specs.declared.row.Row.TheVariants.{Rx}
 use Rattle.transfer_rx.specs.Reassembly.{Delivery, Gives, answer}
 use Rattle.alloc_spec.specs.Accepted.{is_of_members, setting_for}
 use Rattle.alloc_spec.specs.AllocatorState.{AllocatorState}

@@ -18,7 +18,7 @@ use Rattle.raft_model.specs.Moves.Move.{TakeVoteRequest}
 use Rattle.raft_model.specs.Server.{Memory, RaftServer, Store, put_all}
 use Rattle.raft_model.specs.Server.Put.{PutTerm, PutVote}
 use Rattle.raft_model.specs.Server.Role.{Follower}
-use Rattle.replay_text.specs.declared.row.Row.{Row}
+use Rattle.bus_rows.specs.declared.row.Row.{Row}
 use Rattle.transfer_rx.specs.Reassembly.{Arrival, Delivery}
 use Rattle.alloc_spec.specs.AllocatorState.{AllocatorState, members_of}
 use Rattle.alloc_spec.specs.Delivered.{StepResult, by_kind, delivery_phase, reads, took}

@@ -14,7 +14,7 @@ use Rattle.raft_model.specs.Moves.Move.{GiveUp, TakeVoteAnswer}
 use Rattle.raft_model.specs.Server.{Memory, RaftServer, Role, Store, put_all}
 use Rattle.raft_model.specs.Server.Put.{PutTerm, PutVote}
 use Rattle.raft_model.specs.Server.Role.{Candidate, Follower, Leader}
-use Rattle.replay_text.specs.declared.row.Row.{Row}
+use Rattle.bus_rows.specs.declared.row.Row.{Row}
 use Rattle.transfer_rx.specs.Reassembly.{Arrival}
 use Rattle.alloc_spec.specs.AllocatorState.{AllocatorState, members_of}
 use Rattle.alloc_spec.specs.Delivered.{StepResult, took}

@@ -25,8 +25,8 @@ use Rattle.alloc_spec_laws.proofs.Lists.{in_append}
 use Rattle.alloc_spec_laws.proofs.Transfers.{event_offers}
 use Rattle.service_calm.proofs.CallsOffered.{same_after}
 use Rattle.raft_model.specs.Lists.{at, at_here}
-use Rattle.replay_text.specs.declared.row.Row.{Row}
-use Rattle.replay_text.specs.declared.row.Row.TheVariants.{AEnd, AOpen, ARx, ASend, ATick, Crash, Ext, Fault, Open, Rx, Send, Tick}
+use Rattle.bus_rows.specs.declared.row.Row.{Row}
+use Rattle.bus_rows.specs.declared.row.Row.TheVariants.{AEnd, AOpen, ARx, ASend, ATick, Crash, Ext, Fault, Open, Rx, Send, Tick}
 use Rattle.service_alone.specs.Calm.{Timed, rows_in}
 use Rattle.service_candidate.specs.Wins.{OffersVoteRequest}
 use Rattle.service_candidate.proofs.FirstToStand.{AllFollow}

@@ -8,7 +8,7 @@ use Rattle.raft_model.specs.Moves.Elections.{own_vote}
 use Rattle.raft_model.specs.Moves.Leading.{vote_request}
 use Rattle.raft_model.specs.Server.{Store}
 use Rattle.raft_model.specs.Server.Role.{Candidate}
-use Rattle.replay_text.specs.declared.row.Row.{Row}
+use Rattle.bus_rows.specs.declared.row.Row.{Row}
 use Rattle.alloc_spec.specs.AllocatorState.{AllocatorState, members_of}
 use Rattle.alloc_spec.specs.Step.{step}
 use Rattle.alloc_spec.specs.StepState.{StepState}

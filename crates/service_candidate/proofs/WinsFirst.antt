@@ -4,7 +4,7 @@ use Rattle.std.proofs.lemmas.List.{append_assoc}
 use Rattle.raft_model.specs.Lists.{In, at_other}
 use Rattle.raft_model.specs.Server.{Role}
 use Rattle.raft_model.specs.Server.Role.{Follower, Leader}
-use Rattle.replay_text.specs.declared.row.Row.{Row}
+use Rattle.bus_rows.specs.declared.row.Row.{Row}
 use Rattle.alloc_spec.specs.AllocatorState.{AllocatorState}
 use Rattle.service_alone.specs.Calm.{Timed, end_of}
 use Rattle.service_candidate.specs.Wins.{LeadsAlone}

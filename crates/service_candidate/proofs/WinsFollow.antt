@@ -12,7 +12,7 @@ use Rattle.raft_model.specs.Messages.{Request}
 use Rattle.raft_model.specs.Moves.Elections.{IsGranted, MayGrant, with_term}
 use Rattle.raft_model.specs.Server.{Store}
 use Rattle.raft_model.specs.Server.Role.{Follower, Leader}
-use Rattle.replay_text.specs.declared.row.Row.{Row}
+use Rattle.bus_rows.specs.declared.row.Row.{Row}
 use Rattle.alloc_spec.specs.AllocatorState.{AllocatorState}
 use Rattle.alloc_spec.specs.Step.{Event, moment_of, step}
 use Rattle.alloc_spec_laws.proofs.Choices.{lt_tells}

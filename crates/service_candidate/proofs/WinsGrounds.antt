@@ -7,7 +7,7 @@ use Rattle.raft_model.specs.Members.{IsAll}
 use Rattle.raft_model.specs.Moves.Elections.{has_quorum}
 use Rattle.raft_model.specs.Server.{quorum}
 use Rattle.raft_model.specs.Server.Role.{Follower}
-use Rattle.replay_text.specs.declared.row.Row.{Row}
+use Rattle.bus_rows.specs.declared.row.Row.{Row}
 use Rattle.alloc_spec.specs.AllocatorState.{AllocatorState, members_of, start_of}
 use Rattle.bus_agreement.proofs.Lists.{equal, none_twice}
 use Rattle.cluster_discovery.specs.Members.{IsMemberList, IsStart}
@@ -20,7 +20,8 @@ use Rattle.service_leader.proofs.Stretches.{harmless_both}
 use Rattle.service_calm.specs.Calm.{Party}
 use Rattle.service_calm.specs.CalmBelow.{CalmGrounds}
 use Rattle.service_calm.proofs.Grounds.{its_node, shown_up}
-use Rattle.bus_spec.specs.Cluster.{AreMembers, Cluster, after_row, after_rows, cluster, world_of}
+use Rattle.alloc_spec.specs.ClusterMembers.{AreMembers}
+use Rattle.bus_spec.specs.Cluster.{Cluster, after_row, after_rows, cluster, world_of}
 use Rattle.bus_spec.specs.Lawful.{DoNoHarm}
 use Rattle.bus_spec.specs.Members.MemberStatus.{Up}
 

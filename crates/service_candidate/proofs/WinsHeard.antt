@@ -8,7 +8,7 @@ use Rattle.can_frame.specs.Timing.{transfer_timeout}
 use Rattle.raft_model.specs.Moves.Leading.{vote_request}
 use Rattle.raft_model.specs.Lists.{In}
 use Rattle.raft_model.specs.Messages.{Request}
-use Rattle.replay_text.specs.declared.row.Row.{Row}
+use Rattle.bus_rows.specs.declared.row.Row.{Row}
 use Rattle.alloc_spec.specs.AllocatorState.{AllocatorState, members_of}
 use Rattle.raft_core.specs.Handled as handled
 use Rattle.alloc_spec.specs.Step.{Event, step}

@@ -3,7 +3,7 @@ use Rattle.std.proofs.Common.{◌≡◌, ◌≢◌, ℕ, ◌+◌, ◌≤◌, ari
 use Rattle.std.proofs.lemmas.Bool.Decides.{eqb_tells}
 use Rattle.std.proofs.lemmas.List.{append_assoc}
 use Rattle.raft_model.specs.Lists.{In}
-use Rattle.replay_text.specs.declared.row.Row.{Row}
+use Rattle.bus_rows.specs.declared.row.Row.{Row}
 use Rattle.alloc_spec.specs.AllocatorState.{AllocatorState}
 use Rattle.alloc_spec.specs.Step.{step}
 use Rattle.alloc_spec_laws.proofs.Choices.{lt_tells}

@@ -12,7 +12,7 @@ use Rattle.raft_model.specs.Messages.{Request}
 use Rattle.raft_model.specs.Moves.Elections.{IsGranted, has_quorum}
 use Rattle.raft_model.specs.Server.{Store, quorum}
 use Rattle.raft_model.specs.Server.Role.{Candidate, Follower, Leader}
-use Rattle.replay_text.specs.declared.row.Row.{Row}
+use Rattle.bus_rows.specs.declared.row.Row.{Row}
 use Rattle.alloc_spec.specs.AllocatorState.{AllocatorState, members_of, start_of}
 use Rattle.alloc_spec.specs.Step.{Event, moment_of, step}
 use Rattle.alloc_spec.specs.Transfers.{Offer}

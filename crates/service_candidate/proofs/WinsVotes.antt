@@ -16,8 +16,8 @@ use Rattle.service_calm.proofs.Pair.{same_server}
 use Rattle.transfer_rx.specs.Reassembly.{Delivery, Gives}
 use Rattle.alloc_spec.specs.Accepted.{setting_for}
 use Rattle.transfer_rx.specs.Reassembly as receiver
-use Rattle.replay_text.specs.declared.row.Row.{Row}
-use Rattle.replay_text.specs.declared.row.Row.TheVariants.{Rx}
+use Rattle.bus_rows.specs.declared.row.Row.{Row}
+use Rattle.bus_rows.specs.declared.row.Row.TheVariants.{Rx}
 use Rattle.bus_spec.specs.Cluster.{Cluster, arrival_at, frame_at}
 
 -- ---- small facts

@@ -8,7 +8,7 @@ use Rattle.raft_model.specs.Lists.{In, how_many}
 use Rattle.raft_model.specs.Log.{NotAbove}
 use Rattle.raft_model.specs.Server.{Store, quorum}
 use Rattle.raft_model.specs.Server.Role.{Follower, Leader}
-use Rattle.replay_text.specs.declared.row.Row.{Row}
+use Rattle.bus_rows.specs.declared.row.Row.{Row}
 use Rattle.alloc_spec.specs.AllocatorState.{AllocatorState}
 use Rattle.alloc_spec.specs.Rules.{opening_by}
 use Rattle.service_alone.specs.Calm.{Pace, Timed, end_of, rows_in}

@@ -6,7 +6,7 @@ use Rattle.raft_model.specs.Members.{IsAll}
 use Rattle.raft_model.specs.Messages.{Request}
 use Rattle.raft_model.specs.Moves.Elections.{IsGranted}
 use Rattle.raft_model.specs.Server.{Store}
-use Rattle.replay_text.specs.declared.row.Row.{Row}
+use Rattle.bus_rows.specs.declared.row.Row.{Row}
 use Rattle.alloc_spec.specs.AllocatorState.{knows_all, members_of}
 use Rattle.alloc_spec.specs.Rules.{IsToldAll, Rules, opening_by}
 use Rattle.service_steps.specs.InTime.{FramesLeaveFollowers, StaysFollower, WaitsAnew}

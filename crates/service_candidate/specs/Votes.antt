@@ -15,8 +15,8 @@ use Rattle.raft_model.specs.Messages.Message.{Answers, Requests}
 use Rattle.raft_model.specs.Moves.Elections.{has_quorum, own_vote, votes_with, with_term}
 use Rattle.raft_model.specs.Moves.Leading.{answer_to, vote_request}
 use Rattle.raft_model.specs.Server.Role.{Candidate, Follower, Leader}
-use Rattle.replay_text.specs.declared.row.Row.{Row}
-use Rattle.replay_text.specs.declared.row.Row.TheVariants.{Rx, Tick}
+use Rattle.bus_rows.specs.declared.row.Row.{Row}
+use Rattle.bus_rows.specs.declared.row.Row.TheVariants.{Rx, Tick}
 use Rattle.transfer_rx.specs.Reassembly.{Delivery}
 use Rattle.alloc_spec.specs.AllocatorState.{AllocatorState, members_of}
 use Rattle.alloc_spec.specs.Step.{step}

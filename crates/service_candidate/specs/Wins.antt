@@ -9,7 +9,7 @@ use Rattle.can_frame.specs.Log.{last_term}
 use Rattle.raft_model.specs.Log.{NotAbove}
 use Rattle.raft_model.specs.Server.{quorum}
 use Rattle.raft_model.specs.Server.Role.{Follower}
-use Rattle.replay_text.specs.declared.row.Row.{Row}
+use Rattle.bus_rows.specs.declared.row.Row.{Row}
 use Rattle.alloc_spec.specs.AllocatorState.{AllocatorState}
 use Rattle.alloc_spec.specs.Step.{Event, step}
 use Rattle.alloc_spec.specs.Transfers.{Offer}

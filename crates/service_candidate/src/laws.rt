@@ -11,9 +11,10 @@ ghost use Rattle.service_candidate.specs.VotesAlone.{VotesComeAlone};
 ghost use Rattle.service_candidate.specs.Waits.{WaitsBeginThen, WaitsHaveReasons, WhoWaitsStands};
 ghost use Rattle.service_candidate.specs.Wins.{WhoStandsAloneWins, WhoStandsFirstWins, WhoStandsIsHeard};
 ghost use Rattle.service_candidate.specs.Wins.{WhoStandsKnowsTerms};
-ghost use Rattle.bus_spec.specs.Cluster.{AreMembers, cluster};
+ghost use Rattle.alloc_spec.specs.ClusterMembers.{AreMembers};
+ghost use Rattle.bus_spec.specs.Cluster.{cluster};
 ghost use Rattle.bus_spec.specs.Lawful.{DoNoHarm};
-ghost use Rattle.replay_text.specs.declared.row.Row.{Row};
+ghost use Rattle.bus_rows.specs.declared.row.Row.{Row};
 ghost use Rattle.std.specs.Prelude.{ℕ, List};
 
 use alloc_spec_laws::laws::members_of_a_step;

@@ -4,7 +4,7 @@ use Rattle.raft_model.specs.Invariants.{SoundStore}
 use Rattle.raft_model.specs.Lists.{In, how_many}
 use Rattle.raft_model.specs.Members.{IsAll}
 use Rattle.raft_model.specs.Server.{RaftServer}
-use Rattle.replay_text.specs.declared.row.Row.{Row}
+use Rattle.bus_rows.specs.declared.row.Row.{Row}
 use Rattle.alloc_spec.specs.AllocatorState.{AllocatorState}
 use Rattle.bus_agreement.proofs.Concatenations.{first_harmless}
 use Rattle.service_alone.specs.Calm.{rows_in}
@@ -17,7 +17,8 @@ use Rattle.service_device.specs.Settles.{LeadersAddTheirBlanks}
 use Rattle.service_device.specs.ServiceBelow.{ServiceGrounds}
 use Rattle.service_device.proofs.ServiceFronts.{fitting}
 use Rattle.service_calm.proofs.Grounds.{invariants, its_node, shown_up}
-use Rattle.bus_spec.specs.Cluster.{AreMembers, Cluster, after_rows, cluster, world_of}
+use Rattle.alloc_spec.specs.ClusterMembers.{AreMembers}
+use Rattle.bus_spec.specs.Cluster.{Cluster, after_rows, cluster, world_of}
 use Rattle.bus_spec.specs.Lawful.{DoNoHarm}
 use Rattle.bus_spec.specs.Members.MemberStatus.{Up}
 

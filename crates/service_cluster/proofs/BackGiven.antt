@@ -5,7 +5,7 @@ use Rattle.can_frame.specs.Log.{last_term, log_limit}
 use Rattle.raft_model.specs.Invariants.{SoundStore}
 use Rattle.raft_model.specs.Lists.{In}
 use Rattle.raft_model.specs.Server.Role.{Leader}
-use Rattle.replay_text.specs.declared.row.Row.{Row}
+use Rattle.bus_rows.specs.declared.row.Row.{Row}
 use Rattle.alloc_spec.specs.AllocatorState.{AllocatorState, knows_all, members_of}
 use Rattle.service_alone.specs.Calm.{Pace, Timed, end_of, rows_in}
 use Rattle.service_calm.specs.Calm.{Member as OfMember, Party}
@@ -15,7 +15,8 @@ use Rattle.service_elections.specs.Calling.{CallsReturnInRounds, LeadersGoOnCall
 use Rattle.service_device.specs.Settles.{LeadersSettle, WaitsWithBlank}
 use Rattle.service_device.specs.Tidy.{DiscoveriesMissNobody, MembersStayFit}
 use Rattle.service_device.proofs.SettlesLaw.{IsFitting}
-use Rattle.bus_spec.specs.Cluster.{AreMembers, Cluster, after_rows, world_of}
+use Rattle.alloc_spec.specs.ClusterMembers.{AreMembers}
+use Rattle.bus_spec.specs.Cluster.{Cluster, after_rows, world_of}
 use Rattle.bus_spec.specs.Lawful.{DoNoHarm}
 use Rattle.bus_spec.specs.Members.MemberStatus.{Up}
 

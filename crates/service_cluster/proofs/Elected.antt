@@ -3,7 +3,7 @@ use Rattle.std.proofs.Common.{◌≡◌, ℕ, ◌+◌, ◌<◌, ◌≤◌, arith
 use Rattle.std.proofs.lemmas.Bool.Decides.{eqb_tells}
 use Rattle.can_frame.specs.declared.step.What.TheVariants.{AppQ}
 use Rattle.raft_model.specs.Lists.{In}
-use Rattle.replay_text.specs.declared.row.Row.{Row}
+use Rattle.bus_rows.specs.declared.row.Row.{Row}
 use Rattle.alloc_spec.specs.AllocatorState.{AllocatorState}
 use Rattle.service_steps.specs.InTime.{FramesLeaveFollowers}
 use Rattle.service_alone.specs.Calm.{Pace, Timed, end_of, rows_in}
@@ -25,7 +25,8 @@ use Rattle.service_cluster.proofs.Fronts.{Won, up_at, won}
 use Rattle.service_cluster.proofs.Following.{cut_here, follow_on}
 use Rattle.service_elections.proofs.Opened.{clocks_go_on, ready}
 use Rattle.service_device.proofs.ServedCommitted.{two_cuts}
-use Rattle.bus_spec.specs.Cluster.{AreMembers, Cluster, after_row, after_rows, world_of}
+use Rattle.alloc_spec.specs.ClusterMembers.{AreMembers}
+use Rattle.bus_spec.specs.Cluster.{Cluster, after_row, after_rows, world_of}
 use Rattle.bus_spec.specs.Lawful.{DoNoHarm}
 use Rattle.bus_spec.specs.Members.MemberStatus.{Up}
 

@@ -11,7 +11,7 @@ use Rattle.bus_agreement.specs.Shows.{Shows, ShowsMember, ShowsUp}
 use Rattle.bus_spec.specs.Members.{MemberStatus}
 use Rattle.raft_model.specs.Server.Role.{Leader}
 use Rattle.alloc_spec.specs.Rules.{opening_by}
-use Rattle.replay_text.specs.declared.row.Row.{Row}
+use Rattle.bus_rows.specs.declared.row.Row.{Row}
 use Rattle.alloc_spec.specs.AllocatorState.{AllocatorState, knows_all, members_of}
 use Rattle.alloc_spec_laws.proofs.Choices.{eq_true}
 use Rattle.bus_agreement.proofs.Concatenations.{row_harmless}
@@ -39,7 +39,8 @@ use Rattle.service_cluster.proofs.Settling.{settles}
 use Rattle.service_cluster.proofs.Winning.{frame_wins}
 use Rattle.service_device.specs.Settles.{LeadersSettle}
 use Rattle.service_device.specs.Tidy.{MembersAskNobody, MembersStayTidy, TidyMembersMissNobody}
-use Rattle.bus_spec.specs.Cluster.{AreMembers, Cluster, after_row, after_rows, arrival_at, frame_at, rules_of, world_of}
+use Rattle.alloc_spec.specs.ClusterMembers.{AreMembers}
+use Rattle.bus_spec.specs.Cluster.{Cluster, after_row, after_rows, arrival_at, frame_at, rules_of, world_of}
 use Rattle.bus_spec.specs.Lawful.{DoNoHarm}
 use Rattle.bus_spec.specs.Members.MemberStatus.{Up}
 

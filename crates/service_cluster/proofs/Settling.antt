@@ -6,7 +6,7 @@ use Rattle.can_frame.specs.Log.{last_term, log_limit}
 use Rattle.raft_model.specs.Lists.{In, how_many}
 use Rattle.raft_model.specs.Server.{quorum}
 use Rattle.raft_model.specs.Server.Role.{Leader}
-use Rattle.replay_text.specs.declared.row.Row.{Row}
+use Rattle.bus_rows.specs.declared.row.Row.{Row}
 use Rattle.alloc_spec.specs.AllocatorState.{AllocatorState, is_recorded, knows_all, members_of}
 use Rattle.alloc_spec_laws.specs.Blanks.{IsHeard}
 use Rattle.alloc_spec_laws.proofs.LeadersBlanks.{goes_on_to_wait}
@@ -38,7 +38,8 @@ use Rattle.service_device.specs.Settles.{HasComeToLead, HasSettledBy, IsToSettle
 use Rattle.service_device.specs.Tidy.{IsTidy, MembersAskNobody, MembersStayTidy, TidyMembersMissNobody}
 use Rattle.service_device.proofs.SettlesLaw.{settles_unasked}
 use Rattle.service_device.proofs.TidyLaw.{fit_needs_none, tidy_is_fit}
-use Rattle.bus_spec.specs.Cluster.{AreMembers, Cluster, after_row, after_rows, world_of}
+use Rattle.alloc_spec.specs.ClusterMembers.{AreMembers}
+use Rattle.bus_spec.specs.Cluster.{Cluster, after_row, after_rows, world_of}
 use Rattle.bus_spec.specs.Members.MemberStatus.{Up}
 
 -- who waits with its blank goes on to wait

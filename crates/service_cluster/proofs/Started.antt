@@ -6,7 +6,7 @@ use Rattle.can_frame.specs.declared.step.What.TheVariants.{Disc}
 use Rattle.can_frame.specs.Identifier.{identifier_number}
 use Rattle.cluster_discovery.specs.Members.{counts, owes}
 use Rattle.raft_model.specs.Lists.{In}
-use Rattle.replay_text.specs.declared.row.Row.{Row}
+use Rattle.bus_rows.specs.declared.row.Row.{Row}
 use Rattle.transfer_tx.specs.Run.{of_identifier}
 use Rattle.alloc_spec.specs.AllocatorState.{AllocatorState, knows_all}
 use Rattle.alloc_spec.specs.Rules.{heard_with}

@@ -4,7 +4,7 @@ use Rattle.can_frame.specs.declared.entry.Entry.{Entry}
 use Rattle.can_frame.specs.Log.{HasUid, log_limit}
 use Rattle.can_frame.specs.Zeros.{zeros}
 use Rattle.raft_model.specs.Lists.{In}
-use Rattle.replay_text.specs.declared.row.Row.{Row}
+use Rattle.bus_rows.specs.declared.row.Row.{Row}
 use Rattle.alloc_spec.specs.AllocatorState.{AllocatorState}
 use Rattle.service_alone.specs.Calm.{HasSettled, Pace, Timed, end_of, rows_in}
 use Rattle.service_leader.specs.NoElection.{heard_within}

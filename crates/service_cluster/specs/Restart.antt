@@ -4,7 +4,7 @@ use Rattle.can_frame.specs.Log.{log_limit}
 use Rattle.can_frame.specs.Timing.{election_wait}
 use Rattle.raft_model.specs.Lists.{In}
 use Rattle.raft_model.specs.Server.Role.{Leader}
-use Rattle.replay_text.specs.declared.row.Row.{Row}
+use Rattle.bus_rows.specs.declared.row.Row.{Row}
 use Rattle.alloc_spec.specs.AllocatorState.{AllocatorState, knows_all}
 use Rattle.service_alone.specs.Calm.{Pace, Timed, end_of, rows_in}
 use Rattle.service_calm.specs.Calm.{Member, Party}

@@ -2,8 +2,8 @@
 -- stores, and are told their list. One of them stands, wins, and leads on for as long as the laws ask.
 use Rattle.std.specs.Prelude.{ℕ, zero, suc, ◌+◌, ◌<◌, true, List, [], ◌∷◌, ◌++◌, length, map}
 use Rattle.raft_model.specs.Lists.{In}
-use Rattle.replay_text.specs.declared.row.Row.{Row}
-use Rattle.replay_text.specs.declared.row.Row.TheVariants.{Open, Rx, Send, Tick}
+use Rattle.bus_rows.specs.declared.row.Row.{Row}
+use Rattle.bus_rows.specs.declared.row.Row.TheVariants.{Open, Rx, Send, Tick}
 use Rattle.service_alone.specs.Calm.{Pace, Timed, end_of}
 use Rattle.service_calm.specs.Calm.{Member, Party}
 use Rattle.service_calm.specs.CalmExample.{clocks, two}
@@ -13,7 +13,8 @@ use Rattle.service_cluster.specs.Restart.{IsStart, settled_within}
 use Rattle.service_elections.specs.Rounds.{led_within}
 use Rattle.service_elections.specs.Running.{IsCalmOf}
 use Rattle.service_device.specs.Tidy.{AreMembersOnly}
-use Rattle.bus_spec.specs.Cluster.{AreMembers, Cluster, cluster, world_of}
+use Rattle.alloc_spec.specs.ClusterMembers.{AreMembers}
+use Rattle.bus_spec.specs.Cluster.{Cluster, cluster, world_of}
 use Rattle.bus_spec.specs.Lawful.{DoNoHarm}
 
 -- ---- before the calm

@@ -2,14 +2,15 @@
 -- opened at one moment, with empty stores, and are told their list; a device is opened, too. The device asks in vain,
 -- since nobody leads. One member is elected, and serves the device. Then the calm goes on for as long as the law asks.
 use Rattle.std.specs.Prelude.{ℕ, zero, suc, ◌+◌, ◌<◌, true, List, [], ◌∷◌, ◌++◌, length}
-use Rattle.replay_text.specs.declared.row.Row.{Row}
-use Rattle.replay_text.specs.declared.row.Row.TheVariants.{AOpen, Open}
+use Rattle.bus_rows.specs.declared.row.Row.{Row}
+use Rattle.bus_rows.specs.declared.row.Row.TheVariants.{AOpen, Open}
 use Rattle.service_alone.specs.Calm.{Timed, end_of}
 use Rattle.service_calm.specs.CalmExample.{clocks, group, some_uid, two}
 use Rattle.service_cluster.specs.ComeBack.{IsCalmOfDevice, served_within}
 use Rattle.service_cluster.specs.RestartExample.{opened_at}
 use Rattle.service_device.specs.ServedExample.{all_read, all_read_often, from_1, from_2, from_device, served_pace}
-use Rattle.bus_spec.specs.Cluster.{AreMembers, Cluster, cluster, world_of}
+use Rattle.alloc_spec.specs.ClusterMembers.{AreMembers}
+use Rattle.bus_spec.specs.Cluster.{Cluster, cluster, world_of}
 use Rattle.bus_spec.specs.Lawful.{DoNoHarm}
 
 -- ---- before the calm

@@ -13,9 +13,10 @@ ghost use Rattle.service_elections.specs.Rounds.{led_within};
 ghost use Rattle.service_device.specs.Asking.{HasIdBy};
 ghost use Rattle.service_device.specs.ServedExample.{served_pace};
 ghost use Rattle.service_calm.specs.CalmExample.{clocks, two};
-ghost use Rattle.bus_spec.specs.Cluster.{AreMembers, cluster};
+ghost use Rattle.alloc_spec.specs.ClusterMembers.{AreMembers};
+ghost use Rattle.bus_spec.specs.Cluster.{cluster};
 ghost use Rattle.bus_spec.specs.Lawful.{DoNoHarm};
-ghost use Rattle.replay_text.specs.declared.row.Row.{Row};
+ghost use Rattle.bus_rows.specs.declared.row.Row.{Row};
 ghost use Rattle.std.specs.Prelude.{List, length, ℕ, ◌+◌};
 
 use alloc_spec_laws::laws::members_of_a_step;

@@ -10,8 +10,8 @@ use Rattle.dsdl_codec.specs.Entry.{IsEntry}
 use Rattle.raft_log.specs.KeyDisk.{are_put}
 use Rattle.raft_model.specs.Lists.{In, at_here}
 use Rattle.raft_model.specs.Server.{RaftServer}
-use Rattle.replay_text.specs.declared.row.Row.{Row}
-use Rattle.replay_text.specs.declared.row.Row.TheVariants.{AEnd, AOpen, ARx, ASend, ATick, Crash, Ext, Fault, Open, Rx, Send, Tick}
+use Rattle.bus_rows.specs.declared.row.Row.{Row}
+use Rattle.bus_rows.specs.declared.row.Row.TheVariants.{AEnd, AOpen, ARx, ASend, ATick, Crash, Ext, Fault, Open, Rx, Send, Tick}
 use Rattle.alloc_spec.specs.AllocatorState.{AllocatorState}
 use Rattle.alloc_spec.specs.Step.{Event, step}
 use Rattle.alloc_spec.specs.StepState.{StepState}
@@ -27,7 +27,8 @@ use Rattle.service_device.specs.ServiceBelow.{ServiceGrounds}
 use Rattle.service_calm.proofs.Grounds.{shown}
 use Rattle.service_leader.proofs.TermsRun.{of_run}
 use Rattle.service_device.proofs.SettlesRows.{its_server}
-use Rattle.bus_spec.specs.Cluster.{AreMembers, Cluster, after_row, cluster, receipt_of, tick_of, world_of}
+use Rattle.alloc_spec.specs.ClusterMembers.{AreMembers}
+use Rattle.bus_spec.specs.Cluster.{Cluster, after_row, cluster, receipt_of, tick_of, world_of}
 use Rattle.bus_spec.specs.Lawful.{DoNoHarm, DoesNoHarm, no_node, not_running}
 use Rattle.bus_spec.specs.Members.{Member, MemberStatus, member_after_step, puts_of}
 use Rattle.bus_spec.specs.Members.MemberStatus.{Down, Failed, Up}

@@ -6,8 +6,8 @@ use Rattle.alloc_exchange.specs.Exchange.{Accepted}
 use Rattle.can_frame.specs.declared.step.What.TheVariants.{Alloc}
 use Rattle.can_frame.specs.Cutting.{frame_count}
 use Rattle.raft_model.specs.Lists.{In}
-use Rattle.replay_text.specs.declared.row.Row.{Row}
-use Rattle.replay_text.specs.declared.row.Row.TheVariants.{ARx}
+use Rattle.bus_rows.specs.declared.row.Row.{Row}
+use Rattle.bus_rows.specs.declared.row.Row.TheVariants.{ARx}
 use Rattle.transfer_rx.specs.Reassembly.{answer}
 use Rattle.transfer_rx.specs.Sessions.{Session}
 use Rattle.allocatee.specs.Accepted.{setting}

@@ -8,7 +8,7 @@ use Rattle.dsdl_codec.specs.declared.allocation.Allocation.{Allocation}
 use Rattle.dsdl_codec.specs.Allocation.{IsAllocation, allocation_bytes, allocation_of}
 use Rattle.raft_core.specs.Taken.{proposal}
 use Rattle.raft_model.specs.Lists.{In}
-use Rattle.replay_text.specs.declared.row.Row.{Row}
+use Rattle.bus_rows.specs.declared.row.Row.{Row}
 use Rattle.allocatee.specs.Allocatee.{Device, Event, step}
 use Rattle.alloc_spec.specs.AllocatorState.{AllocatorState, members_of}
 use Rattle.service_steps.proofs.Alone.{one_longer}

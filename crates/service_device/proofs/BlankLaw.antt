@@ -13,7 +13,7 @@ use Rattle.raft_model.specs.Server.{RaftServer, Store, quorum}
 use Rattle.raft_model.specs.Server.Role.{Leader}
 use Rattle.raft_model.proofs.Apart.{leader_no_follower}
 use Rattle.raft_model.proofs.Members.{same_quorum}
-use Rattle.replay_text.specs.declared.row.Row.{Row}
+use Rattle.bus_rows.specs.declared.row.Row.{Row}
 use Rattle.alloc_spec.specs.AllocatorState.{AllocatorState, is_recorded, knows_all, members_of}
 use Rattle.alloc_spec.specs.Rules.{Rules, opening_by}
 use Rattle.alloc_spec.specs.Step.{Event, after_pop, step}

@@ -6,8 +6,8 @@ use Rattle.can_frame.specs.declared.step.What.TheVariants.{Alloc}
 use Rattle.can_frame.specs.Cutting.{frame_count}
 use Rattle.can_frame.specs.Sizes.{blocks, sessions}
 use Rattle.raft_model.specs.Lists.{In}
-use Rattle.replay_text.specs.declared.row.Row.{Row}
-use Rattle.replay_text.specs.declared.row.Row.TheVariants.{AEnd, AOpen, ARx, ASend, ATick, Crash, Ext, Fault, Open, Rx, Send, Tick}
+use Rattle.bus_rows.specs.declared.row.Row.{Row}
+use Rattle.bus_rows.specs.declared.row.Row.TheVariants.{AEnd, AOpen, ARx, ASend, ATick, Crash, Ext, Fault, Open, Rx, Send, Tick}
 use Rattle.transfer_rx.specs.Outcome.{blocks_used}
 use Rattle.alloc_spec.specs.AllocatorState.{AllocatorState}
 use Rattle.alloc_spec.specs.Step.{Event, step}

@@ -2,7 +2,7 @@
 -- world holds throughout, and what is offered has room.
 use Rattle.std.proofs.Common.{◌≡◌, ℕ, Bool, true, List, [], ◌∷◌, ◌++◌, drop, ap, subst, inl, None}
 use Rattle.std.specs.Prelude.{◌&&◌, nat_le, slice_index_or}
-use Rattle.replay_text.specs.declared.row.Row.{Row}
+use Rattle.bus_rows.specs.declared.row.Row.{Row}
 use Rattle.alloc_spec_laws.proofs.Choices.{and_left, and_right}
 use Rattle.service_alone.specs.Calm.{Pace, Timed, rows_in}
 use Rattle.service_calm.specs.Calm.{AreCalm, IsCalmRow, IsInTime, Party, Traffic, no_traffic, traffic_after}

@@ -6,8 +6,8 @@ use Rattle.alloc_exchange.specs.Exchange.{Accepted, after, answer}
 use Rattle.can_frame.specs.Kinds.{is_anonymous}
 use Rattle.dsdl_codec.specs.declared.allocation.Allocation.{Allocation}
 use Rattle.dsdl_codec.specs.Allocation.{allocation_of}
-use Rattle.replay_text.specs.declared.row.Row.{Row}
-use Rattle.replay_text.specs.declared.row.Row.TheVariants.{ARx, ATick, Rx}
+use Rattle.bus_rows.specs.declared.row.Row.{Row}
+use Rattle.bus_rows.specs.declared.row.Row.TheVariants.{ARx, ATick, Rx}
 use Rattle.transfer_rx.specs.Reassembly.{Answer, Arrival, Gives, answer as received, next as next_sessions}
 use Rattle.transfer_tx.specs.Queue.{Queued}
 use Rattle.allocatee.specs.Accepted.{setting}

@@ -8,8 +8,8 @@ use Rattle.can_frame.specs.declared.step.What.TheVariants.{Alloc}
 use Rattle.can_frame.specs.Cutting.{frame_count}
 use Rattle.dsdl_codec.specs.declared.allocation.Allocation.{Allocation}
 use Rattle.raft_model.specs.Lists.{In}
-use Rattle.replay_text.specs.declared.row.Row.{Row}
-use Rattle.replay_text.specs.declared.row.Row.TheVariants.{AEnd, AOpen, ARx, ASend, ATick, Crash, Ext, Fault, Open, Rx, Send, Tick}
+use Rattle.bus_rows.specs.declared.row.Row.{Row}
+use Rattle.bus_rows.specs.declared.row.Row.TheVariants.{AEnd, AOpen, ARx, ASend, ATick, Crash, Ext, Fault, Open, Rx, Send, Tick}
 use Rattle.transfer_rx.specs.Reassembly.{answer as received}
 use Rattle.transfer_tx.specs.Queue.{Queued}
 use Rattle.allocatee.proofs.Requests.{le_is}

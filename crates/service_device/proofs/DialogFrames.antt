@@ -11,7 +11,7 @@ use Rattle.can_frame.specs.declared.step.Why.TheVariants.{NotWanted}
 use Rattle.can_frame.specs.Identifier.{identifier_number, identifier_of}
 use Rattle.can_frame.specs.Kinds.{is_anonymous}
 use Rattle.dsdl_codec.specs.declared.allocation.Allocation.{Allocation}
-use Rattle.replay_text.specs.declared.row.Row.TheVariants.{Rx}
+use Rattle.bus_rows.specs.declared.row.Row.TheVariants.{Rx}
 use Rattle.transfer_rx.specs.declared.accept.Wanted.{Wanted}
 use Rattle.transfer_rx.specs.Acceptance.{wanted}
 use Rattle.transfer_rx.specs.Reassembly.{Delivery, Drops, Gives, answer, of_wanted, step as received}

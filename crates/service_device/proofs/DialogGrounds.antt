@@ -3,7 +3,7 @@ use Rattle.std.proofs.Common.{◌≢◌, ℕ, List, [], ◌+◌, ◌*◌, ◌≤
 use Rattle.can_frame.specs.declared.entry.Entry.{Entry}
 use Rattle.can_frame.specs.declared.step.What.TheVariants.{Alloc}
 use Rattle.raft_model.specs.Lists.{In}
-use Rattle.replay_text.specs.declared.row.Row.{Row}
+use Rattle.bus_rows.specs.declared.row.Row.{Row}
 use Rattle.transfer_tx.specs.Queue.{Queued}
 use Rattle.allocatee.specs.Allocatee.{opening}
 use Rattle.allocatee.specs.Asking.{request_wait, timer_from}
@@ -21,7 +21,8 @@ use Rattle.service_device.proofs.DialogOthers.{IsSilent, is_silent}
 use Rattle.service_device.proofs.DialogPhases.{Phase}
 use Rattle.service_device.proofs.DialogScene.{Talk}
 use Rattle.service_calm.proofs.Grounds.{calm_laws, is_server, well}
-use Rattle.bus_spec.specs.Cluster.{AreMembers, Cluster, cluster, world_of}
+use Rattle.alloc_spec.specs.ClusterMembers.{AreMembers}
+use Rattle.bus_spec.specs.Cluster.{Cluster, cluster, world_of}
 use Rattle.bus_spec.specs.Lawful.{DoNoHarm}
 
 module _ (below : ServiceGrounds) (ids : List ℕ) (rows : List Row) (members : AreMembers ids) (harmless : DoNoHarm (cluster ids) rows)

@@ -6,7 +6,7 @@ use Rattle.raft_model.specs.Invariants.{Invariants}
 use Rattle.raft_model.specs.Lists.{In}
 use Rattle.raft_model.specs.Runs as raft
 use Rattle.raft_model.specs.Server.{RaftServer}
-use Rattle.replay_text.specs.declared.row.Row.{Row}
+use Rattle.bus_rows.specs.declared.row.Row.{Row}
 use Rattle.alloc_spec.specs.Transfers.{SentTransfer}
 use Rattle.bus_agreement.specs.Shows.{Shows, ShowsMember, ShowsUp}
 use Rattle.service_alone.specs.Calm.{HasSettled, Timed, end_of}

@@ -7,8 +7,8 @@ use Rattle.can_frame.specs.declared.step.What.TheVariants.{Alloc}
 use Rattle.can_frame.specs.Identifier.{identifier_number}
 use Rattle.raft_model.specs.Lists.{In, at_here, at_other}
 use Rattle.raft_model.specs.Server.Role.{Follower}
-use Rattle.replay_text.specs.declared.row.Row.{Row}
-use Rattle.replay_text.specs.declared.row.Row.TheVariants.{AEnd, AOpen, ARx, ASend, ATick, Crash, Ext, Fault, Open, Rx, Send, Tick}
+use Rattle.bus_rows.specs.declared.row.Row.{Row}
+use Rattle.bus_rows.specs.declared.row.Row.TheVariants.{AEnd, AOpen, ARx, ASend, ATick, Crash, Ext, Fault, Open, Rx, Send, Tick}
 use Rattle.transfer_tx.specs.Queue.{Queued}
 use Rattle.transfer_tx.specs.Run.{of_identifier}
 use Rattle.alloc_spec.specs.AllocatorState.{AllocatorState}

@@ -10,8 +10,8 @@ use Rattle.can_frame.specs.Log.{HasPair, IsInjective, blank}
 use Rattle.can_frame.specs.Zeros.{zeros}
 use Rattle.dsdl_codec.specs.declared.allocation.Allocation.{Allocation}
 use Rattle.dsdl_codec.specs.Allocation.{allocation_of}
-use Rattle.replay_text.specs.declared.row.Row.{Row}
-use Rattle.replay_text.specs.declared.row.Row.TheVariants.{ARx, ATick, Rx}
+use Rattle.bus_rows.specs.declared.row.Row.{Row}
+use Rattle.bus_rows.specs.declared.row.Row.TheVariants.{ARx, ATick, Rx}
 use Rattle.transfer_rx.specs.Reassembly.{Answer, Gives, answer as received, next as next_sessions}
 use Rattle.transfer_rx.specs.Sessions.{Session}
 use Rattle.transfer_tx.specs.Queue.{Queued}

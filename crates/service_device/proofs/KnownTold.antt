@@ -8,7 +8,7 @@ use Rattle.can_frame.specs.Timing.{transfer_timeout}
 use Rattle.dsdl_codec.specs.declared.allocation.Allocation.{Allocation}
 use Rattle.dsdl_codec.specs.Allocation.{IsAllocation, allocation_bytes, allocation_of}
 use Rattle.raft_model.specs.Lists.{In}
-use Rattle.replay_text.specs.declared.row.Row.{Row}
+use Rattle.bus_rows.specs.declared.row.Row.{Row}
 use Rattle.transfer_rx.specs.Reassembly.{Arrival}
 use Rattle.allocatee.specs.Allocatee as device
 use Rattle.allocatee.proofs.Requests.{le_is}

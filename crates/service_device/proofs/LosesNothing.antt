@@ -1,7 +1,7 @@
 -- A leader of a calm loses nothing: its log grows behind its end, and of a member it knows no fewer places.
 use Rattle.std.proofs.Common.{◌≡◌, ℕ, ◌≤◌, List, ◌++◌, append_assoc, sym, ◌∙◌, ap, subst, arith}
 use Rattle.can_frame.specs.declared.entry.Entry.{Entry}
-use Rattle.replay_text.specs.declared.row.Row.{Row}
+use Rattle.bus_rows.specs.declared.row.Row.{Row}
 use Rattle.alloc_spec.specs.AllocatorState.{AllocatorState}
 use Rattle.service_alone.specs.Calm.{Pace, Timed, rows_in}
 use Rattle.service_calm.specs.Calm.{Party}

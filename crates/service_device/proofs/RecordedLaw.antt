@@ -5,7 +5,7 @@ use Rattle.can_frame.specs.declared.entry.Entry.{Entry}
 use Rattle.can_frame.specs.Log.{log_limit}
 use Rattle.dsdl_codec.specs.declared.allocation.Allocation.{Allocation}
 use Rattle.raft_model.specs.Lists.{In}
-use Rattle.replay_text.specs.declared.row.Row.{Row}
+use Rattle.bus_rows.specs.declared.row.Row.{Row}
 use Rattle.alloc_spec.specs.AllocatorState.{AllocatorState}
 use Rattle.alloc_spec.specs.Exchange.{may_follow}
 use Rattle.service_alone.specs.Calm.{Pace, Timed, end_of, rows_in}
@@ -20,7 +20,8 @@ use Rattle.service_device.proofs.RecordedStays.{in_office, keeps_log}
 use Rattle.service_device.proofs.SettledLaw as from_start
 use Rattle.service_device.proofs.SettledStays.{AsksOrNot, IsReached, LedIn, ListsAll, after_one, asked_or_not, harmless_first, its_me, led_after, lists_after, nodes, tells_low}
 use Rattle.service_device.specs.ServiceBelow.{ServiceGrounds}
-use Rattle.bus_spec.specs.Cluster.{AreMembers, Cluster, after_row, after_rows, cluster, world_of}
+use Rattle.alloc_spec.specs.ClusterMembers.{AreMembers}
+use Rattle.bus_spec.specs.Cluster.{Cluster, after_row, after_rows, cluster, world_of}
 use Rattle.bus_spec.specs.Lawful.{DoNoHarm, DoesNoHarm}
 
 module _ (below : ServiceGrounds) (group : List Party) (clocks : Party → ℕ) (pace : Pace) (ids : List ℕ) (members : AreMembers ids)

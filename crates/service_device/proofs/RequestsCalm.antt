@@ -7,8 +7,8 @@ use Rattle.can_frame.specs.declared.identifier.Kind.TheVariants.{Anonymous}
 use Rattle.dsdl_codec.specs.declared.allocation.Allocation.{Allocation}
 use Rattle.dsdl_codec.specs.Allocation.{allocation_of}
 use Rattle.raft_model.specs.Lists.{In}
-use Rattle.replay_text.specs.declared.row.Row.{Row}
-use Rattle.replay_text.specs.declared.row.Row.TheVariants.{Rx}
+use Rattle.bus_rows.specs.declared.row.Row.{Row}
+use Rattle.bus_rows.specs.declared.row.Row.TheVariants.{Rx}
 use Rattle.transfer_rx.specs.Reassembly.{Arrival, Delivery, Gives, answer as received}
 use Rattle.transfer_rx.specs.Sessions.{Session}
 use Rattle.transfer_tx.specs.Queue.{Queued}
@@ -39,7 +39,8 @@ use Rattle.service_calm.proofs.Grounds.{calm_laws, well}
 use Rattle.service_leader.proofs.FramesFly.{Fly, fly_after, next_is}
 use Rattle.service_leader.proofs.HeardIdents.{is_wanted}
 use Rattle.bus_spec.specs.Allocatees.{next_from}
-use Rattle.bus_spec.specs.Cluster.{AreMembers, Cluster, after_row, after_rows, arrival_at, cluster, frame_at, receipt_of, tick_of, world_of}
+use Rattle.alloc_spec.specs.ClusterMembers.{AreMembers}
+use Rattle.bus_spec.specs.Cluster.{Cluster, after_row, after_rows, arrival_at, cluster, frame_at, receipt_of, tick_of, world_of}
 use Rattle.bus_spec.specs.Lawful.{DoNoHarm}
 use Rattle.bus_spec.specs.Members.{Member, MemberStatus, after_sending, member_after_step}
 use Rattle.bus_spec.specs.Members.MemberStatus.{Up}

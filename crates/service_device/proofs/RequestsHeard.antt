@@ -15,8 +15,8 @@ use Rattle.can_frame.specs.Kinds.{is_anonymous}
 use Rattle.dsdl_codec.specs.declared.allocation.Allocation.{Allocation}
 use Rattle.dsdl_codec.specs.Allocation.{allocation_of}
 use Rattle.raft_model.specs.Runs as raft
-use Rattle.replay_text.specs.declared.row.Row.{Row}
-use Rattle.replay_text.specs.declared.row.Row.TheVariants.{ARx}
+use Rattle.bus_rows.specs.declared.row.Row.{Row}
+use Rattle.bus_rows.specs.declared.row.Row.TheVariants.{ARx}
 use Rattle.transfer_rx.specs.Acceptance.{first_signature}
 use Rattle.transfer_rx.specs.Reassembly.{Arrival, Delivery, Gives}
 use Rattle.transfer_rx.specs.Sound.{IsDelivered}
@@ -35,7 +35,8 @@ use Rattle.service_device.proofs.RequestsRows.{AllHearParts, HearsParts, HoldsAt
 use Rattle.service_device.specs.ServiceBelow.{ServiceGrounds}
 use Rattle.service_leader.proofs.TermsHeard.{IsOfRun}
 use Rattle.service_leader.proofs.TermsRun.{of_run}
-use Rattle.bus_spec.specs.Cluster.{AreMembers, Cluster, after_row, after_rows, arrival_at, cluster, frame_at, world_of}
+use Rattle.alloc_spec.specs.ClusterMembers.{AreMembers}
+use Rattle.bus_spec.specs.Cluster.{Cluster, after_row, after_rows, arrival_at, cluster, frame_at, world_of}
 use Rattle.bus_spec.specs.Lawful.{DoNoHarm, DoesNoHarm, absent, arrival_refusal_at, cause, no_allocatee, no_such_frame, or_else}
 
 -- of what has a source a device hears Allocations alone

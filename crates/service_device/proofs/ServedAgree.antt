@@ -9,7 +9,7 @@ use Rattle.can_frame.specs.Zeros.{zeros}
 use Rattle.raft_core.specs.Taken.{proposal}
 use Rattle.raft_model.specs.Lists.{In}
 use Rattle.raft_model.specs.Server as raft
-use Rattle.replay_text.specs.declared.row.Row.{Row}
+use Rattle.bus_rows.specs.declared.row.Row.{Row}
 use Rattle.alloc_spec.specs.AllocatorState.{AllocatorState}
 use Rattle.bus_agreement.specs.Allocatees.{Allocatees, HasAllocatees, Holds}
 use Rattle.bus_agreement.specs.Headline.{HasHeadline, Headline, the_list}

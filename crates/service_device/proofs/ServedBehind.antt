@@ -1,6 +1,6 @@
 -- A calm in which a member leads behind its first rows: it leads behind more of them; and what it has committed stays so.
 use Rattle.std.proofs.Common.{◌≡◌, ℕ, ◌≤◌, List, [], ◌++◌, length, append_assoc, sym, ◌∙◌, ap, subst}
-use Rattle.replay_text.specs.declared.row.Row.{Row}
+use Rattle.bus_rows.specs.declared.row.Row.{Row}
 use Rattle.alloc_spec.specs.AllocatorState.{AllocatorState}
 use Rattle.service_alone.specs.Calm.{Pace, Timed, rows_in}
 use Rattle.service_calm.specs.Calm.{AreCalm, IsRunning, Party, no_traffic}

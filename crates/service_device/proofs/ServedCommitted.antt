@@ -7,7 +7,7 @@ use Rattle.can_frame.specs.Timing.{call_timeout}
 use Rattle.raft_core.specs.Taken.{proposal}
 use Rattle.raft_model.specs.Lists.{In}
 use Rattle.raft_model.specs.Log.{term_at}
-use Rattle.replay_text.specs.declared.row.Row.{Row}
+use Rattle.bus_rows.specs.declared.row.Row.{Row}
 use Rattle.alloc_spec.specs.AllocatorState.{AllocatorState}
 use Rattle.service_steps.proofs.Alone.{last_entry}
 use Rattle.service_alone.specs.Calm.{Pace, Timed, end_of, rows_in}

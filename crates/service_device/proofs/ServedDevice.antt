@@ -5,7 +5,7 @@ use Rattle.can_frame.specs.Timing.{call_timeout}
 use Rattle.dsdl_codec.specs.declared.allocation.Allocation.{Allocation}
 use Rattle.dsdl_codec.specs.Allocation.{IsAllocation, allocation_bytes, allocation_of}
 use Rattle.raft_core.specs.Taken.{proposal}
-use Rattle.replay_text.specs.declared.row.Row.{Row}
+use Rattle.bus_rows.specs.declared.row.Row.{Row}
 use Rattle.allocatee.specs.Allocatee.{Device, Event, opening, step}
 use Rattle.bus_agreement.specs.Allocatees.{Holds}
 use Rattle.service_alone.specs.Calm.{Pace, Timed, end_of, rows_in}

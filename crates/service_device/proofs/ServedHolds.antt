@@ -7,8 +7,8 @@ use Rattle.can_frame.specs.Kinds.{is_anonymous}
 use Rattle.dsdl_codec.specs.declared.allocation.Allocation.{Allocation}
 use Rattle.dsdl_codec.specs.Allocation.{IsAllocation, allocation_bytes, allocation_of}
 use Rattle.raft_model.specs.Lists.{at, at_here, at_other}
-use Rattle.replay_text.specs.declared.row.Row.{Row}
-use Rattle.replay_text.specs.declared.row.Row.TheVariants.{AEnd, AOpen, ARx, ASend, ATick, Crash, Ext, Fault, Open, Rx, Send, Tick}
+use Rattle.bus_rows.specs.declared.row.Row.{Row}
+use Rattle.bus_rows.specs.declared.row.Row.TheVariants.{AEnd, AOpen, ARx, ASend, ATick, Crash, Ext, Fault, Open, Rx, Send, Tick}
 use Rattle.transfer_rx.specs.Reassembly.{Answer}
 use Rattle.allocatee.specs.Allocatee.{Device, Event, after_pop, after_reading, after_receiver_answer, opening, step}
 use Rattle.allocatee.specs.Allocatee as device

@@ -6,7 +6,7 @@ use Rattle.can_frame.specs.declared.entry.Entry.{Entry}
 use Rattle.can_frame.specs.Zeros.{zeros}
 use Rattle.raft_core.specs.Taken.{proposal}
 use Rattle.raft_model.specs.Server.{RaftServer}
-use Rattle.replay_text.specs.declared.row.Row.{Row}
+use Rattle.bus_rows.specs.declared.row.Row.{Row}
 use Rattle.alloc_spec.specs.AllocatorState.{AllocatorState}
 use Rattle.alloc_spec.specs.Ending.{call_phase}
 use Rattle.alloc_spec.specs.Step.{Event, step}

@@ -3,7 +3,7 @@ use Rattle.std.proofs.Common.{◌≡◌, ℕ, ◌+◌, ◌*◌, ◌<◌, ◌≤�
 use Rattle.can_frame.specs.declared.entry.Entry.{Entry}
 use Rattle.raft_core.specs.Taken.{proposal}
 use Rattle.raft_model.specs.Lists.{In}
-use Rattle.replay_text.specs.declared.row.Row.{Row}
+use Rattle.bus_rows.specs.declared.row.Row.{Row}
 use Rattle.alloc_spec.specs.AllocatorState.{AllocatorState}
 use Rattle.service_steps.proofs.Alone.{one_longer}
 use Rattle.service_alone.specs.Calm.{Pace, Timed, end_of, rows_in}

@@ -4,7 +4,7 @@ use Rattle.can_frame.specs.declared.entry.Entry.{Entry}
 use Rattle.can_frame.specs.Log.{IsInjective}
 use Rattle.can_frame.specs.Zeros.{zeros}
 use Rattle.raft_model.specs.Lists.{In}
-use Rattle.replay_text.specs.declared.row.Row.{Row}
+use Rattle.bus_rows.specs.declared.row.Row.{Row}
 use Rattle.alloc_spec.specs.AllocatorState.{AllocatorState, members_of}
 use Rattle.service_alone.specs.Calm.{HasSettled, Timed, rows_in}
 use Rattle.service_device.specs.ServiceBelow.{ServiceGrounds}
@@ -14,7 +14,8 @@ use Rattle.service_device.proofs.ServedAgree.{AgreesBehind, agrees_behind}
 use Rattle.service_device.proofs.ServedBehind.{harmless_to, up_to}
 use Rattle.service_device.proofs.ServedOffered.{TellingLaws}
 use Rattle.service_device.proofs.SettlesLaw.{IsFitting, is_fitting}
-use Rattle.bus_spec.specs.Cluster.{AreMembers, Cluster, after_rows, cluster, world_of}
+use Rattle.alloc_spec.specs.ClusterMembers.{AreMembers}
+use Rattle.bus_spec.specs.Cluster.{Cluster, after_rows, cluster, world_of}
 use Rattle.bus_spec.specs.Lawful.{DoNoHarm}
 use Rattle.bus_spec.specs.Members.MemberStatus.{Up}
 use Rattle.service_calm.proofs.Grounds.{invariants, listed_in}

@@ -1,11 +1,12 @@
 -- What the proofs of service stand on, made of what the laws below say together.
 use Rattle.std.proofs.Common.{ℕ, List}
 use Rattle.raft_model.specs.Fit.{IsFit}
-use Rattle.replay_text.specs.declared.row.Row.{Row}
+use Rattle.bus_rows.specs.declared.row.Row.{Row}
 use Rattle.service_calm.proofs.DevicesHear.{SessionLaws}
 use Rattle.service_calm.proofs.Grounds.{choice, its_run, shown}
 use Rattle.service_device.specs.ServiceBelow.{ServiceGrounds}
-use Rattle.bus_spec.specs.Cluster.{AreMembers, cluster}
+use Rattle.alloc_spec.specs.ClusterMembers.{AreMembers}
+use Rattle.bus_spec.specs.Cluster.{cluster}
 use Rattle.bus_spec.specs.Lawful.{DoNoHarm}
 use Rattle.bus_spec.specs.Refinement.{events}
 

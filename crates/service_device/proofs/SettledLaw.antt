@@ -1,7 +1,7 @@
 -- Who has settled stays settled: from where a calm begins.
 use Rattle.std.proofs.Common.{◌≡◌, ◌≢◌, ℕ, List, [], ◌∷◌, ◌++◌, append_assoc, refl, sym, ◌∙◌, ap, subst}
 use Rattle.raft_model.specs.Lists.{In}
-use Rattle.replay_text.specs.declared.row.Row.{Row}
+use Rattle.bus_rows.specs.declared.row.Row.{Row}
 use Rattle.service_alone.specs.Calm.{Pace, Timed, end_of, rows_in}
 use Rattle.service_calm.specs.Calm.{AreCalm, Member as OfMember, Party, no_traffic}
 use Rattle.service_calm.specs.Calls.{Lists}
@@ -11,7 +11,8 @@ use Rattle.service_device.proofs.SettledStays.{IsReached, harmless_first, missed
 use Rattle.service_leader.proofs.Stretches.{world_both}
 use Rattle.service_device.specs.ServiceBelow.{ServiceGrounds}
 use Rattle.service_calm.proofs.Grounds.{well}
-use Rattle.bus_spec.specs.Cluster.{AreMembers, Cluster, after_rows, cluster, world_of}
+use Rattle.alloc_spec.specs.ClusterMembers.{AreMembers}
+use Rattle.bus_spec.specs.Cluster.{Cluster, after_rows, cluster, world_of}
 use Rattle.bus_spec.specs.Lawful.{DoNoHarm}
 
 module _ (below : ServiceGrounds) (ids : List ℕ) (members : AreMembers ids) (rows : List Row) (harmless : DoNoHarm (cluster ids) rows) where

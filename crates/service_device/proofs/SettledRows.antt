@@ -12,8 +12,8 @@ use Rattle.cluster_discovery.specs.Members.{is_on_list}
 use Rattle.dsdl_codec.specs.declared.allocation.Allocation.{Allocation}
 use Rattle.dsdl_codec.specs.Allocation.{allocation_of}
 use Rattle.raft_model.specs.Lists.{In, at_here, at_other}
-use Rattle.replay_text.specs.declared.row.Row.{Row}
-use Rattle.replay_text.specs.declared.row.Row.TheVariants.{AEnd, AOpen, ARx, ASend, ATick, Crash, Ext, Fault, Open, Rx, Send, Tick}
+use Rattle.bus_rows.specs.declared.row.Row.{Row}
+use Rattle.bus_rows.specs.declared.row.Row.TheVariants.{AEnd, AOpen, ARx, ASend, ATick, Crash, Ext, Fault, Open, Rx, Send, Tick}
 use Rattle.transfer_rx.specs.Acceptance.{first_signature}
 use Rattle.transfer_rx.specs.Reassembly.{Arrival, Delivery, Gives, answer as received}
 use Rattle.alloc_spec.specs.Accepted.{rows, setting_for}

@@ -9,8 +9,8 @@ use Rattle.can_frame.specs.declared.identifier.Kind.TheVariants.{Anonymous, Mess
 use Rattle.dsdl_codec.specs.declared.allocation.Allocation.{Allocation}
 use Rattle.dsdl_codec.specs.Allocation.{allocation_of}
 use Rattle.raft_model.specs.Lists.{In}
-use Rattle.replay_text.specs.declared.row.Row.{Row}
-use Rattle.replay_text.specs.declared.row.Row.TheVariants.{AEnd, AOpen, ARx, ASend, ATick, Crash, Ext, Fault, Open, Rx, Send, Tick}
+use Rattle.bus_rows.specs.declared.row.Row.{Row}
+use Rattle.bus_rows.specs.declared.row.Row.TheVariants.{AEnd, AOpen, ARx, ASend, ATick, Crash, Ext, Fault, Open, Rx, Send, Tick}
 use Rattle.transfer_rx.specs.Reassembly.{Answer as Received, Continues, Delivery, Drops, Gives, answer as received}
 use Rattle.alloc_spec.specs.Accepted.{setting_for}
 use Rattle.alloc_spec.specs.AllocatorState.{AllocatorState}
@@ -29,7 +29,8 @@ use Rattle.service_leader.proofs.TermsKept.{TellsWithin}
 use Rattle.service_device.specs.ServiceBelow.{ServiceGrounds}
 use Rattle.service_calm.proofs.Grounds.{calm_laws}
 use Rattle.service_leader.proofs.TermsRun.{of_run}
-use Rattle.bus_spec.specs.Cluster.{AreMembers, Cluster, after_row, after_rows, arrival_at, cluster, frame_at, world_of}
+use Rattle.alloc_spec.specs.ClusterMembers.{AreMembers}
+use Rattle.bus_spec.specs.Cluster.{Cluster, after_row, after_rows, arrival_at, cluster, frame_at, world_of}
 use Rattle.bus_spec.specs.Lawful.{DoNoHarm, DoesNoHarm}
 use Rattle.bus_spec.specs.Members.MemberStatus.{Up}
 

@@ -4,7 +4,7 @@ use Rattle.std.specs.Prelude.{◌⊎◌}
 use Rattle.alloc_exchange.specs.Exchange.{Accepted}
 use Rattle.can_frame.specs.declared.entry.Entry.{Entry}
 use Rattle.dsdl_codec.specs.declared.allocation.Allocation.{Allocation}
-use Rattle.replay_text.specs.declared.row.Row.{Row}
+use Rattle.bus_rows.specs.declared.row.Row.{Row}
 use Rattle.alloc_spec.specs.AllocatorState.{AllocatorState}
 use Rattle.service_alone.specs.Calm.{Pace, Timed, end_of, rows_in}
 use Rattle.service_calm.specs.Calm.{Member as OfMember, Party}

@@ -1,7 +1,7 @@
 -- A calm, and rows of it behind its first ones: cuts of them, their moments, and what is carried along them.
 use Rattle.std.proofs.Common.{◌≡◌, ℕ, ◌<◌, ◌≤◌, List, [], ◌∷◌, ◌++◌, append_assoc, append-nil, refl, sym, ◌∙◌, ap, subst, arith, inl, inr}
 use Rattle.std.specs.Prelude.{⊤, slice_index_or}
-use Rattle.replay_text.specs.declared.row.Row.{Row}
+use Rattle.bus_rows.specs.declared.row.Row.{Row}
 use Rattle.alloc_spec.specs.AllocatorState.{AllocatorState}
 use Rattle.alloc_spec_laws.proofs.Choices.{lt_tells}
 use Rattle.service_alone.specs.Calm.{Pace, Timed, end_of, rows_in}

@@ -11,7 +11,7 @@ use Rattle.raft_model.specs.Moves.Elections.{has_quorum}
 use Rattle.raft_model.specs.Moves.Leading.{has_matched}
 use Rattle.raft_model.specs.Server.{RaftServer, quorum}
 use Rattle.raft_model.proofs.Quorum.{count_grows}
-use Rattle.replay_text.specs.declared.row.Row.{Row}
+use Rattle.bus_rows.specs.declared.row.Row.{Row}
 use Rattle.cluster_discovery.specs.Members.{is_on_list}
 use Rattle.alloc_spec.specs.AllocatorState.{AllocatorState, is_recorded, members_of}
 use Rattle.alloc_spec_laws.proofs.Choices.{le_true, tell}
@@ -32,7 +32,8 @@ use Rattle.service_device.proofs.SettlesOffice.{IsAtBlank, IsWaiting}
 use Rattle.service_device.proofs.SettlesRows.{HasBlank}
 use Rattle.service_device.proofs.SettlesWaits.{BlankComes, LogGrows, Waits, waits_on}
 use Rattle.service_device.specs.ServiceBelow.{ServiceGrounds}
-use Rattle.bus_spec.specs.Cluster.{AreMembers, Cluster, after_rows, cluster, world_of}
+use Rattle.alloc_spec.specs.ClusterMembers.{AreMembers}
+use Rattle.bus_spec.specs.Cluster.{Cluster, after_rows, cluster, world_of}
 use Rattle.bus_spec.specs.Lawful.{DoNoHarm}
 use Rattle.bus_spec.specs.Members.MemberStatus.{Up}
 

@@ -12,7 +12,7 @@ use Rattle.raft_model.specs.Runs as raft
 use Rattle.raft_model.specs.Server.{RaftServer}
 use Rattle.raft_model.specs.Server.Role.{Leader}
 use Rattle.raft_model.proofs.Stored.{last_below}
-use Rattle.replay_text.specs.declared.row.Row.{Row}
+use Rattle.bus_rows.specs.declared.row.Row.{Row}
 use Rattle.alloc_spec.specs.AllocatorState.{AllocatorState}
 use Rattle.alloc_spec.specs.Transfers.{SentTransfer}
 use Rattle.alloc_spec_laws.proofs.Choices.{lt_tells}
@@ -36,7 +36,8 @@ use Rattle.service_device.proofs.SettlesHeard.{HasBlankBy, blank_by, heard_rows,
 use Rattle.service_device.proofs.SettlesKnown.{HasCommitted, IsCalledBy, Knows, calls_stay, commit_kept, known_kept}
 use Rattle.service_device.proofs.SettlesTells.{tells_all, told_kept}
 use Rattle.service_device.specs.ServiceBelow.{ServiceGrounds}
-use Rattle.bus_spec.specs.Cluster.{AreMembers, Cluster, after_row, after_rows, cluster, world_of}
+use Rattle.alloc_spec.specs.ClusterMembers.{AreMembers}
+use Rattle.bus_spec.specs.Cluster.{Cluster, after_row, after_rows, cluster, world_of}
 use Rattle.bus_spec.specs.Lawful.{DoNoHarm}
 use Rattle.bus_spec.specs.Members.{MemberStatus}
 use Rattle.bus_spec.specs.Members.MemberStatus.{Up}

@@ -15,8 +15,8 @@ use Rattle.raft_model.specs.Server.{RaftServer}
 use Rattle.raft_model.specs.Server.Role.{Leader}
 use Rattle.raft_model.proofs.Apart.{leader_no_follower}
 use Rattle.raft_model.proofs.Members.{same_quorum}
-use Rattle.replay_text.specs.declared.row.Row.{Row}
-use Rattle.replay_text.specs.declared.row.Row.TheVariants.{Rx}
+use Rattle.bus_rows.specs.declared.row.Row.{Row}
+use Rattle.bus_rows.specs.declared.row.Row.TheVariants.{Rx}
 use Rattle.transfer_rx.specs.Reassembly.{Delivery, Gives, answer as received}
 use Rattle.alloc_spec.specs.Accepted.{setting_for}
 use Rattle.alloc_spec.specs.AllocatorState.{AllocatorState, members_of, start_of}
@@ -41,7 +41,8 @@ use Rattle.service_device.proofs.SettledStays.{AsksOrNot, asked_or_not}
 use Rattle.service_device.proofs.SettlesOffice.{IsAtBlank, IsWaiting, WaitsOver, blank_office}
 use Rattle.service_leader.proofs.TermsHeard.{IsOfRun}
 use Rattle.service_leader.proofs.TermsKept.{TellsWithin}
-use Rattle.bus_spec.specs.Cluster.{AreMembers, Cluster, after_row, arrival_at, frame_at}
+use Rattle.alloc_spec.specs.ClusterMembers.{AreMembers}
+use Rattle.bus_spec.specs.Cluster.{Cluster, after_row, arrival_at, frame_at}
 use Rattle.bus_spec.specs.Members.{MemberStatus}
 use Rattle.bus_spec.specs.Members.MemberStatus.{Up}
 

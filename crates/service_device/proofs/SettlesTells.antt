@@ -2,7 +2,7 @@
 use Rattle.std.proofs.Common.{zero, suc, ◌≡◌, ℕ, ◌+◌, ◌*◌, ◌<◌, ◌≤◌, List, [], ◌∷◌, ◌++◌, length, append_assoc, sym, ◌∙◌, ap, subst, arith, inl, inr, Some}
 use Rattle.std.specs.Prelude.{◌⊎◌}
 use Rattle.can_frame.specs.declared.entry.Entry.{Entry}
-use Rattle.replay_text.specs.declared.row.Row.{Row}
+use Rattle.bus_rows.specs.declared.row.Row.{Row}
 use Rattle.alloc_spec.specs.AllocatorState.{AllocatorState}
 use Rattle.alloc_spec.specs.Step.{Event, step}
 use Rattle.alloc_spec_laws.specs.Phases.{TellsDuly, when_committed, when_told}

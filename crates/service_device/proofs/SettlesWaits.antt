@@ -20,7 +20,8 @@ use Rattle.service_device.proofs.SettledStays.{IsReached, LedIn, ListsAll, after
 use Rattle.service_device.proofs.SettlesRows.{GrowsIn, HasBlank, IsInWait, lists_all, waits_or_adds}
 use Rattle.service_device.specs.ServiceBelow.{ServiceGrounds}
 use Rattle.service_leader.proofs.TermsRun.{of_run}
-use Rattle.bus_spec.specs.Cluster.{AreMembers, Cluster, after_row, after_rows, cluster}
+use Rattle.alloc_spec.specs.ClusterMembers.{AreMembers}
+use Rattle.bus_spec.specs.Cluster.{Cluster, after_row, after_rows, cluster}
 use Rattle.bus_spec.specs.Lawful.{DoNoHarm, DoesNoHarm}
 use Rattle.bus_spec.specs.Members.MemberStatus.{Up}
 

@@ -1,14 +1,15 @@
 -- Who follows falls silent: from where a calm begins.
 use Rattle.std.proofs.Common.{◌≡◌, ℕ, ◌≤◌, List, ◌++◌, append_assoc, refl, ◌∙◌, ap, arith}
 use Rattle.raft_model.specs.Lists.{In}
-use Rattle.replay_text.specs.declared.row.Row.{Row}
+use Rattle.bus_rows.specs.declared.row.Row.{Row}
 use Rattle.service_alone.specs.Calm.{Timed, end_of, rows_in}
 use Rattle.service_calm.specs.Calm.{Member as OfMember, no_traffic}
 use Rattle.service_device.specs.AskingKnown.{WhoFollowsFallsSilent}
 use Rattle.service_device.proofs.SilentRows.{GoesOn, falls_silent, goes_on}
 use Rattle.service_device.specs.ServiceBelow.{ServiceGrounds}
 use Rattle.service_calm.proofs.Grounds.{calm_laws, well}
-use Rattle.bus_spec.specs.Cluster.{AreMembers, after_rows, cluster, world_of}
+use Rattle.alloc_spec.specs.ClusterMembers.{AreMembers}
+use Rattle.bus_spec.specs.Cluster.{after_rows, cluster, world_of}
 use Rattle.bus_spec.specs.Lawful.{DoNoHarm}
 
 -- a front of the first rows is a front of all

@@ -4,7 +4,7 @@ use Rattle.std.specs.Prelude.{◌||◌}
 use Rattle.alloc_exchange.specs.Exchange.{Accepted, last_moment}
 use Rattle.cluster_discovery.specs.Members.{is_on_list}
 use Rattle.raft_model.specs.Lists.{In}
-use Rattle.replay_text.specs.declared.row.Row.{Row}
+use Rattle.bus_rows.specs.declared.row.Row.{Row}
 use Rattle.alloc_spec.specs.AllocatorState.{AllocatorState, is_recorded, members_of}
 use Rattle.service_alone.specs.Calm.{Pace, Timed, end_of, rows_in}
 use Rattle.service_alone.proofs.Choosing.{left_false}
@@ -21,7 +21,8 @@ use Rattle.service_device.proofs.TidyMembers.{AreKept, IsRested, rested_on}
 use Rattle.service_device.proofs.TidyRows.{IsQuiet, number_from}
 use Rattle.service_device.specs.ServiceBelow.{ServiceGrounds}
 use Rattle.service_calm.proofs.Grounds.{calm_laws, well}
-use Rattle.bus_spec.specs.Cluster.{AreMembers, Cluster, after_rows, cluster, world_of}
+use Rattle.alloc_spec.specs.ClusterMembers.{AreMembers}
+use Rattle.bus_spec.specs.Cluster.{Cluster, after_rows, cluster, world_of}
 use Rattle.bus_spec.specs.Lawful.{DoNoHarm}
 
 -- a tidy member is fit

@@ -6,7 +6,7 @@ use Rattle.can_frame.specs.declared.identifier.Kind.TheVariants.{Anonymous, Mess
 use Rattle.cluster_discovery.specs.Members.{is_on_list}
 use Rattle.dsdl_codec.specs.declared.allocation.Allocation.{Allocation}
 use Rattle.raft_model.specs.Lists.{In}
-use Rattle.replay_text.specs.declared.row.Row.TheVariants.{Rx}
+use Rattle.bus_rows.specs.declared.row.Row.TheVariants.{Rx}
 use Rattle.transfer_rx.specs.Reassembly.{Arrival, Delivery, Gives}
 use Rattle.alloc_spec.specs.AllocatorState.{AllocatorState, members_of}
 use Rattle.alloc_spec.specs.Step.{Event, after_pop, moment_of, step}

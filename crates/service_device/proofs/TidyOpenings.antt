@@ -19,7 +19,8 @@ use Rattle.service_alone.proofs.Choosing.{left_false}
 use Rattle.service_calm.proofs.Pair.{same_server}
 use Rattle.service_device.specs.Tidy.{FitMembersLead, OpenedMembersAreReady, TidyMembersComeToLead, TidyMembersLead}
 use Rattle.service_device.proofs.TidyLaw.{tidy_is_fit}
-use Rattle.bus_spec.specs.Cluster.{AreMembers, rules_of}
+use Rattle.alloc_spec.specs.ClusterMembers.{AreMembers}
+use Rattle.bus_spec.specs.Cluster.{rules_of}
 
 -- ---- openings
 

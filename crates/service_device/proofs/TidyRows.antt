@@ -9,8 +9,8 @@ use Rattle.can_frame.specs.declared.step.What.TheVariants.{Disc}
 use Rattle.can_frame.specs.Identifier.{identifier_number, identifier_of}
 use Rattle.cluster_discovery.specs.Members.{owes}
 use Rattle.raft_model.specs.Lists.{In, at_here, at_other}
-use Rattle.replay_text.specs.declared.row.Row.{Row}
-use Rattle.replay_text.specs.declared.row.Row.TheVariants.{AEnd, AOpen, ARx, ASend, ATick, Crash, Ext, Fault, Open, Rx, Send, Tick}
+use Rattle.bus_rows.specs.declared.row.Row.{Row}
+use Rattle.bus_rows.specs.declared.row.Row.TheVariants.{AEnd, AOpen, ARx, ASend, ATick, Crash, Ext, Fault, Open, Rx, Send, Tick}
 use Rattle.transfer_rx.specs.Acceptance.{first_signature}
 use Rattle.transfer_rx.specs.Reassembly.{Delivery, Gives, answer as received}
 use Rattle.transfer_rx.specs.Sessions.{Session}

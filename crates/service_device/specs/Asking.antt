@@ -3,7 +3,7 @@ use Rattle.std.specs.Prelude.{◌≡◌, ◌≢◌, ◌⊎◌, ℕ, ◌+◌, ◌
 use Rattle.can_frame.specs.declared.entry.Entry.{Entry}
 use Rattle.can_frame.specs.declared.step.What.TheVariants.{Alloc}
 use Rattle.raft_model.specs.Lists.{In}
-use Rattle.replay_text.specs.declared.row.Row.{Row}
+use Rattle.bus_rows.specs.declared.row.Row.{Row}
 use Rattle.allocatee.specs.Allocatee.{Device}
 use Rattle.alloc_spec.specs.Transfers.{id_of}
 use Rattle.service_alone.specs.Calm.{HasSettled, Pace, Timed, end_of, rows_in}

@@ -9,7 +9,7 @@ use Rattle.can_frame.specs.Log.{HasPair}
 use Rattle.bus_agreement.specs.Allocatees.{Holds}
 use Rattle.dsdl_codec.specs.declared.allocation.Allocation.{Allocation}
 use Rattle.raft_model.specs.Lists.{In}
-use Rattle.replay_text.specs.declared.row.Row.{Row}
+use Rattle.bus_rows.specs.declared.row.Row.{Row}
 use Rattle.transfer_tx.specs.Run.{of_identifier}
 use Rattle.allocatee.specs.Allocatee.{Device, opening}
 use Rattle.alloc_spec.specs.AllocatorState.{AllocatorState}

@@ -12,7 +12,7 @@ use Rattle.node_discovery.specs.History.{is_online}
 use Rattle.node_discovery.specs.Watch.{history}
 use Rattle.raft_core.specs.Taken.{proposal}
 use Rattle.raft_model.specs.Server.Role.{Leader}
-use Rattle.replay_text.specs.declared.row.Row.{Row}
+use Rattle.bus_rows.specs.declared.row.Row.{Row}
 use Rattle.alloc_spec.specs.AllocatorState.{AllocatorState, is_known, start_of}
 use Rattle.alloc_spec.specs.Exchange.{may_follow}
 use Rattle.service_steps.specs.Serving.{MayRecord}

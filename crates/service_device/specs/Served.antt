@@ -8,7 +8,7 @@ use Rattle.raft_core.specs.Taken.{proposal}
 use Rattle.raft_model.specs.Lists.{In, how_many}
 use Rattle.raft_model.specs.Server.{quorum}
 use Rattle.raft_model.specs.Server.Role.{Leader}
-use Rattle.replay_text.specs.declared.row.Row.{Row}
+use Rattle.bus_rows.specs.declared.row.Row.{Row}
 use Rattle.alloc_spec.specs.AllocatorState.{AllocatorState}
 use Rattle.alloc_spec.specs.Exchange.{allocation_payload}
 use Rattle.alloc_spec.specs.Step.{Event, step}

@@ -4,8 +4,8 @@
 use Rattle.std.specs.Prelude.{ℕ, zero, suc, ◌+◌, ◌*◌, ◌<◌, ◌≤◌, true, List, [], ◌∷◌, ◌++◌, length, map, flat_map}
 use Rattle.can_frame.specs.declared.entry.Entry.{Entry}
 use Rattle.can_frame.specs.Log.{log_limit}
-use Rattle.replay_text.specs.declared.row.Row.{Row}
-use Rattle.replay_text.specs.declared.row.Row.TheVariants.{AOpen, ARx, ASend, ATick, Open, Rx, Send, Tick}
+use Rattle.bus_rows.specs.declared.row.Row.{Row}
+use Rattle.bus_rows.specs.declared.row.Row.TheVariants.{AOpen, ARx, ASend, ATick, Open, Rx, Send, Tick}
 use Rattle.service_alone.specs.Calm.{Pace, Timed, end_of}
 use Rattle.service_calm.specs.CalmExample.{clocks, group, receiver, sender, some_uid, two}
 use Rattle.service_calm.specs.Devices.{SendsShortAllocations}
@@ -15,7 +15,8 @@ use Rattle.service_device.specs.Served.{HasFollowers, HasPlaceFor, ListsAll, Pai
 use Rattle.service_device.specs.Served.{time_to_be_served}
 use Rattle.service_device.specs.ServedTold.{HasRoomInSteps}
 use Rattle.service_device.specs.Settled.{IsCalmUnder}
-use Rattle.bus_spec.specs.Cluster.{AreMembers, Cluster, cluster, world_of}
+use Rattle.alloc_spec.specs.ClusterMembers.{AreMembers}
+use Rattle.bus_spec.specs.Cluster.{Cluster, cluster, world_of}
 use Rattle.bus_spec.specs.Lawful.{DoNoHarm}
 
 -- ---- before the calm

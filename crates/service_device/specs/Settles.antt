@@ -12,7 +12,7 @@ use Rattle.node_discovery.specs.Watch.{history}
 use Rattle.raft_model.specs.Lists.{In, how_many}
 use Rattle.raft_model.specs.Server.{quorum}
 use Rattle.raft_model.specs.Server.Role.{Leader}
-use Rattle.replay_text.specs.declared.row.Row.{Row}
+use Rattle.bus_rows.specs.declared.row.Row.{Row}
 use Rattle.alloc_spec.specs.AllocatorState.{AllocatorState, is_known, start_of}
 use Rattle.alloc_spec_laws.specs.Blanks.{IsHeard}
 use Rattle.service_alone.specs.Calm.{HasSettled, Pace, Timed, end_of, rows_in}

@@ -25,9 +25,10 @@ ghost use Rattle.service_device.specs.Tidy.{OpenedMembersAreReady, TidyMembersAr
 ghost use Rattle.service_device.specs.Tidy.{TidyMembersLead, TidyMembersMissNobody, WhoLeadsHasComeToLead};
 ghost use Rattle.service_calm.specs.Calm.{Member};
 ghost use Rattle.service_calm.specs.CalmExample.{clocks, sender, some_uid, two};
-ghost use Rattle.bus_spec.specs.Cluster.{AreMembers, cluster};
+ghost use Rattle.alloc_spec.specs.ClusterMembers.{AreMembers};
+ghost use Rattle.bus_spec.specs.Cluster.{cluster};
 ghost use Rattle.bus_spec.specs.Lawful.{DoNoHarm};
-ghost use Rattle.replay_text.specs.declared.row.Row.{Row};
+ghost use Rattle.bus_rows.specs.declared.row.Row.{Row};
 ghost use Rattle.std.specs.Prelude.{List, ℕ, ◌+◌};
 
 use alloc_spec_laws::laws::{duty_of_a_step, members_of_a_step};

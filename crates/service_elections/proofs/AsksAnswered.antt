@@ -14,7 +14,7 @@ use Rattle.raft_model.specs.Moves.Elections.{counts, has_quorum, votes_with}
 use Rattle.raft_model.specs.Moves.Move.{TakeVoteAnswer}
 use Rattle.raft_model.specs.Server.{Role}
 use Rattle.raft_model.specs.Server.Role.{Candidate, Follower, Leader}
-use Rattle.replay_text.specs.declared.row.Row.{Row}
+use Rattle.bus_rows.specs.declared.row.Row.{Row}
 use Rattle.transfer_rx.specs.Reassembly.{Answer as Received, Arrival}
 use Rattle.alloc_spec.specs.AllocatorState.{AllocatorState, members_of}
 use Rattle.alloc_spec.specs.Delivered.{StepResult, by_kind, delivery_phase, reads}

@@ -5,7 +5,7 @@ use Rattle.std.proofs.lemmas.List.{append_assoc}
 use Rattle.raft_model.specs.Lists.{In}
 use Rattle.raft_model.specs.Server.{Role}
 use Rattle.raft_model.specs.Server.Role.{Candidate, Follower, Leader}
-use Rattle.replay_text.specs.declared.row.Row.{Row}
+use Rattle.bus_rows.specs.declared.row.Row.{Row}
 use Rattle.alloc_spec.specs.AllocatorState.{AllocatorState}
 use Rattle.cluster_discovery.specs.Members.{Event as Discovered, IsMemberList, IsStart, Start, members}
 use Rattle.service_alone.specs.Calm.{Pace, Timed, end_of, rows_in}

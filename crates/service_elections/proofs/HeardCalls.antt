@@ -7,7 +7,7 @@ use Rattle.raft_core.specs.Handled as handled
 use Rattle.raft_model.specs.Lists.{In}
 use Rattle.raft_model.specs.Messages.{Message, Request}
 use Rattle.raft_model.specs.Messages.Message.{Requests}
-use Rattle.replay_text.specs.declared.row.Row.{Row}
+use Rattle.bus_rows.specs.declared.row.Row.{Row}
 use Rattle.alloc_spec.specs.AllocatorState.{AllocatorState}
 use Rattle.alloc_spec.specs.Step.{step}
 use Rattle.bus_agreement.proofs.TakenMessages.{is_append_request}
@@ -21,7 +21,8 @@ use Rattle.service_calm.specs.CalmBelow.{CalmGrounds}
 use Rattle.service_elections.specs.Running.{IsCalmOf}
 use Rattle.service_elections.specs.Sent.{HasCalled}
 use Rattle.service_elections.proofs.HeardMade.{WasSent, reads_so, up_then, was_sent}
-use Rattle.bus_spec.specs.Cluster.{AreMembers, Cluster, after_rows, cluster, world_of}
+use Rattle.alloc_spec.specs.ClusterMembers.{AreMembers}
+use Rattle.bus_spec.specs.Cluster.{Cluster, after_rows, cluster, world_of}
 use Rattle.bus_spec.specs.Lawful.{DoNoHarm}
 
 one_request : (a b : AppendRequest) → ◌≡◌ {A = Option AppendRequest} (Some a) (Some b) → a ≡ b

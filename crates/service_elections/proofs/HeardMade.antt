@@ -7,8 +7,8 @@ use Rattle.can_frame.specs.declared.step.What.TheVariants.{App, AppQ, Vote, Vote
 use Rattle.can_frame.specs.Identifier.{identifier_number, identifier_of}
 use Rattle.can_frame.specs.Kinds.{is_anonymous, is_service}
 use Rattle.raft_model.specs.Lists.{In}
-use Rattle.replay_text.specs.declared.row.Row.{Row}
-use Rattle.replay_text.specs.declared.row.Row.TheVariants.{Rx}
+use Rattle.bus_rows.specs.declared.row.Row.{Row}
+use Rattle.bus_rows.specs.declared.row.Row.TheVariants.{Rx}
 use Rattle.transfer_rx.specs.Acceptance.{is_for}
 use Rattle.transfer_rx.specs.Reassembly.{Delivery, Gives, answer}
 use Rattle.transfer_rx.specs.Sound.{IsDelivered}
@@ -39,7 +39,8 @@ use Rattle.service_candidate.proofs.MadeInCalm.{IsMadeIn, made_later}
 use Rattle.service_elections.specs.Running.{IsCalmOf}
 use Rattle.service_elections.proofs.HeardFrames.{next_comes}
 use Rattle.service_elections.proofs.HeardRows.{AreCounted, FliesSo, GoesOn, Halves, IsOfRaft, begins, counted_so, further, halves}
-use Rattle.bus_spec.specs.Cluster.{AreMembers, Cluster, after_row, after_rows, arrival_at, cluster, frame_at, world_of}
+use Rattle.alloc_spec.specs.ClusterMembers.{AreMembers}
+use Rattle.bus_spec.specs.Cluster.{Cluster, after_row, after_rows, arrival_at, cluster, frame_at, world_of}
 use Rattle.bus_spec.specs.Lawful.{DoNoHarm, DoesNoHarm, is_forged}
 use Rattle.bus_spec.specs.Members.MemberStatus.{Up}
 use Rattle.bus_spec.specs.Refinement.{transfers_of_rows}

@@ -5,7 +5,7 @@ use Rattle.dsdl_codec.specs.declared.vote_request.VoteRequest.{VoteRequest}
 use Rattle.dsdl_codec.specs.VoteRequest.{vote_request_of}
 use Rattle.raft_core.specs.Handled as handled
 use Rattle.raft_model.specs.Lists.{In}
-use Rattle.replay_text.specs.declared.row.Row.{Row}
+use Rattle.bus_rows.specs.declared.row.Row.{Row}
 use Rattle.transfer_rx.specs.Reassembly.{Gives, answer}
 use Rattle.alloc_spec.specs.Accepted.{setting_for}
 use Rattle.alloc_spec.specs.AllocatorState.{AllocatorState}
@@ -21,7 +21,8 @@ use Rattle.service_calm.specs.CalmBelow.{CalmGrounds}
 use Rattle.service_elections.specs.Running.{IsCalmOf}
 use Rattle.service_elections.specs.Sent.{HasAskedFor}
 use Rattle.service_elections.proofs.HeardMade.{WasSent, me_there, reads_so, up_then, was_sent}
-use Rattle.bus_spec.specs.Cluster.{AreMembers, Cluster, after_rows, arrival_at, cluster, frame_at, world_of}
+use Rattle.alloc_spec.specs.ClusterMembers.{AreMembers}
+use Rattle.bus_spec.specs.Cluster.{Cluster, after_rows, arrival_at, cluster, frame_at, world_of}
 use Rattle.bus_spec.specs.Lawful.{DoNoHarm}
 
 one_request : (a b : VoteRequest) → ◌≡◌ {A = Option VoteRequest} (Some a) (Some b) → a ≡ b

@@ -1,7 +1,7 @@
 -- The laws below are what the rounds of a calm stand on.
 use Rattle.std.proofs.Common.{◌≡◌, ℕ, ◌≤◌, arith, List, [], ◌∷◌, ◌++◌, refl, subst, inl, inr}
 use Rattle.raft_model.specs.Server.{Store}
-use Rattle.replay_text.specs.declared.row.Row.{Row}
+use Rattle.bus_rows.specs.declared.row.Row.{Row}
 use Rattle.raft_core.specs.Times.{Times}
 use Rattle.alloc_spec.specs.AllocatorState.{AllocatorState, opening}
 use Rattle.alloc_spec.specs.Rules.{Rules, opening_by, times_with}
@@ -18,7 +18,8 @@ use Rattle.service_elections.specs.RoundsBelow.{RoundGrounds}
 use Rattle.service_elections.specs.Rounds.{WhoIsFurthestWins, WhoWinsAtTheTop}
 use Rattle.service_elections.specs.Sent.{WhoAsksStands, WhoHearsWasCalled, WhoVotesWasAsked, WhoWinsHasAsked}
 use Rattle.service_elections.proofs.InStepGiven.{Given, RowFacts}
-use Rattle.bus_spec.specs.Cluster.{AreMembers, cluster, world_of}
+use Rattle.alloc_spec.specs.ClusterMembers.{AreMembers}
+use Rattle.bus_spec.specs.Cluster.{cluster, world_of}
 use Rattle.bus_spec.specs.Lawful.{DoNoHarm}
 use Rattle.bus_spec.specs.Members.MemberStatus.{Up}
 

@@ -5,7 +5,7 @@ use Rattle.can_frame.specs.declared.step.What.TheVariants.{App, AppQ}
 use Rattle.raft_model.specs.Lists.{In}
 use Rattle.raft_model.specs.Messages.{Answer, Request}
 use Rattle.raft_model.specs.Messages.Message.{Answers, Requests}
-use Rattle.replay_text.specs.declared.row.Row.{Row}
+use Rattle.bus_rows.specs.declared.row.Row.{Row}
 use Rattle.alloc_spec.specs.AllocatorState.{AllocatorState}
 use Rattle.alloc_spec.specs.Step.{step}
 use Rattle.alloc_spec.specs.Transfers.{Offer, SentTransfer}

@@ -4,8 +4,8 @@ use Rattle.std.proofs.Common.{◌≡◌, ℕ, ◌+◌, ◌*◌, ◌<◌, ◌≤�
 use Rattle.std.specs.Prelude.{⊤, ◌⊎◌}
 use Rattle.can_frame.specs.declared.step.What.{What}
 use Rattle.raft_model.specs.Lists.{In}
-use Rattle.replay_text.specs.declared.row.Row.{Row}
-use Rattle.replay_text.specs.declared.row.Row.TheVariants.{Rx}
+use Rattle.bus_rows.specs.declared.row.Row.{Row}
+use Rattle.bus_rows.specs.declared.row.Row.TheVariants.{Rx}
 use Rattle.transfer_rx.specs.Keys.{key_of}
 use Rattle.transfer_rx.specs.Reassembly.{Delivery, Gives, answer}
 use Rattle.alloc_spec.specs.Accepted.{setting_for}

@@ -1,14 +1,15 @@
 -- What the laws of who learns stand on; and that terms do not fall, from one of a calm's rows to a later one.
 use Rattle.std.proofs.Common.{◌≡◌, ℕ, ◌≤◌, List, [], ◌∷◌, ◌++◌, append_assoc, append-nil, sym, ◌∙◌, ap, subst}
 use Rattle.raft_model.specs.Lists.{In}
-use Rattle.replay_text.specs.declared.row.Row.{Row}
+use Rattle.bus_rows.specs.declared.row.Row.{Row}
 use Rattle.alloc_spec.specs.AllocatorState.{AllocatorState}
 use Rattle.service_candidate.specs.Terms.{TermsDoNotFall}
 use Rattle.service_leader.proofs.Stretches.{world_both}
 use Rattle.service_calm.specs.Calm.{AreCalm, AreRunning, Member as OfMember, Party, no_traffic}
 use Rattle.service_elections.specs.RoundsBelow.{RoundGrounds}
 use Rattle.service_alone.specs.Calm.{Pace, Timed, rows_in}
-use Rattle.bus_spec.specs.Cluster.{AreMembers, Cluster, after_row, after_rows, cluster, world_of}
+use Rattle.alloc_spec.specs.ClusterMembers.{AreMembers}
+use Rattle.bus_spec.specs.Cluster.{Cluster, after_row, after_rows, cluster, world_of}
 use Rattle.bus_spec.specs.Lawful.{DoNoHarm}
 use Rattle.bus_spec.specs.Members.MemberStatus.{Up}
 

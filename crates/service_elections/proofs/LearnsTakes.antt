@@ -12,7 +12,7 @@ use Rattle.raft_model.specs.Messages.{Answer, Request}
 use Rattle.raft_model.specs.Moves.Elections.{term_puts}
 use Rattle.raft_model.specs.Moves.Move.{TakeAppendAnswer}
 use Rattle.raft_model.specs.Server.{Role, Store, put_all}
-use Rattle.replay_text.specs.declared.row.Row.{Row}
+use Rattle.bus_rows.specs.declared.row.Row.{Row}
 use Rattle.transfer_rx.specs.Reassembly.{Arrival}
 use Rattle.alloc_spec.specs.AllocatorState.{AllocatorState, members_of}
 use Rattle.alloc_spec.specs.Delivered.{StepResult, took}

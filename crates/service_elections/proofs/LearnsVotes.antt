@@ -8,7 +8,7 @@ use Rattle.raft_model.specs.Lists.{In}
 use Rattle.raft_model.specs.Messages.{Request}
 use Rattle.raft_model.specs.Server.{Role}
 use Rattle.raft_model.specs.Server.Role.{Candidate, Leader}
-use Rattle.replay_text.specs.declared.row.Row.TheVariants.{Rx, Tick}
+use Rattle.bus_rows.specs.declared.row.Row.TheVariants.{Rx, Tick}
 use Rattle.transfer_rx.specs.Reassembly.{Delivery, Gives, answer}
 use Rattle.alloc_spec.specs.Accepted.{rows, setting_for}
 use Rattle.alloc_spec.specs.AllocatorState.{AllocatorState, members_of}

@@ -10,7 +10,7 @@ use Rattle.raft_model.specs.Moves.Elections.{is_leader, term_limit}
 use Rattle.raft_model.specs.Moves.Move.{AnswerAgain, CallForVote, CallToAppend, CommitTo, GiveUp, ProposeEntry, TakeAppendAnswer, TakeAppendRequest, TakeVoteAnswer, TakeVoteRequest, TellNothing, TellPair, TimeOut}
 use Rattle.raft_model.specs.Server.{RaftServer, Role, Store}
 use Rattle.raft_model.specs.Server.Role.{Follower, Leader}
-use Rattle.replay_text.specs.declared.row.Row.{Row}
+use Rattle.bus_rows.specs.declared.row.Row.{Row}
 use Rattle.transfer_rx.specs.Reassembly.{Delivery}
 use Rattle.alloc_spec.specs.AllocatorState.{AllocatorState, knows_all}
 use Rattle.alloc_spec.specs.Step.{Event, step}

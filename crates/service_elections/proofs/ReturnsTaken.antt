@@ -9,7 +9,7 @@ use Rattle.raft_model.specs.Lists.{In}
 use Rattle.raft_model.specs.Messages.{Answer, Message, Request, reach}
 use Rattle.raft_model.specs.Messages.Message.{Requests}
 use Rattle.raft_model.specs.Server.Role.{Leader}
-use Rattle.replay_text.specs.declared.row.Row.{Row}
+use Rattle.bus_rows.specs.declared.row.Row.{Row}
 use Rattle.alloc_spec.specs.AllocatorState.{AllocatorState, members_of}
 use Rattle.alloc_spec.specs.Step.{Event, step}
 use Rattle.alloc_spec.specs.Transfers.{Offer, has_room}

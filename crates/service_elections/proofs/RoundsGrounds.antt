@@ -1,13 +1,14 @@
 -- The records that the proofs of rounds stand on, each made of what the laws below say together.
 use Rattle.std.proofs.Common.{◌≡◌, ℕ, List}
 use Rattle.raft_model.specs.Lists.{In}
-use Rattle.replay_text.specs.declared.row.Row.{Row}
+use Rattle.bus_rows.specs.declared.row.Row.{Row}
 use Rattle.alloc_spec.specs.AllocatorState.{AllocatorState}
 use Rattle.service_elections.specs.RoundsBelow.{RoundGrounds}
 use Rattle.service_elections.proofs.NobodyScene.{StepLaws}
 use Rattle.service_calm.specs.CalmBelow.{CalmGrounds}
 use Rattle.service_calm.proofs.Grounds.{is_server}
-use Rattle.bus_spec.specs.Cluster.{AreMembers, cluster, world_of}
+use Rattle.alloc_spec.specs.ClusterMembers.{AreMembers}
+use Rattle.bus_spec.specs.Cluster.{cluster, world_of}
 use Rattle.bus_spec.specs.Lawful.{DoNoHarm}
 use Rattle.bus_spec.specs.Members.MemberStatus.{Up}
 

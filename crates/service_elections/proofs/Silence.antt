@@ -11,8 +11,8 @@ use Rattle.raft_core.specs.Times.{Times}
 use Rattle.raft_model.specs.Lists.{In}
 use Rattle.raft_model.specs.Server.{RaftServer}
 use Rattle.raft_model.specs.Server.Role.{Leader}
-use Rattle.replay_text.specs.declared.row.Row.{Row}
-use Rattle.replay_text.specs.declared.row.Row.TheVariants.{Rx}
+use Rattle.bus_rows.specs.declared.row.Row.{Row}
+use Rattle.bus_rows.specs.declared.row.Row.TheVariants.{Rx}
 use Rattle.transfer_rx.specs.Reassembly.{Delivery, Gives, answer}
 use Rattle.alloc_spec.specs.Accepted.{setting_for}
 use Rattle.alloc_spec.specs.AllocatorState.{AllocatorState, start_of}
@@ -32,7 +32,8 @@ use Rattle.service_elections.specs.Sent.{IsAsItWas, IsSilentSince}
 use Rattle.service_elections.proofs.HeardMade.{WasSent, cut_before, harm_row, harm_there, reached, was_sent}
 use Rattle.service_elections.proofs.HeardRows.{IsOfRaft}
 use Rattle.service_elections.proofs.SilenceSteps.{IsRaftMessage, still_at_frame, still_at_tick}
-use Rattle.bus_spec.specs.Cluster.{AreMembers, Cluster, after_row, after_rows, arrival_at, cluster, frame_at, world_of}
+use Rattle.alloc_spec.specs.ClusterMembers.{AreMembers}
+use Rattle.bus_spec.specs.Cluster.{Cluster, after_row, after_rows, arrival_at, cluster, frame_at, world_of}
 use Rattle.bus_spec.specs.Lawful.{DoNoHarm}
 use Rattle.bus_spec.specs.Members.MemberStatus.{Up}
 

@@ -8,7 +8,7 @@ use Rattle.can_frame.specs.Timing.{election_spread, election_wait}
 use Rattle.raft_core.specs.Times.{Times, wait}
 use Rattle.raft_model.specs.Lists.{In}
 use Rattle.raft_model.specs.Server.Role.{Leader}
-use Rattle.replay_text.specs.declared.row.Row.{Row}
+use Rattle.bus_rows.specs.declared.row.Row.{Row}
 use Rattle.alloc_spec.specs.AllocatorState.{AllocatorState, knows_all, opening}
 use Rattle.alloc_spec.specs.Rules.{times_with}
 use Rattle.alloc_spec.specs.Step.{Event, step}

@@ -1,7 +1,7 @@
 -- What it is that a leader goes on calling, where no election comes any more, and that its calls come back.
 use Rattle.std.specs.Prelude.{◌≢◌, ℕ, ◌+◌, ◌*◌, ◌<◌, List, ◌++◌}
 use Rattle.raft_model.specs.Lists.{In}
-use Rattle.replay_text.specs.declared.row.Row.{Row}
+use Rattle.bus_rows.specs.declared.row.Row.{Row}
 use Rattle.service_alone.specs.Calm.{Pace, Timed, end_of, rows_in}
 use Rattle.service_leader.specs.CallsComeBack.{CallsReturn}
 use Rattle.service_leader.specs.Entries.{GoesOnCalling, PendsSince}

@@ -8,9 +8,10 @@ ghost use Rattle.service_elections.specs.RoundsBelow.{RoundGrounds};
 ghost use Rattle.service_elections.specs.Sent.{AskersLearn, CallersLearn, NothingChangesInSilence, StandersAreHeard};
 ghost use Rattle.service_elections.specs.Sent.{StandersLearn, WhoAsksStands, WhoHearsWasCalled, WhoVotesWasAsked};
 ghost use Rattle.service_elections.specs.Sent.{WhoWinsHasAsked};
-ghost use Rattle.bus_spec.specs.Cluster.{AreMembers, cluster};
+ghost use Rattle.alloc_spec.specs.ClusterMembers.{AreMembers};
+ghost use Rattle.bus_spec.specs.Cluster.{cluster};
 ghost use Rattle.bus_spec.specs.Lawful.{DoNoHarm};
-ghost use Rattle.replay_text.specs.declared.row.Row.{Row};
+ghost use Rattle.bus_rows.specs.declared.row.Row.{Row};
 ghost use Rattle.std.specs.Prelude.{List, ℕ};
 
 use alloc_spec_laws::laws::members_of_a_step;

@@ -15,7 +15,7 @@ use Rattle.raft_model.specs.Messages.{Request}
 use Rattle.raft_model.specs.Moves.{Move}
 use Rattle.raft_model.specs.Moves.Move.{GiveUp}
 use Rattle.raft_model.specs.Server.{RaftServer, Role}
-use Rattle.replay_text.specs.declared.row.Row.{Row}
+use Rattle.bus_rows.specs.declared.row.Row.{Row}
 use Rattle.alloc_spec.specs.AllocatorState.{AllocatorState, members_of}
 use Rattle.alloc_spec.specs.Delivered.{StepResult, delivery_phase, took}
 use Rattle.alloc_spec.specs.Services.{answers_call, append_answered, is_listed, vote_answered}

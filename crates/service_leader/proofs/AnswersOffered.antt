@@ -12,7 +12,7 @@ use Rattle.raft_model.specs.Moves.Appending.{is_accepted}
 use Rattle.raft_model.specs.Moves.Elections.{with_term}
 use Rattle.raft_model.specs.Moves.Leading.{answer_to}
 use Rattle.raft_model.specs.Server.{RaftServer}
-use Rattle.replay_text.specs.declared.row.Row.{Row}
+use Rattle.bus_rows.specs.declared.row.Row.{Row}
 use Rattle.transfer_rx.specs.Reassembly.{Arrival}
 use Rattle.transfer_tx.specs.Queue.{Queued}
 use Rattle.alloc_spec.specs.AllocatorState.{AllocatorState, members_of}

@@ -10,7 +10,7 @@ use Rattle.raft_model.specs.Messages.Message.{Answers}
 use Rattle.raft_model.specs.Moves.Elections.{with_term}
 use Rattle.raft_model.specs.Server.{Store, put_all}
 use Rattle.raft_model.specs.Server.Put.{PutTerm, PutVote}
-use Rattle.replay_text.specs.declared.row.Row.{Row}
+use Rattle.bus_rows.specs.declared.row.Row.{Row}
 use Rattle.alloc_spec.specs.AllocatorState.{AllocatorState, members_of}
 use Rattle.alloc_spec.specs.Step.{Event, step}
 use Rattle.alloc_spec.specs.Transfers.{Offer, SentTransfer, has_room}

@@ -8,7 +8,7 @@ use Rattle.raft_model.specs.Messages.{Request}
 use Rattle.raft_model.specs.Moves.Leading.{append_request}
 use Rattle.raft_model.specs.Moves.Move.{CallForVote, CallToAppend}
 use Rattle.raft_model.specs.Server.Role.{Candidate}
-use Rattle.replay_text.specs.declared.row.Row.{Row}
+use Rattle.bus_rows.specs.declared.row.Row.{Row}
 use Rattle.alloc_spec.specs.AllocatorState.{AllocatorState, members_of}
 use Rattle.alloc_spec.specs.Step.{Event, moment_of, step}
 use Rattle.alloc_spec.specs.StepState.{StepState}

@@ -10,7 +10,7 @@ use Rattle.dsdl_codec.specs.AppendAnswer.{append_answer_of}
 use Rattle.dsdl_codec.specs.AppendRequest.{append_request_of}
 use Rattle.dsdl_codec.specs.VoteAnswer.{vote_answer_of}
 use Rattle.raft_model.specs.Lists.{In}
-use Rattle.replay_text.specs.declared.row.Row.{Row}
+use Rattle.bus_rows.specs.declared.row.Row.{Row}
 use Rattle.transfer_rx.specs.Reassembly.{Answer, Arrival, Delivery, Gives, answer}
 use Rattle.alloc_spec.specs.Accepted.{setting_for}
 use Rattle.alloc_spec.specs.AllocatorState.{AllocatorState}

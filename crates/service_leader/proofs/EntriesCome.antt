@@ -4,7 +4,7 @@ use Rattle.std.proofs.lemmas.List.{append_cancel_left}
 use Rattle.can_frame.specs.Timing.{call_timeout}
 use Rattle.raft_model.specs.Lists.{In}
 use Rattle.raft_model.proofs.Lists.{same_less}
-use Rattle.replay_text.specs.declared.row.Row.{Row}
+use Rattle.bus_rows.specs.declared.row.Row.{Row}
 use Rattle.alloc_spec.specs.AllocatorState.{AllocatorState}
 use Rattle.bus_agreement.proofs.Concatenations.{first_harmless}
 use Rattle.service_alone.specs.Calm.{Pace, Timed, end_of, rows_in}

@@ -16,8 +16,8 @@ use Rattle.raft_model.specs.Moves.Appending.{is_accepted}
 use Rattle.raft_model.specs.Runs as raft
 use Rattle.raft_model.specs.Server.{RaftServer}
 use Rattle.raft_model.specs.Server.Role.{Leader}
-use Rattle.replay_text.specs.declared.row.Row.{Row}
-use Rattle.replay_text.specs.declared.row.Row.TheVariants.{Rx}
+use Rattle.bus_rows.specs.declared.row.Row.{Row}
+use Rattle.bus_rows.specs.declared.row.Row.TheVariants.{Rx}
 use Rattle.transfer_rx.specs.Reassembly.{Gives, answer}
 use Rattle.alloc_spec.specs.Accepted.{is_of_members, setting_for}
 use Rattle.alloc_spec.specs.AllocatorState.{AllocatorState}

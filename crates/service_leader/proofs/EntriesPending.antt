@@ -8,7 +8,7 @@ use Rattle.raft_core.specs.Handled as handled
 use Rattle.raft_model.specs.Messages.{Message, Request}
 use Rattle.raft_model.specs.Messages.Message.{Requests}
 use Rattle.raft_model.specs.Server.{RaftServer}
-use Rattle.replay_text.specs.declared.row.Row.{Row}
+use Rattle.bus_rows.specs.declared.row.Row.{Row}
 use Rattle.alloc_spec.specs.AllocatorState.{AllocatorState}
 use Rattle.alloc_spec.specs.Step.{Event, step}
 use Rattle.alloc_spec.specs.Transfers.{Offer}

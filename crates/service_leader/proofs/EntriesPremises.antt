@@ -1,7 +1,7 @@
 -- Where a member is in step with a leader, and no call to it pends, when a calm begins: what the laws of entries ask of the
 -- two, and that the member stays in step.
 use Rattle.std.proofs.Common.{◌≡◌, ℕ, ◌+◌, ◌≤◌, List, [], ◌++◌, length, refl, sym, ◌∙◌, ap, inr, arith}
-use Rattle.replay_text.specs.declared.row.Row.{Row}
+use Rattle.bus_rows.specs.declared.row.Row.{Row}
 use Rattle.alloc_spec.specs.AllocatorState.{AllocatorState}
 use Rattle.service_alone.specs.Calm.{Pace, Timed, rows_in}
 use Rattle.service_calm.specs.Calm.{Party}

@@ -10,8 +10,8 @@ use Rattle.raft_model.specs.Moves.Leading.{has_matched}
 use Rattle.raft_model.specs.Server.{quorum}
 use Rattle.raft_model.proofs.Lists.{same_append}
 use Rattle.raft_model.proofs.Quorum.{count_grows}
-use Rattle.replay_text.specs.declared.row.Row.{Row}
-use Rattle.replay_text.specs.declared.row.Row.TheVariants.{AEnd, AOpen, ARx, ASend, ATick, Crash, Ext, Fault, Open, Rx, Send, Tick}
+use Rattle.bus_rows.specs.declared.row.Row.{Row}
+use Rattle.bus_rows.specs.declared.row.Row.TheVariants.{AEnd, AOpen, ARx, ASend, ATick, Crash, Ext, Fault, Open, Rx, Send, Tick}
 use Rattle.alloc_spec.specs.AllocatorState.{AllocatorState}
 use Rattle.alloc_spec.specs.Step.{Event, step}
 use Rattle.bus_agreement.specs.Duty.{DoesItsDuty, IsDutiful}

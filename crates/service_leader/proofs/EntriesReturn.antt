@@ -1,7 +1,7 @@
 -- Calls that come back, from a row on.
 use Rattle.std.proofs.Common.{◌≡◌, ℕ, ◌+◌, ◌*◌, ◌<◌, ◌≤◌, List, ◌∷◌, ◌++◌, length, length-append, append_assoc, sym, ◌∙◌, ap, subst, inl, inr, arith}
 use Rattle.dsdl_codec.specs.declared.append_request.AppendRequest.{AppendRequest}
-use Rattle.replay_text.specs.declared.row.Row.{Row}
+use Rattle.bus_rows.specs.declared.row.Row.{Row}
 use Rattle.alloc_spec.specs.Transfers.{Offer}
 use Rattle.service_alone.specs.Calm.{Timed, end_of, rows_in}
 use Rattle.service_calm.specs.Calls.{Calls, Lists}

@@ -3,8 +3,8 @@ use Rattle.std.proofs.Common.{◌≡◌, ◌≢◌, ℕ, ◌+◌, ◌≤◌, Boo
 use Rattle.std.proofs.lemmas.Bool.Decides.{eqb_tells}
 use Rattle.raft_model.specs.Lists.{In, at, at_here, at_other}
 use Rattle.raft_model.specs.Runs as raft
-use Rattle.replay_text.specs.declared.row.Row.{Row}
-use Rattle.replay_text.specs.declared.row.Row.TheVariants.{AEnd, AOpen, ARx, ASend, ATick, Crash, Ext, Fault, Open, Rx, Send, Tick}
+use Rattle.bus_rows.specs.declared.row.Row.{Row}
+use Rattle.bus_rows.specs.declared.row.Row.TheVariants.{AEnd, AOpen, ARx, ASend, ATick, Crash, Ext, Fault, Open, Rx, Send, Tick}
 use Rattle.transfer_rx.specs.Reassembly.{Delivery}
 use Rattle.alloc_spec.specs.AllocatorState.{AllocatorState}
 use Rattle.alloc_spec.specs.Step.{Event, after_pop, step}
@@ -21,7 +21,8 @@ use Rattle.service_calm.proofs.Group.{AreWell, CalmLaws, well_after}
 use Rattle.service_leader.proofs.LeadsOnWays.{AreOfGroup, next_of_group, of_group_after}
 use Rattle.service_leader.proofs.TermsHeard.{IsOfRun, tells_within}
 use Rattle.service_leader.proofs.TermsSteps.{Plays, plays_at_frame, plays_at_tick}
-use Rattle.bus_spec.specs.Cluster.{AreMembers, Cluster, after_row, after_rows, arrival_at, cluster, frame_at, receipt_of, tick_of, world_of}
+use Rattle.alloc_spec.specs.ClusterMembers.{AreMembers}
+use Rattle.bus_spec.specs.Cluster.{Cluster, after_row, after_rows, arrival_at, cluster, frame_at, receipt_of, tick_of, world_of}
 use Rattle.bus_spec.specs.Lawful.{DoNoHarm, DoesNoHarm}
 use Rattle.bus_spec.specs.Members.{Member, after_sending, member_after_step}
 use Rattle.bus_spec.specs.Members.MemberStatus.{Up}

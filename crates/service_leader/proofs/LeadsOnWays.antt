@@ -1,7 +1,7 @@
 -- What is on its way in a calm comes from a party of the group.
 use Rattle.std.proofs.Common.{ℕ, ◌≤◌, List, [], ◌∷◌, ◌++◌, inl, inr}
 use Rattle.raft_model.specs.Lists.{In}
-use Rattle.replay_text.specs.declared.row.Row.{Row}
+use Rattle.bus_rows.specs.declared.row.Row.{Row}
 use Rattle.transfer_tx.specs.Queue.{Queued}
 use Rattle.service_alone.specs.Calm.{IsNext, OnItsWay, Pace, Timed, rows_in}
 use Rattle.service_calm.specs.Calm.{AreCalm, AreRunning, IsCalmRow, Member as OfMember, Party, Traffic, on_way_after, traffic_after}

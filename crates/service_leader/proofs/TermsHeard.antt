@@ -16,7 +16,7 @@ use Rattle.raft_model.specs.Messages.{Answer, Message}
 use Rattle.raft_model.specs.Messages.Message.{Answers}
 use Rattle.raft_model.specs.Runs as raft
 use Rattle.raft_model.specs.Server.{RaftServer}
-use Rattle.replay_text.specs.declared.row.Row.TheVariants.{Rx}
+use Rattle.bus_rows.specs.declared.row.Row.TheVariants.{Rx}
 use Rattle.transfer_rx.specs.Reassembly.{Delivery, Gives, answer}
 use Rattle.transfer_tx.specs.Queue.{Queued}
 use Rattle.allocatee.specs.Given.{IsAnonymous}

@@ -1,11 +1,12 @@
 -- The run that rows show which do no harm, with what is said within its terms.
 use Rattle.std.proofs.Common.{ℕ, List}
-use Rattle.replay_text.specs.declared.row.Row.{Row}
+use Rattle.bus_rows.specs.declared.row.Row.{Row}
 use Rattle.service_calm.specs.CalmBelow.{CalmGrounds}
 use Rattle.service_calm.proofs.Grounds.{choice, its_run, made, shown}
 use Rattle.service_leader.proofs.TermsHeard.{IsOfRun}
 use Rattle.service_leader.proofs.TermsSaid.{said_within}
-use Rattle.bus_spec.specs.Cluster.{AreMembers, cluster, world_of}
+use Rattle.alloc_spec.specs.ClusterMembers.{AreMembers}
+use Rattle.bus_spec.specs.Cluster.{cluster, world_of}
 use Rattle.bus_spec.specs.Lawful.{DoNoHarm}
 use Rattle.bus_spec.specs.Refinement.{events}
 

@@ -15,7 +15,7 @@ use Rattle.raft_model.specs.Moves.Appending.{is_accepted, matched_after, next_af
 use Rattle.raft_model.specs.Moves.Elections.{with_term}
 use Rattle.raft_model.specs.Moves.Leading.{answer_to}
 use Rattle.raft_model.specs.Server.Role.{Follower, Leader}
-use Rattle.replay_text.specs.declared.row.Row.{Row}
+use Rattle.bus_rows.specs.declared.row.Row.{Row}
 use Rattle.alloc_spec.specs.AllocatorState.{AllocatorState, members_of}
 use Rattle.alloc_spec.specs.Step.{step}
 use Rattle.alloc_spec.specs.Transfers.{Offer, SentTransfer, has_room}

@@ -7,7 +7,7 @@ use Rattle.dsdl_codec.specs.declared.append_request.AppendRequest.{AppendRequest
 use Rattle.raft_model.specs.Lists.{In}
 use Rattle.raft_model.specs.Messages.{Answer}
 use Rattle.raft_model.specs.Server.Role.{Leader}
-use Rattle.replay_text.specs.declared.row.Row.{Row}
+use Rattle.bus_rows.specs.declared.row.Row.{Row}
 use Rattle.alloc_spec.specs.AllocatorState.{AllocatorState}
 use Rattle.alloc_spec.specs.Step.{step}
 use Rattle.alloc_spec.specs.Transfers.{Offer, SentTransfer, id_of, queue_places}

@@ -3,7 +3,7 @@
 use Rattle.std.specs.Prelude.{◌≡◌, ◌+◌, ◌*◌, ◌<◌, List, [], ◌∷◌, ◌++◌}
 use Rattle.can_frame.specs.declared.step.What.TheVariants.{App, AppQ}
 use Rattle.can_frame.specs.Timing.{call_timeout}
-use Rattle.replay_text.specs.declared.row.Row.TheVariants.{ARx, ATick, Rx, Send, Tick}
+use Rattle.bus_rows.specs.declared.row.Row.TheVariants.{ARx, ATick, Rx, Send, Tick}
 use Rattle.alloc_spec.specs.Transfers.{id_of}
 use Rattle.service_alone.specs.Calm.{Timed, end_of, rows_in}
 use Rattle.service_calm.specs.Calls.{Calls, Lists}

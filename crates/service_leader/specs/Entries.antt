@@ -15,7 +15,7 @@ use Rattle.raft_model.specs.Moves.Appending.{is_accepted}
 use Rattle.raft_model.specs.Runs.{InEveryRun}
 use Rattle.raft_model.specs.Server.{quorum}
 use Rattle.raft_model.specs.Server.Role.{Leader}
-use Rattle.replay_text.specs.declared.row.Row.{Row}
+use Rattle.bus_rows.specs.declared.row.Row.{Row}
 use Rattle.alloc_spec.specs.AllocatorState.{AllocatorState}
 use Rattle.alloc_spec.specs.Transfers.{SentTransfer, id_of}
 use Rattle.service_alone.specs.Calm.{Pace, Timed, end_of, rows_in}

@@ -1,7 +1,7 @@
 -- Rows that meet the premises of entries that come in time: those of `CallsExample`, in which member 1 comes to lead,
 -- and behind them the members and the device read their clocks.
 use Rattle.std.specs.Prelude.{◌≡◌, ◌+◌, ◌<◌, ◌≤◌, List, [], ◌∷◌, ◌++◌}
-use Rattle.replay_text.specs.declared.row.Row.TheVariants.{ATick, Tick}
+use Rattle.bus_rows.specs.declared.row.Row.TheVariants.{ATick, Tick}
 use Rattle.alloc_spec.specs.AllocatorState.{AllocatorState}
 use Rattle.service_alone.specs.Calm.{Timed, end_of, rows_in}
 use Rattle.service_leader.specs.CallsExample.{answer_rows}

@@ -3,8 +3,8 @@ use Rattle.std.specs.Prelude.{⊤, ◌≡◌, ◌≢◌, ℕ, ◌+◌, ◌<◌, 
 use Rattle.can_frame.specs.Timing.{election_wait}
 use Rattle.raft_model.specs.Lists.{In}
 use Rattle.raft_model.specs.Server.Role.{Follower, Leader}
-use Rattle.replay_text.specs.declared.row.Row.{Row}
-use Rattle.replay_text.specs.declared.row.Row.TheVariants.{Tick}
+use Rattle.bus_rows.specs.declared.row.Row.{Row}
+use Rattle.bus_rows.specs.declared.row.Row.TheVariants.{Tick}
 use Rattle.alloc_spec.specs.AllocatorState.{AllocatorState}
 use Rattle.service_alone.specs.Calm.{Pace, Timed, rows_in}
 use Rattle.service_calm.specs.Calm.{AreCalm, AreRunning, Member, Party, no_traffic}

@@ -4,7 +4,7 @@ use Rattle.can_frame.specs.declared.step.What.TheVariants.{AppQ}
 use Rattle.can_frame.specs.Timing.{call_timeout, election_wait}
 use Rattle.raft_model.specs.Lists.{In}
 use Rattle.raft_model.specs.Server.Role.{Follower}
-use Rattle.replay_text.specs.declared.row.Row.{Row}
+use Rattle.bus_rows.specs.declared.row.Row.{Row}
 use Rattle.alloc_spec.specs.AllocatorState.{AllocatorState}
 use Rattle.alloc_spec.specs.Transfers.{id_of}
 use Rattle.service_alone.specs.Calm.{Pace, Timed, end_of, rows_in}

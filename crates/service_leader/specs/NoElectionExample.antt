@@ -3,8 +3,8 @@
 use Rattle.std.specs.Prelude.{ℕ, true, List, [], ◌∷◌, ◌++◌, None, Some, replicate, take}
 use Rattle.can_frame.specs.declared.step.What.TheVariants.{AppQ}
 use Rattle.raft_model.specs.Messages.Message.{Requests}
-use Rattle.replay_text.specs.declared.row.Row.{Row}
-use Rattle.replay_text.specs.declared.row.Row.TheVariants.{Rx, Send, Tick}
+use Rattle.bus_rows.specs.declared.row.Row.{Row}
+use Rattle.bus_rows.specs.declared.row.Row.TheVariants.{Rx, Send, Tick}
 use Rattle.alloc_spec.specs.Transfers.{Offer}
 use Rattle.service_alone.specs.Calm.{Pace, Timed, rows_in}
 use Rattle.service_calm.specs.Calm.{Member, Party}

@@ -19,10 +19,11 @@ ghost use Rattle.service_calm.specs.CallsInTime.{OffersCallBy};
 ghost use Rattle.service_calm.specs.Calm.{AreCalm, AreRunning, Member, no_traffic};
 ghost use Rattle.service_calm.specs.CalmExample.{clocks, receiver, sender, two};
 ghost use Rattle.service_alone.specs.Calm.{rows_in};
-ghost use Rattle.bus_spec.specs.Cluster.{AreMembers, cluster};
+ghost use Rattle.alloc_spec.specs.ClusterMembers.{AreMembers};
+ghost use Rattle.bus_spec.specs.Cluster.{cluster};
 ghost use Rattle.bus_spec.specs.Lawful.{DoNoHarm};
 ghost use Rattle.raft_model.specs.Lists.{In};
-ghost use Rattle.replay_text.specs.declared.row.Row.{Row};
+ghost use Rattle.bus_rows.specs.declared.row.Row.{Row};
 ghost use Rattle.std.specs.Prelude.{◌≢◌, ℕ, List, [], ◌+◌, ◌<◌};
 
 use alloc_spec_laws::laws::transfers_of_a_step_are_apart;

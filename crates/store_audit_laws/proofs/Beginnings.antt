@@ -13,7 +13,7 @@ use Rattle.raft_log.specs.Stored.{Stored}
 use Rattle.raft_model.specs.Lists.{In}
 use Rattle.raft_model.specs.Server as raft
 use Rattle.raft_model.specs.Server.{Store}
-use Rattle.replay_text.specs.declared.row.Row.{Row}
+use Rattle.bus_rows.specs.declared.row.Row.{Row}
 use Rattle.store_audit.specs.Stores.{committed as committed_by, store_at}
 use Rattle.store_audit.specs.Verdict.{IsDifference}
 use Rattle.bus_agreement.specs.Headline.{HasHeadline, Headline, the_list}

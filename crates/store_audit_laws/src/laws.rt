@@ -6,10 +6,11 @@ ghost use Rattle.cmd_node_laws.specs.Alike.{Likeness};
 ghost use Rattle.cmd_node_laws.specs.Stands.{IsFoundStopped, world_after};
 ghost use Rattle.cmd_node_laws.specs.Traces.{Event, MayAllHappen};
 ghost use Rattle.raft_log.specs.declared.stored.Stored.{Stored};
-ghost use Rattle.replay_text.specs.declared.row.Row.{Row};
+ghost use Rattle.bus_rows.specs.declared.row.Row.{Row};
 ghost use Rattle.store_audit.specs.Verdict.{IsDifference};
 ghost use Rattle.bus_spec.specs.Choices.{AgreesWithDisk};
-ghost use Rattle.bus_spec.specs.Cluster.{AreMembers, Cluster, cluster, world_of};
+ghost use Rattle.alloc_spec.specs.ClusterMembers.{AreMembers};
+ghost use Rattle.bus_spec.specs.Cluster.{Cluster, cluster, world_of};
 ghost use Rattle.bus_spec.specs.Lawful.{DoNoHarm};
 
 use bus_agreement::headline::the_headline;

@@ -1,7 +1,8 @@
 use crate::frames::{first_request, frame_of};
 use arrayvec::ArrayVec;
 use can_frame::{NodeId, Role, Seen, Sent, What, Why};
-use replay_text::{Told, write_told};
+use bus_rows::Told;
+use replay_text::write_told;
 use std::test::Fail;
 
 fn stepped(

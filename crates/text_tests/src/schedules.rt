@@ -1,6 +1,7 @@
 use crate::frames::first_request;
 use outside::Pattern;
-use replay_text::{Row, read_bytes, read_row};
+use bus_rows::Row;
+use replay_text::{read_bytes, read_row};
 use std::test::Fail;
 
 #[test]

@@ -2,7 +2,7 @@ use Rattle.std.proofs.Common.{◌+◌, ◌++◌, ◌∙◌, sym, ap, subst, arit
 use Rattle.std.specs.Io.KnownBytes.{Appends, append_known}
 use Rattle.std.proofs.KnownBytes.{Appends-trans}
 use Rattle.std.proofs.lemmas.Bool.Decides.{nat_tests}
-use Rattle.bus_spec.specs.Report.{entry_line, entry_lines}
+use Rattle.allocator_app.specs.WorldReport.{entry_line, entry_lines}
 use Rattle.cmd_io.specs.Output.{WritesFront}
 use Rattle.allocator_app.proofs.Entries.{all_taken, entry_lines-front, entry_lines-next, is_last, is_there}
 use Rattle.cmd_io.proofs.Written.{front-on, front-of_more, grows-trans, writes-failed, writes-so_far}

@@ -3,7 +3,7 @@ use Rattle.std.specs.Io.KnownBytes.{Appends, append_known}
 use Rattle.can_frame.specs.declared.entry.Entry.{Entry}
 use Rattle.bus_world.specs.World.{StandsFor}
 use Rattle.bus_spec.specs.Cluster.{Cluster}
-use Rattle.bus_spec.specs.Report.{entry_lines}
+use Rattle.allocator_app.specs.WorldReport.{entry_lines}
 use Rattle.allocator_app.specs.Logs.{HasLog}
 use Rattle.cmd_io.specs.Output.{Grows}
 use Rattle.allocator_app.proofs.report.write_entries.Given as goal

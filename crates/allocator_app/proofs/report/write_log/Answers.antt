@@ -1,5 +1,5 @@
 use Rattle.std.proofs.Common.{◌++◌, ◌∙◌, sym, ap, subst, take, append_assoc}
-use Rattle.bus_spec.specs.Report.{entry_lines, member_lines}
+use Rattle.allocator_app.specs.WorldReport.{entry_lines, member_lines}
 use Rattle.cmd_io.specs.Output.{Writes, WritesFront}
 use Rattle.allocator_app.proofs.Logs.{shows_log}
 use Rattle.cmd_io.proofs.Written.{front-of_more, grows-trans, writes-failed, writes-then}

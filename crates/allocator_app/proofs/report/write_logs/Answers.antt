@@ -2,7 +2,7 @@ use Rattle.std.proofs.Common.{◌-◌, ◌++◌, ◌∙◌, subst, arith}
 use Rattle.std.specs.Io.KnownBytes.{Appends, append_known}
 use Rattle.std.proofs.KnownBytes.{Appends-trans}
 use Rattle.std.proofs.lemmas.Bool.Decides.{nat_tests}
-use Rattle.bus_spec.specs.Report.{all_logs, log_lines, member_lines}
+use Rattle.allocator_app.specs.WorldReport.{all_logs, log_lines, member_lines}
 use Rattle.cmd_io.specs.Output.{WritesFront}
 use Rattle.allocator_app.proofs.Entries.{all_logs-are, all_logs-front, log_lines-more}
 use Rattle.cmd_io.proofs.Written.{front-on, front-of_more, grows-trans, writes-failed, writes-so_far}

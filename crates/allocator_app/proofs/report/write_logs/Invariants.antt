@@ -2,7 +2,7 @@ use Rattle.std.proofs.Common.{◌≡◌, ◌≤◌, ◌-◌}
 use Rattle.std.specs.Io.KnownBytes.{Appends, append_known}
 use Rattle.bus_world.specs.World.{StandsFor}
 use Rattle.bus_spec.specs.Cluster.{Cluster}
-use Rattle.bus_spec.specs.Report.{log_lines}
+use Rattle.allocator_app.specs.WorldReport.{log_lines}
 use Rattle.cmd_io.specs.Output.{Grows}
 use Rattle.allocator_app.proofs.report.write_logs.Given as goal
 

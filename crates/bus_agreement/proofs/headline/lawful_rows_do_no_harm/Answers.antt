@@ -1,5 +1,5 @@
 use Rattle.std.proofs.Common.{List, [], ◌∷◌, inl}
-use Rattle.replay_text.specs.declared.row.Row.{Row}
+use Rattle.bus_rows.specs.declared.row.Row.{Row}
 use Rattle.bus_spec.specs.Cluster.{Cluster, after_row}
 use Rattle.bus_spec.specs.Lawful.{DoNoHarm, AreLawful}
 use Rattle.bus_agreement.proofs.headline.lawful_rows_do_no_harm.Goals as goal

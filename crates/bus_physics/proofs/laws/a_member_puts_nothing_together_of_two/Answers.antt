@@ -1,7 +1,8 @@
 use Rattle.std.proofs.Common.{ℕ, List, refl, sym, subst}
 use Rattle.std.specs.Prelude.{[], ◌∷◌, ◌++◌}
 use Rattle.raft_model.specs.Runs.{initial_world, run}
-use Rattle.bus_spec.specs.Cluster.{AreMembers, cluster, world_of}
+use Rattle.alloc_spec.specs.ClusterMembers.{AreMembers}
+use Rattle.bus_spec.specs.Cluster.{cluster, world_of}
 use Rattle.bus_spec.specs.Refinement.{events, transfers_of_rows}
 use Rattle.bus_agreement.proofs.Concatenations.{ids_stay}
 use Rattle.bus_physics.specs.Physics.{heard_by, rows_in}

@@ -15,7 +15,7 @@ use Rattle.alloc_spec.specs.Delivered.{delivery_phase}
 use Rattle.alloc_spec.specs.Judging.{arrival_judgement}
 use Rattle.alloc_spec.specs.Step.{all_nodes, step}
 use Rattle.alloc_spec.specs.Transfers.{SentTransfer}
-use Rattle.replay_text.specs.declared.row.Row.{Row}
+use Rattle.bus_rows.specs.declared.row.Row.{Row}
 use Rattle.bus_spec.specs.Cluster.{Cluster, after_row, cluster}
 use Rattle.bus_spec.specs.Lawful.{AreLawful}
 use Rattle.bus_spec.specs.Refinement.{transfers_of_rows}

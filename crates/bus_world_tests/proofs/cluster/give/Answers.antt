@@ -1,5 +1,5 @@
 use Rattle.std.proofs.Common.{subst}
-use Rattle.replay_text.specs.declared.row.Row.{Row}
+use Rattle.bus_rows.specs.declared.row.Row.{Row}
 use Rattle.bus_world_tests.specs.Rows.{HasPattern}
 use Rattle.bus_world_tests.proofs.cluster.give.Goals as goal
 

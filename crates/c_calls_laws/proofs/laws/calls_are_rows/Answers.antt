@@ -7,7 +7,7 @@ use Rattle.alloc_spec.specs.Rules.{opening_by, rules_by}
 use Rattle.bus_spec.specs.Cluster.{Cluster, after_row, cluster, world_of}
 use Rattle.cmd_node_laws.proofs.Places.{after_both}
 use Rattle.cmd_node_laws.proofs.Turning.{MarkLaws}
-use Rattle.replay_text.specs.declared.row.Row.TheVariants.{Open}
+use Rattle.bus_rows.specs.declared.row.Row.TheVariants.{Open}
 use Rattle.c_calls.specs.declared.node.Node.{Node}
 use Rattle.c_calls.specs.At.{first_bytes, low}
 use Rattle.c_calls_laws.specs.OnBus.{IsMember, all_rows, calls_in}

@@ -16,7 +16,8 @@ use Rattle.transfer_tx.specs.Queue.{left_behind, next_out, queued_frames}
 use Rattle.outside.specs.declared.received.Received.TheVariants.{Frame}
 use Rattle.cmd_io.specs.Draws.{next_state, word_at}
 use Rattle.cmd_node.specs.Frames.{is_frame, raw_of}
-use Rattle.bus_spec.specs.Cluster.{AreMembers, Cluster, after_rows, cluster, frame_at}
+use Rattle.alloc_spec.specs.ClusterMembers.{AreMembers}
+use Rattle.bus_spec.specs.Cluster.{Cluster, after_rows, cluster, frame_at}
 use Rattle.bus_spec.specs.Members.MemberStatus.{Down}
 use Rattle.cmd_node_laws.specs.Example.{first_events, later_events, two, given_then, world_by_then}
 use Rattle.cmd_node_laws.specs.Mirrored.{Carries}

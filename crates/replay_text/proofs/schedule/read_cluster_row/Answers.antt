@@ -1,6 +1,6 @@
 use Rattle.std.proofs.Common.{rules, ◌≡◌, ◌∷◌, ℕ, Some, None, true, false}
-use Rattle.replay_text.specs.declared.row.Row.{Row as RowValue}
-use Rattle.replay_text.specs.declared.row.Row.TheVariants.{Open}
+use Rattle.bus_rows.specs.declared.row.Row.{Row as RowValue}
+use Rattle.bus_rows.specs.declared.row.Row.TheVariants.{Open}
 use Rattle.replay_text.specs.Schedule.{ReadsWords, IsOfCluster}
 use Rattle.replay_text.specs.Words.{words}
 use Rattle.replay_text.proofs.schedule.read_cluster_row.Goals as goal

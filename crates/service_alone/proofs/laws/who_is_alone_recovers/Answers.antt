@@ -3,7 +3,8 @@ use Rattle.service_alone.proofs.CalmPhases.{CalmLaws}
 use Rattle.service_alone.proofs.Leading.{Laws, laws_alone}
 use Rattle.service_alone.proofs.Recovered.{recovers_for_known, recovers_for_new}
 use Rattle.service_alone.proofs.laws.who_is_alone_recovers.Goals as goal
-use Rattle.bus_spec.specs.Cluster.{AreMembers, cluster}
+use Rattle.alloc_spec.specs.ClusterMembers.{AreMembers}
+use Rattle.bus_spec.specs.Cluster.{cluster}
 
 pub returns : goal.returns
 returns c =

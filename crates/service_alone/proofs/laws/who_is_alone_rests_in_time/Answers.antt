@@ -2,7 +2,8 @@ use Rattle.std.proofs.Common.{ℕ, [], ◌∷◌}
 use Rattle.service_alone.proofs.Leading.{Laws, laws_alone}
 use Rattle.service_alone.proofs.Recovered.{comes_to_rest_soon, gets_ready, settles_in_time, starts_lawfully, stops_at_once}
 use Rattle.service_alone.proofs.laws.who_is_alone_rests_in_time.Goals as goal
-use Rattle.bus_spec.specs.Cluster.{AreMembers, cluster, world_of}
+use Rattle.alloc_spec.specs.ClusterMembers.{AreMembers}
+use Rattle.bus_spec.specs.Cluster.{cluster, world_of}
 
 pub returns : goal.returns
 returns c =

@@ -5,7 +5,8 @@ use Rattle.service_alone.proofs.Leading.{Laws, laws_alone}
 use Rattle.service_alone.proofs.Reached.{goes_on}
 use Rattle.service_alone.proofs.Served.{ServedLaws, is_served, is_told_again}
 use Rattle.service_alone.proofs.laws.who_is_alone_serves_devices.Goals as goal
-use Rattle.bus_spec.specs.Cluster.{AreMembers, cluster, world_of}
+use Rattle.alloc_spec.specs.ClusterMembers.{AreMembers}
+use Rattle.bus_spec.specs.Cluster.{cluster, world_of}
 
 pub returns : goal.returns
 returns c =

@@ -1,10 +1,11 @@
 use Rattle.std.proofs.Common.{ℕ, List, [], ◌∷◌, inl, refl}
-use Rattle.replay_text.specs.declared.row.Row.{Row}
+use Rattle.bus_rows.specs.declared.row.Row.{Row}
 use Rattle.service_alone.proofs.CalmPhases.{CalmLaws}
 use Rattle.service_alone.proofs.CalmServed.{serves_known, serves_new}
 use Rattle.service_alone.proofs.Reached.{IsShown, laws_say}
 use Rattle.service_alone.proofs.laws.who_is_alone_serves_in_time.Goals as goal
-use Rattle.bus_spec.specs.Cluster.{AreMembers, cluster, world_of}
+use Rattle.alloc_spec.specs.ClusterMembers.{AreMembers}
+use Rattle.bus_spec.specs.Cluster.{cluster, world_of}
 use Rattle.bus_spec.specs.Lawful.{DoNoHarm}
 
 pub returns : goal.returns

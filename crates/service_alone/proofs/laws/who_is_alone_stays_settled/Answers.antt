@@ -1,12 +1,13 @@
 use Rattle.std.proofs.Common.{ℕ, ◌+◌, List, [], ◌∷◌, refl}
 use Rattle.can_frame.specs.declared.entry.Entry.{Entry}
-use Rattle.replay_text.specs.declared.row.Row.{Row}
+use Rattle.bus_rows.specs.declared.row.Row.{Row}
 use Rattle.service_alone.specs.Calm.{HasSettled, Pace, Timed}
 use Rattle.service_alone.specs.CalmRecovery.{AreQuiet, no_own_traffic}
 use Rattle.service_alone.proofs.Reached.{laws_say}
 use Rattle.service_alone.proofs.StaysSettled.{Ends, goes_on, ready_at_end, settled_at_end}
 use Rattle.service_alone.proofs.laws.who_is_alone_stays_settled.Goals as goal
-use Rattle.bus_spec.specs.Cluster.{AreMembers, cluster, world_of}
+use Rattle.alloc_spec.specs.ClusterMembers.{AreMembers}
+use Rattle.bus_spec.specs.Cluster.{cluster, world_of}
 use Rattle.bus_spec.specs.Lawful.{DoNoHarm}
 
 pub returns : goal.returns

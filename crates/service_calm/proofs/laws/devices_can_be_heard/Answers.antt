@@ -6,8 +6,8 @@ use Rattle.can_frame.specs.TransferCrc.{bits_of, crc_of, divide, number_of}
 use Rattle.can_frame.specs.Cutting.{frame_count, frames_of, payload_of}
 use Rattle.can_frame.specs.Identifier.{identifier_of}
 use Rattle.raft_model.specs.Lists.{In}
-use Rattle.replay_text.specs.declared.row.Row.{Row}
-use Rattle.replay_text.specs.declared.row.Row.TheVariants.{Tick}
+use Rattle.bus_rows.specs.declared.row.Row.{Row}
+use Rattle.bus_rows.specs.declared.row.Row.TheVariants.{Tick}
 use Rattle.transfer_rx.specs.Acceptance.{wanted}
 use Rattle.transfer_rx.specs.Outcome.{blocks_used, fits_no_part, fits_no_payload, outcome}
 use Rattle.transfer_rx.specs.Reassembly.{session_step, step as frame_step}

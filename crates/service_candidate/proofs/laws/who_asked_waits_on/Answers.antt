@@ -2,7 +2,8 @@ use Rattle.std.proofs.Common.{sym, subst}
 use Rattle.service_candidate.proofs.VoteRows.{waits_on}
 use Rattle.service_candidate.proofs.laws.who_asked_waits_on.Goals as goal
 use Rattle.service_calm.proofs.Grounds.{choice, its_run, listed_in, made, shown}
-use Rattle.bus_spec.specs.Cluster.{AreMembers, cluster, world_of}
+use Rattle.alloc_spec.specs.ClusterMembers.{AreMembers}
+use Rattle.bus_spec.specs.Cluster.{cluster, world_of}
 
 pub returns : goal.returns
 returns c = λ ids rows members harmless n m id moment request row before after in_n harm up up_then waits soon none_stands no_leader none_comes.

@@ -1,5 +1,5 @@
 use Rattle.std.proofs.Common.{◌+◌, arith, List, ◌++◌}
-use Rattle.replay_text.specs.declared.row.Row.{Row}
+use Rattle.bus_rows.specs.declared.row.Row.{Row}
 use Rattle.service_leader.proofs.Stretches.{harmless_both}
 use Rattle.service_candidate.specs.Elections.{longest_wait}
 use Rattle.service_candidate.proofs.ElectionGrounds.{all_know, are_well}

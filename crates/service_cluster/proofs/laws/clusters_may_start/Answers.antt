@@ -14,7 +14,8 @@ use Rattle.service_cluster.proofs.RestartCalm.{Restarted, all_calls_fit, all_hav
 use Rattle.service_cluster.proofs.RestartComputed.{lawful_before, opened, passed, stores_empty}
 use Rattle.service_cluster.proofs.laws.clusters_may_start.Goals as goal
 use Rattle.service_elections.specs.Opened.{OpenedMembersGoOn}
-use Rattle.bus_spec.specs.Cluster.{AreMembers, cluster}
+use Rattle.alloc_spec.specs.ClusterMembers.{AreMembers}
+use Rattle.bus_spec.specs.Cluster.{cluster}
 use Rattle.bus_spec.specs.Lawful.{DoNoHarm}
 
 -- the members of the group

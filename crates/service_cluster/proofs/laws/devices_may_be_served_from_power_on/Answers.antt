@@ -18,7 +18,8 @@ use Rattle.service_cluster.proofs.RestartCalm.{Restarted, are_ready, device_has_
 use Rattle.service_cluster.proofs.ServiceComputed.{can_tell, has_come, lawful_before, opened, passed}
 use Rattle.service_cluster.proofs.laws.devices_may_be_served_from_power_on.Goals as goal
 use Rattle.service_elections.specs.Opened.{OpenedMembersGoOn}
-use Rattle.bus_spec.specs.Cluster.{AreMembers, cluster}
+use Rattle.alloc_spec.specs.ClusterMembers.{AreMembers}
+use Rattle.bus_spec.specs.Cluster.{cluster}
 use Rattle.bus_spec.specs.Lawful.{DoNoHarm}
 
 -- the members of the group

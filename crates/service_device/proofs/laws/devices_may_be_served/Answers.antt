@@ -15,7 +15,8 @@ use Rattle.service_device.proofs.CalmTestedRows.{Worked, are_calm, behind, calls
 use Rattle.service_device.proofs.ServedMeets.{WorldMeets, misses, world_is}
 use Rattle.service_device.proofs.ServedTests.{receipt_test, world_test}
 use Rattle.service_device.proofs.laws.devices_may_be_served.Goals as goal
-use Rattle.bus_spec.specs.Cluster.{AreMembers, Cluster, after_rows, cluster}
+use Rattle.alloc_spec.specs.ClusterMembers.{AreMembers}
+use Rattle.bus_spec.specs.Cluster.{Cluster, after_rows, cluster}
 
 -- the rows, which pass
 abbrev worked : Worked

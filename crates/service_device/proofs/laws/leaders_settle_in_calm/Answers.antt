@@ -1,12 +1,13 @@
 use Rattle.std.proofs.Common.{ℕ, ◌+◌, List, ◌++◌}
-use Rattle.replay_text.specs.declared.row.Row.{Row}
+use Rattle.bus_rows.specs.declared.row.Row.{Row}
 use Rattle.service_alone.specs.Calm.{end_of, rows_in}
 use Rattle.service_calm.specs.Calm.{Member}
 use Rattle.service_device.specs.Settles.{LeadersSettle, settle_within}
 use Rattle.service_device.proofs.ServiceFronts.{fitting_behind}
 use Rattle.service_device.proofs.SettlesLaw.{leader_settles_in_time, settles_unasked}
 use Rattle.service_device.proofs.laws.leaders_settle_in_calm.Goals as goal
-use Rattle.bus_spec.specs.Cluster.{AreMembers, after_rows, cluster, world_of}
+use Rattle.alloc_spec.specs.ClusterMembers.{AreMembers}
+use Rattle.bus_spec.specs.Cluster.{after_rows, cluster, world_of}
 use Rattle.bus_spec.specs.Lawful.{DoNoHarm}
 
 pub returns : goal.returns

@@ -1,6 +1,6 @@
 use Rattle.std.proofs.Common.{ℕ, List, sym, subst}
 use Rattle.raft_model.specs.Members.{IsAll}
-use Rattle.replay_text.specs.declared.row.Row.{Row}
+use Rattle.bus_rows.specs.declared.row.Row.{Row}
 use Rattle.alloc_spec.specs.AllocatorState.{members_of}
 use Rattle.service_device.specs.Settles.{LeadersAddTheirBlanks}
 use Rattle.service_device.proofs.BlankLaw.{due_in, has_added, has_come_to_lead}
@@ -9,7 +9,8 @@ use Rattle.service_calm.proofs.Grounds.{listed_in}
 use Rattle.service_leader.proofs.TermsRun.{of_run}
 use Rattle.service_device.proofs.SettlesRows.{its_server, lists_all}
 use Rattle.service_device.proofs.laws.who_leads_has_come_to_lead.Goals as goal
-use Rattle.bus_spec.specs.Cluster.{AreMembers, cluster, world_of}
+use Rattle.alloc_spec.specs.ClusterMembers.{AreMembers}
+use Rattle.bus_spec.specs.Cluster.{cluster, world_of}
 use Rattle.bus_spec.specs.Lawful.{DoNoHarm}
 
 pub returns : goal.returns

@@ -1,6 +1,6 @@
 use Rattle.std.proofs.Common.{List, [], ◌∷◌, ◌++◌, sym, subst}
 use Rattle.raft_model.specs.Lists.{In}
-use Rattle.replay_text.specs.declared.row.Row.{Row}
+use Rattle.bus_rows.specs.declared.row.Row.{Row}
 use Rattle.alloc_spec.specs.Transfers.{SentTransfer}
 use Rattle.service_calm.specs.Comes.{sent_by}
 use Rattle.service_leader.proofs.AnswersRead.{answers_as_said}

@@ -4,7 +4,8 @@ use Rattle.service_calm.proofs.Grounds.{choice, invariants, its_run, listed_in, 
 use Rattle.service_leader.proofs.EntriesAccepted.{accepts_in}
 use Rattle.service_leader.proofs.EntriesJudged.{called_accepts}
 use Rattle.service_leader.proofs.laws.calls_to_who_is_in_step_are_accepted.Goals as goal
-use Rattle.bus_spec.specs.Cluster.{AreMembers, cluster, world_of}
+use Rattle.alloc_spec.specs.ClusterMembers.{AreMembers}
+use Rattle.bus_spec.specs.Cluster.{cluster, world_of}
 use Rattle.bus_spec.specs.Refinement.{events}
 
 pub returns-clause-runs : goal.returns-clause-runs

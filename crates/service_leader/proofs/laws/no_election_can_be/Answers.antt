@@ -7,8 +7,8 @@ use Rattle.can_frame.specs.Timing.{election_wait}
 use Rattle.can_frame.specs.TransferCrc.{bits_of, crc_of, divide, number_of}
 use Rattle.node_discovery.specs.Watch.{next_query}
 use Rattle.raft_model.specs.Lists.{In}
-use Rattle.replay_text.specs.declared.row.Row.{Row}
-use Rattle.replay_text.specs.declared.row.Row.TheVariants.{Send, Tick}
+use Rattle.bus_rows.specs.declared.row.Row.{Row}
+use Rattle.bus_rows.specs.declared.row.Row.TheVariants.{Send, Tick}
 use Rattle.transfer_rx.specs.declared.key.Key.{Key}
 use Rattle.transfer_rx.specs.Acceptance.{wanted}
 use Rattle.transfer_rx.specs.Keys.{key_of}

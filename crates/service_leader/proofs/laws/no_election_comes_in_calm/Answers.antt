@@ -1,5 +1,5 @@
 use Rattle.std.proofs.Common.{List, ◌++◌, subst}
-use Rattle.replay_text.specs.declared.row.Row.{Row}
+use Rattle.bus_rows.specs.declared.row.Row.{Row}
 use Rattle.bus_agreement.proofs.Concatenations.{first_harmless}
 use Rattle.service_alone.specs.Calm.{rows_in}
 use Rattle.service_leader.proofs.NextCall.{CallLaws}

@@ -1,5 +1,5 @@
 use Rattle.std.proofs.Common.{ℕ, List, ◌++◌, subst}
-use Rattle.replay_text.specs.declared.row.Row.{Row}
+use Rattle.bus_rows.specs.declared.row.Row.{Row}
 use Rattle.service_leader.specs.EntriesBelow.{AppendsPend, CallsInside, HasWhatIsKnown, PendInTerm, PendingCallsArePast}
 use Rattle.service_leader.proofs.EntriesHave.{appends_pend, has_known, inside, past, pend_in_term}
 use Rattle.service_calm.proofs.Grounds.{choice, invariants, is_server, its_run, made, shown}

@@ -7,7 +7,7 @@ use Rattle.raft_log.specs.KeyDisk.{opening_on}
 use Rattle.alloc_spec.specs.Rules.{rules_by}
 use Rattle.alloc_server.specs.Server.{disk_of, durable_of}
 use Rattle.bus_spec.specs.Members.MemberStatus.{Down}
-use Rattle.replay_text.specs.ReportLine.{report_line_of}
+use Rattle.bus_rows.specs.ReportLine.{report_line_of}
 use Rattle.bus_world.specs.Places.{HasStatus}
 use Rattle.bus_world.proofs.Opening.{is_up, not_damaged, opened_by, opened_told, pattern_kept, refused_told, stopped_on, unopened_by}
 use Rattle.bus_world.proofs.member.Member.open.Goals as goal

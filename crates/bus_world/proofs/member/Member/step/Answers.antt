@@ -1,6 +1,6 @@
 use Rattle.std.proofs.Common.{◌∙◌, sym, refl}
 use Rattle.alloc_server.specs.Server.{event_of}
-use Rattle.replay_text.specs.ReportLine.{report_line_of}
+use Rattle.bus_rows.specs.ReportLine.{report_line_of}
 use Rattle.bus_world.specs.declared.place.Place.{Place}
 use Rattle.bus_world.proofs.Stepping.{goes_on, pattern_kept, stops, told_by}
 use Rattle.bus_world.proofs.member.Member.step.Goals as goal

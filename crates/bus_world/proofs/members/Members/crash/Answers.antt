@@ -6,8 +6,8 @@ use Rattle.bus_spec.specs.Cluster.{is_member, with_member}
 use Rattle.bus_spec.specs.Members.{with_stop_armed, is_running, stopped_with}
 use Rattle.bus_world.specs.Members.{Holds}
 use Rattle.bus_world.specs.Stands.{StandsFor}
-use Rattle.replay_text.specs.ReportLine.{report_line_of}
-use Rattle.replay_text.specs.ReportLine.ReportLine.{HasStopped, WasArmed}
+use Rattle.bus_rows.specs.ReportLine.{report_line_of}
+use Rattle.bus_rows.specs.ReportLine.ReportLine.{HasStopped, WasArmed}
 use Rattle.bus_world.specs.declared.member.Member.{Member}
 use Rattle.bus_world.proofs.Finding.{alike_there, set_alike, is_not_zero, is_zero, its_id, runs_from, set_holds, stands_there}
 use Rattle.bus_world.proofs.members.Members.crash.Goals as goal

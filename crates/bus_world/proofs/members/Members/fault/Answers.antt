@@ -2,7 +2,7 @@ use Rattle.std.proofs.Common.{ℕ, ◌∙◌, ap, sym, subst}
 use Rattle.bus_world.specs.Stands.{StandsFor}
 use Rattle.bus_world.specs.declared.member.Member.{Member}
 use Rattle.bus_spec.specs.Members.{with_failure_armed}
-use Rattle.replay_text.specs.ReportLine.ReportLine.{WasArmed}
+use Rattle.bus_rows.specs.ReportLine.ReportLine.{WasArmed}
 use Rattle.bus_world.proofs.Finding.{set_few, set_some, alike_there, set_alike, its_id, set_holds, stands_there}
 use Rattle.bus_world.proofs.members.Members.fault.Goals as goal
 

@@ -1,7 +1,7 @@
 use Rattle.std.proofs.Common.{◌≡◌, ℕ, List, length, ◌∙◌, ap, sym, subst}
 use Rattle.std.proofs.lemmas.List.{length-map}
 use Rattle.bus_world.specs.Stands.{StandsFor}
-use Rattle.replay_text.specs.ReportLine.{report_line_of}
+use Rattle.bus_rows.specs.ReportLine.{report_line_of}
 use Rattle.bus_world.specs.declared.member.Member.{Member}
 use Rattle.alloc_spec.specs.Rules.{Rules}
 use Rattle.bus_spec.specs.Cluster.{is_member, rules_of}

@@ -10,7 +10,7 @@ use Rattle.bus_spec.specs.Members.{after_sending, next_frame}
 use Rattle.bus_spec.specs.Lawful.{no_node, not_running, nothing_to_send}
 use Rattle.bus_spec.specs.Report.{line_of_sending}
 use Rattle.bus_world.specs.Stands.{StandsFor}
-use Rattle.replay_text.specs.ReportLine.ReportLine.{HasSent}
+use Rattle.bus_rows.specs.ReportLine.ReportLine.{HasSent}
 use Rattle.bus_world.specs.declared.member.Member.{Member}
 use Rattle.bus_world.proofs.Finding.{alike_there, its_id, past_two, set_alike, set_few, set_holds, set_some, stands_there}
 use Rattle.bus_world.proofs.members.Members.send.Goals as goal

@@ -4,7 +4,7 @@ use Rattle.bus_spec.specs.Cluster.{is_member}
 use Rattle.bus_spec.specs.Members.{is_running, member_after_step}
 use Rattle.bus_spec.specs.Report.{line_of_step}
 use Rattle.bus_world.specs.Stands.{StandsFor}
-use Rattle.replay_text.specs.ReportLine.{report_line_of}
+use Rattle.bus_rows.specs.ReportLine.{report_line_of}
 use Rattle.bus_world.specs.declared.member.Member.{Member}
 use Rattle.bus_world.proofs.Finding.{set_few, set_some, alike_there, set_alike, its_id, runs_from, set_holds, stands_there}
 use Rattle.bus_world.proofs.members.Members.tick.Goals as goal

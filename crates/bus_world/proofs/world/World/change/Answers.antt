@@ -1,7 +1,7 @@
 use Rattle.std.proofs.Common.{refl, subst, sym}
 use Rattle.std.specs.Prelude.{IfErr, IfOk, OnOk}
-use Rattle.replay_text.specs.declared.row.Row.{Row}
-use Rattle.replay_text.specs.declared.row.Row.TheVariants.{Open, Tick, Rx, Send, Ext, Crash, Fault}
+use Rattle.bus_rows.specs.declared.row.Row.{Row}
+use Rattle.bus_rows.specs.declared.row.Row.TheVariants.{Open, Tick, Rx, Send, Ext, Crash, Fault}
 use Rattle.bus_world.specs.Rows.{Leaves, Refuses, Tells}
 use Rattle.bus_world.proofs.Filled.{filled_from}
 use Rattle.bus_world.proofs.Within.{LeavesThem, leaves_too, refuses_too, tells_too}

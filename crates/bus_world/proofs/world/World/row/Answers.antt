@@ -1,5 +1,6 @@
 use Rattle.std.proofs.Common.{ℕ, ◌+◌, ◌∙◌, ap, subst}
-use Rattle.bus_spec.specs.Cluster.{AreMembers, effect_of, cluster, world_of}
+use Rattle.alloc_spec.specs.ClusterMembers.{AreMembers}
+use Rattle.bus_spec.specs.Cluster.{effect_of, cluster, world_of}
 use Rattle.bus_world.proofs.Giving.{formed_at, offers_own}
 use Rattle.bus_world.proofs.world.World.row.Goals as goal
 

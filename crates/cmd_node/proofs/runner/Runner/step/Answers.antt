@@ -4,7 +4,7 @@ use Rattle.raft_core.specs.StoredPuts.{stored_puts}
 use Rattle.raft_log.specs.Stored.{after_puts}
 use Rattle.alloc_spec.specs.Step.{step as step_of}
 use Rattle.alloc_spec.specs.AllocatorState.{view_of}
-use Rattle.replay_text.specs.ReportLine.{text_of_line}
+use Rattle.replay_text.specs.ReportText.{text_of_line}
 use Rattle.alloc_server.specs.Server.{HasPut, LeavesSome, StepsTo, event_of}
 use Rattle.cmd_node.specs.Steps.{Keeps}
 use Rattle.cmd_node.proofs.Turning.{told_same}

@@ -1,5 +1,6 @@
 use Rattle.std.proofs.Common.{◌∷◌, [], suc, length, map, ap, ◌∙◌, arith, length-append}
-use Rattle.replay_text.specs.ReportLine.{report_line_of, text_of_line}
+use Rattle.bus_rows.specs.ReportLine.{report_line_of}
+use Rattle.replay_text.specs.ReportText.{text_of_line}
 use Rattle.cmd_node.specs.Kept.{kept_line}
 use Rattle.cmd_node.proofs.Kept.{kept_pushed}
 use Rattle.cmd_node.proofs.steps.LastSteps.push.Goals as goal

@@ -4,7 +4,7 @@ use Rattle.cmd_io.specs.Output.{WritesFront, WritesLast}
 use Rattle.cmd_io.proofs.Written.{front-of_more, last-failed, last-then}
 use Rattle.cmd_node.specs.Kept.{kept_line}
 use Rattle.cmd_node.specs.Report.{joined, last_lines, report}
-use Rattle.bus_spec.specs.Report.{end_line}
+use Rattle.replay_text.specs.Report.{end_line}
 use Rattle.cmd_node.proofs.steps.LastSteps.write.Goals as goal
 
 pub returns-in_err-write_steps-clause-told : goal.returns-in_err-write_steps-clause-told

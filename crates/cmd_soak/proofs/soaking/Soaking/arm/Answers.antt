@@ -1,6 +1,6 @@
 use Rattle.std.proofs.Common.{◌≡◌, ◌+◌, ◌%◌, subst}
 use Rattle.cmd_io.specs.Draws.{word_at}
-use Rattle.replay_text.specs.declared.row.Row.TheVariants.{Crash}
+use Rattle.bus_rows.specs.declared.row.Row.TheVariants.{Crash}
 use Rattle.cmd_soak.specs.Rounds.{draws, gives}
 use Rattle.cmd_soak.specs.Soaking.{StandsFor}
 use Rattle.cmd_soak.proofs.Standing.{arms_stop, drawn_below, drawn_room, drawn_stands}

@@ -1,5 +1,5 @@
 use Rattle.std.proofs.Common.{subst, refl, ◌%◌}
-use Rattle.replay_text.specs.declared.row.Row.TheVariants.{Ext}
+use Rattle.bus_rows.specs.declared.row.Row.TheVariants.{Ext}
 use Rattle.cmd_soak.specs.Rounds.{gives}
 use Rattle.cmd_soak.specs.Soaking.{StandsFor}
 use Rattle.cmd_soak.proofs.Standing.{is_asked, is_number, is_other, not_asked}

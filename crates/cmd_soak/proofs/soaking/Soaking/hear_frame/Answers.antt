@@ -1,5 +1,5 @@
 use Rattle.std.proofs.Common.{sym, ◌∙◌, arith}
-use Rattle.replay_text.specs.declared.row.Row.TheVariants.{Rx}
+use Rattle.bus_rows.specs.declared.row.Row.TheVariants.{Rx}
 use Rattle.cmd_soak.specs.Rounds.{draws, drawn, gives}
 use Rattle.cmd_soak.proofs.Growing.{drawn_first, gives_grows}
 use Rattle.cmd_soak.proofs.Standing.{drawn_below, drawn_room, drawn_stands, hears_not, hears_now, is_number, is_other, less_room, loses, room_after}

@@ -1,5 +1,5 @@
 use Rattle.std.proofs.Common.{◌≡◌, ◌-◌, ◌∙◌, suc, refl, subst, sym, arith}
-use Rattle.replay_text.specs.declared.row.Row.TheVariants.{Send}
+use Rattle.bus_rows.specs.declared.row.Row.TheVariants.{Send}
 use Rattle.cmd_soak.specs.Soaking.{Tries}
 use Rattle.cmd_soak.proofs.Standing.{begins_sending, ends_sending, goes_on_sending, room_after, sends_none, stops_sending}
 use Rattle.cmd_soak.proofs.soaking.Soaking.send.Goals as goal

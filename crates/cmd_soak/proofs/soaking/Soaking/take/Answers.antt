@@ -1,7 +1,7 @@
 use Rattle.std.proofs.Common.{ap, ◌∙◌}
 use Rattle.std.specs.Prelude.{is_some}
 use Rattle.cmd_soak.specs.Rounds.{one_if}
-use Rattle.replay_text.specs.ReportLine.{is_stop}
+use Rattle.bus_rows.specs.ReportLine.{is_stop}
 use Rattle.cmd_soak.proofs.Counting.{one_of}
 use Rattle.cmd_soak.proofs.Standing.{takes_stands}
 use Rattle.cmd_soak.proofs.soaking.Soaking.take.Goals as goal

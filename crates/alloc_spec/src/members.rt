@@ -2,7 +2,7 @@ ghost use Rattle.std.specs.Prelude.{IsTrue, ◌↔◌, ◌≤◌, ℕ};
 ghost use Rattle.can_frame.specs.Sizes.{most_members};
 ghost use Rattle.raft_model.specs.Lists.{In};
 ghost use Rattle.raft_model.specs.Members.{HasNoneTwice};
-ghost use Rattle.bus_spec.specs.Cluster.{AreMembers, AreNodes};
+ghost use Rattle.alloc_spec.specs.ClusterMembers.{AreMembers, AreNodes};
 
 use can_frame::sizes::MOST_MEMBERS;
 

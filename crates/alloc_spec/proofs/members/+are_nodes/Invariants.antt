@@ -1,5 +1,5 @@
 use Rattle.std.proofs.Common.{length}
-use Rattle.bus_spec.proofs.members.+are_nodes.Given as goal
+use Rattle.alloc_spec.proofs.members.+are_nodes.Given as goal
 
 abbrev pub decreases-are_nodes : goal.decreases-are_nodes
 decreases-are_nodes l = length l.ids.now

@@ -1,7 +1,7 @@
 -- Node IDs of members, one after another.
 use Rattle.std.proofs.Common.{length, ℕ, ◌≡◌, ◌≤◌, ◌↔◌, Bool, true, false, IsTrue, List, ◌∷◌, refl, inl, inr, subst, sym}
 use Rattle.raft_model.specs.Members.{HasNoneTwice}
-use Rattle.bus_spec.specs.Cluster.{AreMembers, AreNodes}
+use Rattle.alloc_spec.specs.ClusterMembers.{AreMembers, AreNodes}
 
 abbrev pub IsNode : ℕ → Type 0
 IsNode n = (1 ≤ n) × (n ≤ 125)

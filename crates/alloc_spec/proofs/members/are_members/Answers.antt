@@ -1,5 +1,5 @@
-use Rattle.bus_spec.proofs.NodeIds.{three_parts}
-use Rattle.bus_spec.proofs.members.are_members.Goals as goal
+use Rattle.alloc_spec.proofs.NodeIds.{three_parts}
+use Rattle.alloc_spec.proofs.members.are_members.Goals as goal
 
 pub returns : goal.returns
 returns c =

@@ -1,6 +1,6 @@
 use Rattle.std.proofs.Common.{◌≡◌, ◌∷◌, rules}
-use Rattle.bus_spec.proofs.NodeIds.{nodes_else, nodes_then}
-use Rattle.bus_spec.proofs.members.+are_nodes.Goals as goal
+use Rattle.alloc_spec.proofs.NodeIds.{nodes_else, nodes_then}
+use Rattle.alloc_spec.proofs.members.+are_nodes.Goals as goal
 
 pub returns-then-is_node : goal.returns-then-is_node
 returns-then-is_node t c =
