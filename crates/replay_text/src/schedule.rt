@@ -12,6 +12,7 @@ use crate::word::{
     front_number, last_number, one_word, read_bytes, read_identifier, read_uid, split_word,
     two_words,
 };
+use bus_rows::Row;
 use can_frame::Frame;
 use can_frame::laws::frames_are_their_parts;
 use outside::Pattern;
