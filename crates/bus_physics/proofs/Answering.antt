@@ -20,7 +20,8 @@ use Rattle.bus_spec.specs.Members.MemberStatus.{Down, Failed, Up}
 use Rattle.bus_spec.specs.Refinement.{transfers_of_offers, transfers_of_row, transfers_of_rows, transfers_of_step}
 use Rattle.bus_agreement.specs.LawsBelow.{FrameLaws}
 use Rattle.bus_agreement.proofs.MadeTransfers.{IsNew, made_when}
-use Rattle.bus_physics.specs.Physics.{ComesInTime, FrameComesInTime, FramesComeInTime, Limits, Timed, rows_in, time_of}
+use Rattle.bus_rows.specs.Timed.{Timed, rows_in}
+use Rattle.bus_physics.specs.Physics.{ComesInTime, FrameComesInTime, FramesComeInTime, Limits, time_of}
 
 one_arrival : (a b : Arrival) → Receives a ≡ Receives b → a ≡ b
 one_arrival a b e = cc (e)

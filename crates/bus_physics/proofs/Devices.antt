@@ -22,7 +22,8 @@ use Rattle.bus_agreement.proofs.DeliveredTransfers.{IsOfKey}
 use Rattle.bus_agreement.proofs.Lists.{in_front}
 use Rattle.bus_agreement.proofs.OneRow.{stands}
 use Rattle.bus_agreement.proofs.RowsWithoutEvents.{past_first}
-use Rattle.bus_physics.specs.Physics.{DeviceRowsArePhysical, ComesInTime, GoesOn, Limits, WhereIts, Reading, RowIsPhysical, Timed, now_of, readings_after, rows_in, time_of}
+use Rattle.bus_rows.specs.Timed.{Timed, rows_in}
+use Rattle.bus_physics.specs.Physics.{DeviceRowsArePhysical, ComesInTime, GoesOn, Limits, WhereIts, Reading, RowIsPhysical, now_of, readings_after, time_of}
 use Rattle.bus_physics.proofs.InTime.{Heard, IsInTime, still, stepped}
 
 -- what the crate of allocatees says of a step's sessions, and that of receivers of keys

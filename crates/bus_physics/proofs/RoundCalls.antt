@@ -18,7 +18,8 @@ use Rattle.bus_spec.specs.Refinement.{transfers_of_rows}
 use Rattle.bus_agreement.specs.LawsBelow.{FrameLaws}
 use Rattle.bus_agreement.specs.Said.{carrier}
 use Rattle.bus_agreement.proofs.Concatenations.{ids_stay}
-use Rattle.bus_physics.specs.Physics.{ClockIsNotFast, HoldsAreShort, IsAnsweredSince, Limits, RestsBeforeOpening, Timed, WaitsForAnswers, heard_by, rows_in, time_of}
+use Rattle.bus_rows.specs.Timed.{Timed, rows_in}
+use Rattle.bus_physics.specs.Physics.{ClockIsNotFast, HoldsAreShort, IsAnsweredSince, Limits, RestsBeforeOpening, WaitsForAnswers, heard_by, time_of}
 use Rattle.bus_physics.proofs.HeardAnswers.{answers_are_heard}
 use Rattle.bus_physics.proofs.Single.{IsShown}
 use Rattle.bus_physics.proofs.SpacedCalls.{AreSettled, Known, along}

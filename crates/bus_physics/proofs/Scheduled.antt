@@ -21,7 +21,8 @@ use Rattle.bus_spec.specs.Refinement.{transfers_of_rows}
 use Rattle.bus_agreement.proofs.Concatenations.{ids_stay}
 use Rattle.bus_agreement.proofs.Lists.{never}
 use Rattle.bus_agreement.proofs.OneRowMore.{grown, lawful as one_more}
-use Rattle.bus_physics.specs.Physics.{AllComeInTurn, Come, ComeInOrder, ComesAt, ComesInOrder, ComesInTurn, Limits, WhereIts, Timed, heard_in, rows_in}
+use Rattle.bus_rows.specs.Timed.{Timed, rows_in}
+use Rattle.bus_physics.specs.Physics.{AllComeInTurn, Come, ComeInOrder, ComesAt, ComesInOrder, ComesInTurn, Limits, WhereIts, heard_in}
 use Rattle.bus_physics.specs.Reuse.{LacksFrames}
 use Rattle.bus_physics.specs.Schedule.{DeviceHears, MemberHears, HappenOnBus, HappensOnBus, LawfulButForBus, LosesFrames, is_of_bus}
 use Rattle.bus_physics.proofs.Refusals.{of_torn, refused}

@@ -32,7 +32,8 @@ use Rattle.bus_agreement.specs.Said.{carrier}
 use Rattle.bus_agreement.proofs.Lists.{in_front}
 use Rattle.bus_agreement.proofs.OneRowMore.{lawful as one_more}
 use Rattle.bus_agreement.proofs.MadeTransfers.{IsNew, made_when, still_made}
-use Rattle.bus_physics.specs.Physics.{HoldsAreShort, IsAnsweredSince, IsNotFast, IsResponseOf, Limits, WhereIts, Reading, Reads, ReadsAt, RestsBeforeOpening, Timed, heard_by, heard_in, member_readings, now_in, row_of, rows_in, time_of}
+use Rattle.bus_rows.specs.Timed.{Timed, rows_in}
+use Rattle.bus_physics.specs.Physics.{HoldsAreShort, IsAnsweredSince, IsNotFast, IsResponseOf, Limits, WhereIts, Reading, Reads, ReadsAt, RestsBeforeOpening, heard_by, heard_in, member_readings, now_in, row_of, time_of}
 use Rattle.bus_physics.proofs.Scheduled.{rows_of_more}
 use Rattle.bus_physics.proofs.Now.{now_of_a_step}
 use Rattle.bus_physics.proofs.Waking.{IsAwake}

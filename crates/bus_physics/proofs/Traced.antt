@@ -18,7 +18,8 @@ use Rattle.bus_agreement.proofs.Concatenations.{ids_stay}
 use Rattle.bus_agreement.proofs.Lists.{never}
 use Rattle.cmd_node_laws.specs.Traces.{Event, FromElsewhere, DiesInTurn, DiesAtOpening, MayAllHappen, MayHappen, OfOthers, Opens, Silence, Stops, Turns, WasSent, all_rows, came_rows, rows_of, RowsFrom, while_running}
 use Rattle.cmd_node_laws.proofs.Places.{after_both}
-use Rattle.bus_physics.specs.Physics.{Limits, Timed, rows_in}
+use Rattle.bus_rows.specs.Timed.{Timed, rows_in}
+use Rattle.bus_physics.specs.Physics.{Limits}
 use Rattle.bus_physics.specs.Processes.{MayAllDo, MayDo}
 use Rattle.bus_physics.specs.Schedule.{HappenOnBus, HappensOnBus, LosesFrames, is_of_bus}
 use Rattle.bus_physics.proofs.Scheduled.{DeviceLaw, StaleLaw, TornLaw, after_more, harmless_rows, lawful_more, lost, w_of}

@@ -15,7 +15,8 @@ use Rattle.bus_spec.specs.Members.{MemberStatus}
 use Rattle.bus_agreement.specs.Said.{carrier}
 use Rattle.alloc_spec_laws.proofs.DistinctTransfers.{rank}
 use Rattle.bus_agreement.proofs.Lists.{never}
-use Rattle.bus_physics.specs.Physics.{ClockGoesOnAt, ComesInTime, FrameComesInTime, GoesOn, Limits, WhereIts, IsAnsweredSince, AnswersInOrder, IsResponseOf, Timed, WaitsForAnswers, now_in, time_of}
+use Rattle.bus_rows.specs.Timed.{Timed}
+use Rattle.bus_physics.specs.Physics.{ClockGoesOnAt, ComesInTime, FrameComesInTime, GoesOn, Limits, WhereIts, IsAnsweredSince, AnswersInOrder, IsResponseOf, WaitsForAnswers, now_in, time_of}
 use Rattle.bus_physics.specs.Reuse.{IsStaleAt}
 use Rattle.bus_physics.proofs.Members.{MemberBefore}
 use Rattle.bus_physics.proofs.Waiting.{WaitsLast}

@@ -48,7 +48,8 @@ use Rattle.bus_agreement.proofs.Idents.{IsWanted, one_what, wanted_is}
 use Rattle.bus_agreement.proofs.Lists.{equal, in_append, never, tell}
 use Rattle.bus_agreement.proofs.OneRow.{stands}
 use Rattle.bus_agreement.proofs.WholeTransfers.{forged_allocation}
-use Rattle.bus_physics.specs.Physics.{AllocatesApart, AreApart, ComesInOrderToDevice, ComesInTime, HasKey, IsParted, GoesOn, Limits, WhereIts, Reading, Timed, now_of, time_of}
+use Rattle.bus_rows.specs.Timed.{Timed}
+use Rattle.bus_physics.specs.Physics.{AllocatesApart, AreApart, ComesInOrderToDevice, ComesInTime, HasKey, IsParted, GoesOn, Limits, WhereIts, Reading, now_of, time_of}
 use Rattle.bus_physics.specs.Reuse.{AreOfOne, AreOfTwo, IsFrameOf}
 use Rattle.bus_physics.proofs.Devices.{IsKnown, IsTimely, StandsBefore, soon, width}
 use Rattle.bus_physics.proofs.InTime.{AreClose, Heard, IsIdle, IsInTime, IsYoung, close_more, comes, filtered, found}

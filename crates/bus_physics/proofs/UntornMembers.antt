@@ -42,7 +42,8 @@ use Rattle.bus_agreement.proofs.DeliveredTransfers.{HasTaken, IsOfKey}
 use Rattle.bus_agreement.proofs.Idents.{IsWanted, to_for, wanted_is}
 use Rattle.bus_agreement.proofs.Lists.{in_append, in_back, never, tell}
 use Rattle.bus_agreement.proofs.OneRow.{stands}
-use Rattle.bus_physics.specs.Physics.{AreApart, ClockGoesOnAt, ComesInTime, FrameComesInTime, ComesInOrder, GoesOn, HasKeyAt, IsParted, Limits, Reading, Timed, UsesIdsApart, may_be_long, now_in, time_of}
+use Rattle.bus_rows.specs.Timed.{Timed}
+use Rattle.bus_physics.specs.Physics.{AreApart, ClockGoesOnAt, ComesInTime, FrameComesInTime, ComesInOrder, GoesOn, HasKeyAt, IsParted, Limits, Reading, UsesIdsApart, may_be_long, now_in, time_of}
 use Rattle.bus_physics.specs.Reuse.{AreOfOne, AreOfTwo, IsFrameOf, LacksFrames}
 use Rattle.bus_physics.proofs.Devices.{IsTimely, soon, width}
 use Rattle.bus_physics.proofs.InTime.{AreClose, Heard, IsIdle, IsInTime, IsYoung, close_more, comes, filtered, found}

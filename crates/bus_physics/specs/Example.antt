@@ -1,7 +1,8 @@
 -- Timed rows that meet the premises: a member sends, and another one hears it, as does an allocatee.
 use Rattle.std.specs.Prelude.{ℕ, false, List, [], ◌∷◌, ◌++◌}
 use Rattle.bus_rows.specs.declared.row.Row.TheVariants.{AOpen, ARx, Open, Rx, Send, Tick}
-use Rattle.bus_physics.specs.Physics.{Limits, Timed}
+use Rattle.bus_rows.specs.Timed.{Timed}
+use Rattle.bus_physics.specs.Physics.{Limits}
 
 abbrev pub two : List ℕ
 two = 1 ∷ 2 ∷ []

@@ -11,6 +11,7 @@ use Rattle.can_frame.specs.Identifier.{identifier_number, identifier_of}
 use Rattle.can_frame.specs.Timing.{call_timeout, election_wait, transfer_timeout}
 use Rattle.raft_model.specs.Lists.{In}
 use Rattle.bus_rows.specs.declared.row.Row.{Row}
+use Rattle.bus_rows.specs.Timed.{Timed}
 use Rattle.bus_rows.specs.declared.row.Row.TheVariants.{AOpen, ATick, ARx, Open, Rx, Send, Tick}
 use Rattle.transfer_rx.specs.declared.key.Key.{Key}
 use Rattle.transfer_rx.specs.Run.{is_of}
@@ -24,15 +25,6 @@ use Rattle.bus_spec.specs.Cluster.{Cluster, after_row, arrival_at, frame_at}
 use Rattle.alloc_spec.specs.Accepted.{is_members_service}
 use Rattle.bus_spec.specs.Members.{MemberStatus}
 use Rattle.bus_spec.specs.Members.MemberStatus.{Down, Failed, Up}
-
--- a row, and the moment at which it happened, on a clock that nobody reads
-pub record Timed : Type 0 where
-  pub at : ℕ
-  pub row : Row
-
-abbrev pub rows_in : List Timed → List Row
-rows_in [] = []
-rows_in (timed ∷ rest) = timed.row ∷ rows_in rest
 
 -- when the row with this number happened; the first one has the number 1
 abbrev pub time_of : List Timed → ℕ → ℕ

@@ -7,7 +7,8 @@ use Rattle.cmd_node.specs.Opening.{RunInput}
 use Rattle.cmd_node_laws.specs.Processes.{Point}
 use Rattle.cmd_node_laws.specs.Stands.{IsRunIn}
 use Rattle.cmd_node_laws.specs.Traces.{Event, MayAllHappen, all_rows}
-use Rattle.bus_physics.specs.Physics.{HoldsAreShort, Limits, Timed, rows_in}
+use Rattle.bus_rows.specs.Timed.{Timed, rows_in}
+use Rattle.bus_physics.specs.Physics.{HoldsAreShort, Limits}
 use Rattle.bus_physics.specs.Processes.{MayAllDo}
 use Rattle.bus_physics.specs.Schedule.{HappenOnBus, LosesFrames}
 

@@ -7,7 +7,8 @@ use Rattle.bus_spec.specs.declared.unlawful.Unlawful.TheVariants.{Stale, Torn}
 use Rattle.bus_spec.specs.Cluster.{Cluster, after_row, arrival_at, cluster, frame_at, world_of}
 use Rattle.bus_spec.specs.Lawful.{AreLawful, cause}
 use Rattle.bus_spec.specs.Refinement.{transfers_of_rows}
-use Rattle.bus_physics.specs.Physics.{AllComeInTurn, AllocatesApart, DeviceRowsArePhysical, ClockGoesOn, ClockIsNotFast, ComeInOrderToDevice, ComesInOrderToDevice, ComesInTurn, FramesComeInTime, device_heard_by, Limits, RestsBeforeOpening, Timed, UsesIdsApart, heard_by, rows_in}
+use Rattle.bus_rows.specs.Timed.{Timed, rows_in}
+use Rattle.bus_physics.specs.Physics.{AllComeInTurn, AllocatesApart, DeviceRowsArePhysical, ClockGoesOn, ClockIsNotFast, ComeInOrderToDevice, ComesInOrderToDevice, ComesInTurn, FramesComeInTime, device_heard_by, Limits, RestsBeforeOpening, UsesIdsApart, heard_by}
 use Rattle.bus_physics.specs.Reuse.{LacksFrames}
 
 -- ---- the premises

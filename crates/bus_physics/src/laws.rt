@@ -17,8 +17,10 @@ ghost use Rattle.bus_physics.specs.Physics.{AllComeInTurn, ComesInTurn, ComesOnc
 ghost use Rattle.bus_physics.specs.Physics.{AllocatesApart, AnswersInOrder, DeviceRowsArePhysical, ClockGoesOn, ComeInOrder};
 ghost use Rattle.bus_physics.specs.Physics.{ComeInOrderToDevice, ComesInOrderToDevice, device_heard_by};
 ghost use Rattle.bus_physics.specs.Physics.{ComesInOrder, FramesComeInTime};
-ghost use Rattle.bus_physics.specs.Physics.{ClockIsNotFast, HoldsAreShort, Limits, RestsBeforeOpening, Timed, UsesIdsApart, WaitsForAnswers, heard_by};
-ghost use Rattle.bus_physics.specs.Physics.{may_be_long, rows_in};
+ghost use Rattle.bus_rows.specs.Timed.{Timed};
+ghost use Rattle.bus_physics.specs.Physics.{ClockIsNotFast, HoldsAreShort, Limits, RestsBeforeOpening, UsesIdsApart, WaitsForAnswers, heard_by};
+ghost use Rattle.bus_rows.specs.Timed.{rows_in};
+ghost use Rattle.bus_physics.specs.Physics.{may_be_long};
 ghost use Rattle.bus_physics.specs.Example.{at_allocatee, at_member, before as first_rows, everything, limits as some_limits, two};
 ghost use Rattle.bus_physics.specs.Reuse.{IsStaleAt, IsTornAt, IsTornAtDevice, LacksFrames};
 ghost use Rattle.bus_agreement.specs.Headline.{HasHeadline};

@@ -1,1 +1,2 @@
 pub mod ReportLine
+pub mod Timed

@@ -15,7 +15,8 @@ use Rattle.allocatee.specs.Allocatee.{Device, after_reading, after_receiver_answ
 use Rattle.allocatee.specs.Asking.{Asking, after_allocation, after_answer, after_interruption, at_moment, begins_with, with_follow_up, with_node_id}
 use Rattle.allocatee.proofs.Requests.{le_is}
 use Rattle.alloc_spec_laws.proofs.Choices.{either, tell}
-use Rattle.service_alone.specs.Calm.{AreCalm, Clocks, IsCalmRow, IsInTime, IsNext, NoneIsLate, OnItsWay, Pace, Timed, Traffic, end_of, no_traffic, queue_at, queue_of, ticked_after, to_allocator_after, to_device_after, traffic_after, waits_after}
+use Rattle.bus_rows.specs.Timed.{Timed}
+use Rattle.service_alone.specs.Calm.{AreCalm, Clocks, IsCalmRow, IsInTime, IsNext, NoneIsLate, OnItsWay, Pace, Traffic, end_of, no_traffic, queue_at, queue_of, ticked_after, to_allocator_after, to_device_after, traffic_after, waits_after}
 use Rattle.service_alone.proofs.Asking.{its_own}
 use Rattle.service_alone.proofs.Scenes.{own_is}
 use Rattle.bus_spec.specs.Allocatees.{after_sending_from, device_after_step, next_from}

@@ -35,7 +35,8 @@ use Rattle.bus_agreement.proofs.Idents.{ident_ok}
 use Rattle.bus_agreement.specs.Allocatees.{Holds}
 use Rattle.service_steps.specs.Devices.{RequestsAreRequests, comes_at}
 use Rattle.service_steps.specs.Requests.{IsRequest}
-use Rattle.service_alone.specs.Calm.{Clocks, HasSettled, IsCalmRow, IsInTime, IsNext, OnItsWay, Pace, Timed, Traffic, queue_at, traffic_after, waits_after}
+use Rattle.bus_rows.specs.Timed.{Timed}
+use Rattle.service_alone.specs.Calm.{Clocks, HasSettled, IsCalmRow, IsInTime, IsNext, OnItsWay, Pace, Traffic, queue_at, traffic_after, waits_after}
 use Rattle.service_alone.proofs.CalmDevice.{asked, asks_first, asks_on, device_as, ignores, request_frames, six_at_most, ticks_quietly}
 use Rattle.service_alone.proofs.Asking.{first_place}
 use Rattle.service_alone.proofs.CalmGiving.{Gives as GivesPair}

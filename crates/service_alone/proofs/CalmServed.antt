@@ -13,7 +13,8 @@ use Rattle.allocatee.specs.Asking.{request_wait, timer_from}
 use Rattle.alloc_spec.specs.AllocatorState.{AllocatorState}
 use Rattle.alloc_spec_laws.proofs.Choices.{lt_tells}
 use Rattle.bus_agreement.specs.Allocatees.{Holds}
-use Rattle.service_alone.specs.Calm.{AreCalm, Clocks, HappensBy, HappensToDevice, HasPlaceFor, HasServed, HasSettled, IsReady, IsCalmRow, IsInTime, Pace, Timed, Traffic, end_of, no_traffic, queue_of, traffic_after}
+use Rattle.bus_rows.specs.Timed.{Timed}
+use Rattle.service_alone.specs.Calm.{AreCalm, Clocks, HappensBy, HappensToDevice, HasPlaceFor, HasServed, HasSettled, IsReady, IsCalmRow, IsInTime, Pace, Traffic, end_of, no_traffic, queue_of, traffic_after}
 use Rattle.service_alone.proofs.Asking.{its_own}
 use Rattle.service_alone.proofs.CalmAnswering.{answering_end, answering_goes_on}
 use Rattle.service_alone.proofs.CalmAsked as asked

@@ -1,6 +1,7 @@
 -- What happens by the end of some front of rows.
 use Rattle.std.proofs.Common.{◌≡◌, ℕ, List, ◌∷◌, ap, None}
-use Rattle.service_alone.specs.Calm.{HappensBy, Timed, end_of, rows_in}
+use Rattle.bus_rows.specs.Timed.{Timed, rows_in}
+use Rattle.service_alone.specs.Calm.{HappensBy, end_of}
 use Rattle.bus_spec.specs.Cluster.{Cluster, after_row, after_rows}
 use Rattle.bus_spec.specs.Lawful.{cause}
 

@@ -3,7 +3,8 @@ use Rattle.std.proofs.Common.{◌≡◌, ℕ, zero, suc, ◌+◌, ◌≤◌, Lis
 use Rattle.bus_rows.specs.declared.row.Row.{Row}
 use Rattle.bus_rows.specs.declared.row.Row.TheVariants.{Send, Tick}
 use Rattle.transfer_tx.specs.Queue.{Queued}
-use Rattle.service_alone.specs.Calm.{NothingWaits, Pace, Timed, queue_of, rows_in}
+use Rattle.bus_rows.specs.Timed.{Timed, rows_in}
+use Rattle.service_alone.specs.Calm.{NothingWaits, Pace, queue_of}
 use Rattle.service_alone.specs.CalmRecovery.{AreQuiet, IsQuietRow, KeepsPace, OwnTraffic, own_traffic_after}
 use Rattle.service_alone.proofs.CalmGoesOn.{member_less, member_next, waits_fine}
 use Rattle.service_alone.proofs.Scenes.{own_is}

@@ -15,7 +15,8 @@ use Rattle.alloc_spec.specs.Rules.{opening_by, rules_by}
 use Rattle.bus_agreement.specs.Allocatees.{Holds}
 use Rattle.service_alone.specs.Alone.{MayBeServed}
 use Rattle.service_steps.specs.ComingBack.{HasGrown}
-use Rattle.service_alone.specs.Calm.{HappensBy, HappensToDevice, HasComeToRest, HasPlaceFor, HasServed, HasSettled, IsReady, queue_of, rows_in}
+use Rattle.bus_rows.specs.Timed.{rows_in}
+use Rattle.service_alone.specs.Calm.{HappensBy, HappensToDevice, HasComeToRest, HasPlaceFor, HasServed, HasSettled, IsReady, queue_of}
 use Rattle.service_alone.specs.CalmRecovery.{HasSettledWith, QuietStart, no_own_traffic, settled_from, world_opened, world_then}
 use Rattle.service_alone.proofs.CalmPhases.{CalmLaws}
 use Rattle.service_alone.proofs.CalmServed.{serves_known, serves_new}

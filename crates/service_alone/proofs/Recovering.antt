@@ -17,7 +17,8 @@ use Rattle.alloc_spec.specs.Step.{after_pop, step}
 use Rattle.alloc_spec.specs.Step as server
 use Rattle.alloc_spec_laws.proofs.Choices.{lt_tells}
 use Rattle.service_steps.specs.ComingBack.{HasGrown}
-use Rattle.service_alone.specs.Calm.{HappensBy, HasComeToRest, IsReady, NothingWaits, Pace, Timed, queue_of, rows_in, waits_after}
+use Rattle.bus_rows.specs.Timed.{Timed, rows_in}
+use Rattle.service_alone.specs.Calm.{HappensBy, HasComeToRest, IsReady, NothingWaits, Pace, queue_of, waits_after}
 use Rattle.service_alone.specs.CalmRecovery.{AreQuiet, HasSettledWith, IsQuietRow, KeepsPace, OwnTraffic, own_traffic_after, time_to_settle}
 use Rattle.service_alone.proofs.CalmSide.{fewer_left, waits_before, waits_on as wait_on}
 use Rattle.service_alone.proofs.Fronts.{happens_behind}

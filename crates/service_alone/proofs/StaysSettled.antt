@@ -12,7 +12,8 @@ use Rattle.alloc_spec.specs.Step.{after_pop, step}
 use Rattle.alloc_spec.specs.Step as server
 use Rattle.bus_agreement.proofs.Lists.{in_append}
 use Rattle.bus_agreement.proofs.RowsWithoutEvents.{left_in_queue}
-use Rattle.service_alone.specs.Calm.{HasSettled, IsReady, Pace, Timed, queue_of, rows_in}
+use Rattle.bus_rows.specs.Timed.{Timed, rows_in}
+use Rattle.service_alone.specs.Calm.{HasSettled, IsReady, Pace, queue_of}
 use Rattle.service_alone.specs.CalmRecovery.{AreQuiet, IsQuietRow, KeepsPace, OwnTraffic, no_own_traffic, own_traffic_after}
 use Rattle.service_alone.proofs.CalmRest.{Serves, StillServes, Tells, ticks as calm_ticks, ticks_on, whatever_waits}
 use Rattle.service_alone.proofs.Leads.{status_number}

@@ -15,6 +15,7 @@ use Rattle.raft_model.specs.Lists.{In}
 use Rattle.raft_model.specs.Moves.Elections.{term_limit}
 use Rattle.raft_model.specs.Server.Role.{Leader}
 use Rattle.bus_rows.specs.declared.row.Row.{Row}
+use Rattle.bus_rows.specs.Timed.{Timed, rows_in}
 use Rattle.bus_rows.specs.declared.row.Row.TheVariants.{AOpen, ARx, ASend, ATick, Rx, Send, Tick}
 use Rattle.allocatee.specs.Allocatee.{Device}
 use Rattle.transfer_tx.specs.Queue.{Queued}
@@ -28,15 +29,6 @@ use Rattle.bus_spec.specs.Cluster.{Cluster, after_row, after_rows, world_of}
 use Rattle.bus_spec.specs.Lawful.{AreLawful}
 use Rattle.bus_spec.specs.Members.{MemberStatus, next_frame}
 use Rattle.bus_spec.specs.Members.MemberStatus.{Down, Failed, Up}
-
--- a row, and the moment at which it happens, in milliseconds on a clock that nobody reads
-pub record Timed : Type 0 where
-  pub at : ℕ
-  pub row : Row
-
-abbrev pub rows_in : List Timed → List Row
-rows_in [] = []
-rows_in (timed ∷ rest) = timed.row ∷ rows_in rest
 
 -- the moment of the last of these rows, or the one before them
 abbrev pub end_of : ℕ → List Timed → ℕ

@@ -3,7 +3,8 @@
 use Rattle.std.specs.Prelude.{ℕ, false, List, [], ◌∷◌, replicate}
 use Rattle.bus_rows.specs.declared.row.Row.{Row}
 use Rattle.bus_rows.specs.declared.row.Row.TheVariants.{AOpen, ARx, ATick, Open, Send, Tick}
-use Rattle.service_alone.specs.Calm.{Clocks, Pace, Timed}
+use Rattle.bus_rows.specs.Timed.{Timed}
+use Rattle.service_alone.specs.Calm.{Clocks, Pace}
 use Rattle.bus_spec.specs.Cluster.{Cluster, after_row, world_of}
 
 -- the allocator opens, leads at its tick after its wait, and its NodeStatus goes out

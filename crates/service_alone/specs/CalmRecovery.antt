@@ -15,7 +15,8 @@ use Rattle.bus_agreement.specs.Allocatees.{Holds}
 use Rattle.service_alone.specs.Alone.{MayBeServed}
 use Rattle.service_steps.specs.ComingBack.{HasGrown}
 use Rattle.service_alone.specs.Calm.{Clocks, HappensBy, HappensToDevice, HasComeToRest, HasServed, HasSettled}
-use Rattle.service_alone.specs.Calm.{IsReady, NothingWaits, Pace, Timed, queue_of, rows_in, waits_after}
+use Rattle.bus_rows.specs.Timed.{Timed, rows_in}
+use Rattle.service_alone.specs.Calm.{IsReady, NothingWaits, Pace, queue_of, waits_after}
 use Rattle.bus_spec.specs.Cluster.{Cluster, after_row, after_rows, world_of}
 use Rattle.bus_spec.specs.Lawful.{AreLawful, cause}
 use Rattle.bus_spec.specs.Members.{is_running, next_frame}

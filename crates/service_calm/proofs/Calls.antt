@@ -18,7 +18,8 @@ use Rattle.alloc_spec.specs.Transfers.{SentTransfer, kind_of, number_of}
 use Rattle.alloc_spec_laws.proofs.Choices.{tell}
 use Rattle.alloc_spec_laws.proofs.Peers.{unlisted}
 use Rattle.service_steps.specs.InTime.{FramesLeaveFollowers, HearsLeader, StaysFollower, WaitsAnew}
-use Rattle.service_alone.specs.Calm.{Pace, Timed, rows_in}
+use Rattle.bus_rows.specs.Timed.{Timed, rows_in}
+use Rattle.service_alone.specs.Calm.{Pace}
 use Rattle.service_alone.proofs.Members.{IsUp, steps_up}
 use Rattle.service_calm.specs.Calm.{AreCalm, IsCalmRow, IsRunning, Member as OfMember, Party, Traffic}
 use Rattle.service_calm.specs.Calls.{FollowsFrom, FollowsSince, HearsCall, HearsCallBy, Lists, MayFollow}

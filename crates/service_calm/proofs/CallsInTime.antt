@@ -13,7 +13,8 @@ use Rattle.alloc_spec.specs.Step.{Event, after_pop, moment_of, step}
 use Rattle.alloc_spec_laws.proofs.Choices.{either}
 use Rattle.alloc_spec_laws.proofs.Peers.{IsList, members_list}
 use Rattle.service_steps.specs.InTime.{NoCallIsOld}
-use Rattle.service_alone.specs.Calm.{Pace, Timed, end_of}
+use Rattle.bus_rows.specs.Timed.{Timed}
+use Rattle.service_alone.specs.Calm.{Pace, end_of}
 use Rattle.service_alone.proofs.Members.{IsUp, steps_up}
 use Rattle.service_calm.specs.Calm.{AreCalm, IsCalmRow, Member as OfMember, Party, Traffic, reads, traffic_after}
 use Rattle.service_calm.specs.CallsInTime.{CalledUntil, Leads, OffersCall, OffersCallBy}

@@ -17,7 +17,8 @@ use Rattle.allocatee.specs.Asking.{outgoing}
 use Rattle.bus_agreement.proofs.Lists.{in_back}
 use Rattle.service_steps.specs.Devices.{RequestsAreRequests}
 use Rattle.service_steps.specs.Requests.{IsRequest}
-use Rattle.service_alone.specs.Calm.{Pace, Timed, end_of, rows_in}
+use Rattle.bus_rows.specs.Timed.{Timed, rows_in}
+use Rattle.service_alone.specs.Calm.{Pace, end_of}
 use Rattle.service_alone.proofs.CalmSide.{waits_before}
 use Rattle.service_calm.specs.Calm.{AreCalm, Device as OfDevice, IsCalmRow, Member as OfMember, Party, Traffic, queue_in, traffic_after}
 use Rattle.service_calm.specs.Devices.{Asks, HearsRequest, HearsRequestBy, IsRequestOf}

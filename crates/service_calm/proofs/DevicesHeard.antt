@@ -13,7 +13,8 @@ use Rattle.allocatee.specs.Allocatee.{Device, after_pop, step}
 use Rattle.allocatee.specs.Allocatee as device
 use Rattle.alloc_spec.specs.Accepted.{setting_for}
 use Rattle.service_steps.specs.Requests.{IsRequest, delivery_of}
-use Rattle.service_alone.specs.Calm.{IsNext, OnItsWay, Pace, Timed, end_of, next_on_bus, queue_at}
+use Rattle.bus_rows.specs.Timed.{Timed}
+use Rattle.service_alone.specs.Calm.{IsNext, OnItsWay, Pace, end_of, next_on_bus, queue_at}
 use Rattle.service_alone.proofs.CalmSide.{waits_on}
 use Rattle.service_calm.specs.Calm.{AreCalm, Device as OfDevice, IsCalmRow, IsInTime, Member as OfMember, Party, Traffic, queue_in, traffic_after}
 use Rattle.service_calm.specs.Devices.{HearsRequest, HearsRequestBy}

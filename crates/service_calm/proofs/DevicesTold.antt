@@ -21,7 +21,8 @@ use Rattle.alloc_spec_laws.specs.Sound.{IsDestination, IsOnTheBus}
 use Rattle.bus_agreement.proofs.Idents.{ident_ok}
 use Rattle.bus_agreement.specs.LawsBelow.{FrameLaws}
 use Rattle.bus_agreement.specs.Shows.{Shows}
-use Rattle.service_alone.specs.Calm.{Pace, Timed, end_of, rows_in}
+use Rattle.bus_rows.specs.Timed.{Timed, rows_in}
+use Rattle.service_alone.specs.Calm.{Pace, end_of}
 use Rattle.service_calm.specs.Calm.{AreCalm, AreRunning, Device as OfDevice, Member as OfMember, Party, Traffic, no_traffic, traffic_after}
 use Rattle.service_calm.specs.Comes.{Sends, Throughout, sent_by}
 use Rattle.service_calm.specs.Devices.{AllocationMayBegin, AreReadyToTell, ComesToBy, DeliversTo, DeviceHasMemory, SendsShortAllocations}

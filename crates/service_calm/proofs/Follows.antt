@@ -10,7 +10,7 @@ use Rattle.alloc_spec.specs.Step.{Event, step}
 use Rattle.alloc_spec.specs.Transfers.{Offer, id_after, id_of, kind_of}
 use Rattle.alloc_spec_laws.proofs.Choices.{and_left, and_right, tell}
 use Rattle.alloc_spec_laws.specs.Apart.{AreAllApart}
-use Rattle.service_alone.specs.Calm.{Timed}
+use Rattle.bus_rows.specs.Timed.{Timed}
 use Rattle.service_calm.specs.Comes.{NoneRepeats, Sends}
 use Rattle.service_calm.proofs.Counting.{Follow, IsCounted, counted_step, ids_in, is_one, is_to, is_to_true, ones}
 use Rattle.service_calm.proofs.Group.{IsServer}

@@ -8,7 +8,8 @@ use Rattle.bus_rows.specs.declared.row.Row.TheVariants.{ARx, ASend, ATick, Rx, S
 use Rattle.transfer_tx.specs.Queue.{Queued}
 use Rattle.allocatee.specs.Allocatee.{Device}
 use Rattle.alloc_spec_laws.proofs.Choices.{tell}
-use Rattle.service_alone.specs.Calm.{IsNext, NoneIsLate, OnItsWay, Pace, Timed, end_of, next_on_bus, queue_at, queue_of, waits_after}
+use Rattle.bus_rows.specs.Timed.{Timed}
+use Rattle.service_alone.specs.Calm.{IsNext, NoneIsLate, OnItsWay, Pace, end_of, next_on_bus, queue_at, queue_of, waits_after}
 use Rattle.service_alone.proofs.CalmGoesOn.{device_less, device_next, member_less, member_next, waits_fine}
 use Rattle.service_calm.specs.Calm.{AreCalm, Device as OfDevice, IsCalmRow, IsInTime, Member as OfMember, Party, Traffic, is_sending, no_traffic, on_way_after, queue_in, reads, receives, sends, traffic_after}
 use Rattle.bus_spec.specs.Allocatees.{after_sending_from}

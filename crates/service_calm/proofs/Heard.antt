@@ -15,7 +15,8 @@ use Rattle.alloc_spec.specs.Step.{Event, after_pop, step}
 use Rattle.alloc_spec.specs.Transfers.{Offer, SentTransfer, ident_of, kind_of, signature_of}
 use Rattle.alloc_spec_laws.specs.Sound.{IsDestination, IsOnTheBus}
 use Rattle.bus_agreement.proofs.Lists.{in_back}
-use Rattle.service_alone.specs.Calm.{Pace, Timed, end_of, rows_in}
+use Rattle.bus_rows.specs.Timed.{Timed, rows_in}
+use Rattle.service_alone.specs.Calm.{Pace, end_of}
 use Rattle.service_calm.specs.Calm.{AreCalm, IsInTime, Member as OfMember, Party, Traffic, sends, traffic_after}
 use Rattle.service_calm.specs.Comes.{Sends, Throughout, sent_by}
 use Rattle.service_calm.proofs.Counting.{ones}

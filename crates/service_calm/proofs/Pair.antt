@@ -28,7 +28,8 @@ use Rattle.alloc_spec_laws.specs.Sound.{IsDestination, IsInRange, IsOnTheBus}
 use Rattle.alloc_spec_laws.specs.Waiting.{all_frames_put}
 use Rattle.bus_agreement.proofs.Lists.{in_append}
 use Rattle.bus_agreement.proofs.RowsWithoutEvents.{out_of_queue}
-use Rattle.service_alone.specs.Calm.{IsNext, OnItsWay, Pace, Timed, next_on_bus, queue_of, waits_after}
+use Rattle.bus_rows.specs.Timed.{Timed}
+use Rattle.service_alone.specs.Calm.{IsNext, OnItsWay, Pace, next_on_bus, queue_of, waits_after}
 use Rattle.service_calm.specs.Calm.{IsCalmRow, IsInTime, Member as OfMember, Party, Traffic, is_sending, queue_in, receives, sends, traffic_after}
 use Rattle.service_calm.specs.Comes.{Sends, sent_by}
 use Rattle.service_calm.specs.Sessions.{AllAdmit}

@@ -8,7 +8,8 @@ use Rattle.alloc_spec.specs.Step.{Event, after_pop, step}
 use Rattle.alloc_spec.specs.Transfers.{Offer, SentTransfer}
 use Rattle.alloc_spec_laws.specs.Sound.{IsOnTheBus}
 use Rattle.bus_agreement.specs.Shows.{Shows}
-use Rattle.service_alone.specs.Calm.{Pace, Timed, end_of, rows_in}
+use Rattle.bus_rows.specs.Timed.{Timed, rows_in}
+use Rattle.service_alone.specs.Calm.{Pace, end_of}
 use Rattle.service_calm.specs.Calm.{AreCalm, AreRunning, Member, Party, no_traffic}
 use Rattle.service_calm.specs.Comes.{AreReady, ComesBy, Delivers, HasMemory, IsHeard, MayComeFirst, Sends, Throughout, sent_by}
 use Rattle.service_calm.proofs.Counting.{HasPlaces, ones}

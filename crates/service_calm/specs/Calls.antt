@@ -12,7 +12,8 @@ use Rattle.bus_rows.specs.declared.row.Row.{Row}
 use Rattle.alloc_spec.specs.AllocatorState.{AllocatorState, members_of}
 use Rattle.alloc_spec.specs.Transfers.{Offer, SentTransfer, id_of}
 use Rattle.service_steps.specs.InTime.{HearsLeader}
-use Rattle.service_alone.specs.Calm.{Pace, Timed, end_of, rows_in}
+use Rattle.bus_rows.specs.Timed.{Timed, rows_in}
+use Rattle.service_alone.specs.Calm.{Pace, end_of}
 use Rattle.service_calm.specs.Calm.{AreCalm, AreRunning, IsRunning, Member, Party, Traffic, no_traffic}
 use Rattle.service_calm.specs.Comes.{AreReady, Delivers, HasMemory, MayComeFirst, Sends, Throughout, delivery_of, sent_by}
 use Rattle.bus_spec.specs.Cluster.{Cluster, after_row, after_rows, arrival_at, frame_at, world_of}

@@ -10,7 +10,8 @@ use Rattle.bus_rows.specs.declared.row.Row.{Row}
 use Rattle.alloc_spec.specs.AllocatorState.{AllocatorState, members_of}
 use Rattle.alloc_spec.specs.Step.{Event, step}
 use Rattle.alloc_spec.specs.Transfers.{Offer}
-use Rattle.service_alone.specs.Calm.{Pace, Timed, end_of, rows_in}
+use Rattle.bus_rows.specs.Timed.{Timed, rows_in}
+use Rattle.service_alone.specs.Calm.{Pace, end_of}
 use Rattle.service_calm.specs.Calm.{AreCalm, IsRunning, Member, Party, Traffic}
 use Rattle.service_calm.specs.Comes.{Throughout}
 use Rattle.bus_spec.specs.Cluster.{Cluster, after_rows, step_of}

@@ -7,7 +7,8 @@ use Rattle.bus_rows.specs.declared.row.Row.{Row}
 use Rattle.bus_rows.specs.declared.row.Row.TheVariants.{ARx, ASend, ATick, Rx, Send, Tick}
 use Rattle.transfer_tx.specs.Queue.{Queued}
 use Rattle.alloc_spec.specs.AllocatorState.{AllocatorState}
-use Rattle.service_alone.specs.Calm.{IsNext, NoneIsLate, OnItsWay, Pace, Timed, next_on_bus, queue_at, queue_of}
+use Rattle.bus_rows.specs.Timed.{Timed}
+use Rattle.service_alone.specs.Calm.{IsNext, NoneIsLate, OnItsWay, Pace, next_on_bus, queue_at, queue_of}
 use Rattle.service_alone.specs.Calm.{waits_after}
 use Rattle.bus_spec.specs.Allocatees.{next_from}
 use Rattle.bus_spec.specs.Cluster.{Cluster, after_row}

@@ -8,7 +8,8 @@ use Rattle.raft_model.specs.Messages.Message.{Requests}
 use Rattle.bus_rows.specs.declared.row.Row.{Row}
 use Rattle.bus_rows.specs.declared.row.Row.TheVariants.{AOpen, ARx, Open, Rx, Send, Tick}
 use Rattle.alloc_spec.specs.Transfers.{Offer, id_of, kind_of}
-use Rattle.service_alone.specs.Calm.{Pace, Timed, end_of, rows_in}
+use Rattle.bus_rows.specs.Timed.{Timed, rows_in}
+use Rattle.service_alone.specs.Calm.{Pace, end_of}
 use Rattle.service_calm.specs.Calm.{Device, Member, Party}
 use Rattle.service_calm.specs.Comes.{AreReady, IsHeard, MayComeFirst, Sends}
 use Rattle.bus_spec.specs.Cluster.{Cluster, after_rows, world_of}

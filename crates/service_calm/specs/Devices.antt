@@ -19,7 +19,8 @@ use Rattle.alloc_spec.specs.Accepted.{setting_for}
 use Rattle.alloc_spec.specs.AllocatorState.{AllocatorState}
 use Rattle.alloc_spec.specs.Transfers.{Offer, SentTransfer, id_of, ident_of}
 use Rattle.service_steps.specs.Requests.{IsRequest, delivery_of}
-use Rattle.service_alone.specs.Calm.{Pace, Timed, end_of, rows_in}
+use Rattle.bus_rows.specs.Timed.{Timed, rows_in}
+use Rattle.service_alone.specs.Calm.{Pace, end_of}
 use Rattle.service_calm.specs.Calm.{AreCalm, AreRunning, Device as OfDevice, Member, Party, no_traffic}
 use Rattle.service_calm.specs.Comes as transfer
 use Rattle.service_calm.specs.Comes.{Sends, Throughout, sent_by}

@@ -5,7 +5,7 @@ use Rattle.can_frame.specs.declared.step.What.TheVariants.{Alloc}
 use Rattle.bus_rows.specs.declared.row.Row.{Row}
 use Rattle.bus_rows.specs.declared.row.Row.TheVariants.{AOpen, ARx, ASend, ATick, Rx, Send, Tick}
 use Rattle.alloc_spec.specs.Transfers.{Offer}
-use Rattle.service_alone.specs.Calm.{Timed, rows_in}
+use Rattle.bus_rows.specs.Timed.{Timed, rows_in}
 use Rattle.service_calm.specs.Calm.{Device, Member, Party}
 use Rattle.service_calm.specs.CalmExample.{calm_rows, first_rows, some_uid, two}
 use Rattle.bus_spec.specs.Cluster.{Cluster, after_rows, world_of}

@@ -1,7 +1,8 @@
 -- That no calm comes to an end by itself.
 use Rattle.std.specs.Prelude.{ℕ, ◌+◌, ◌≤◌, List, ◌++◌}
 use Rattle.raft_model.specs.Lists.{In}
-use Rattle.service_alone.specs.Calm.{Pace, Timed, end_of}
+use Rattle.bus_rows.specs.Timed.{Timed}
+use Rattle.service_alone.specs.Calm.{Pace, end_of}
 use Rattle.service_calm.specs.Calm.{AreCalm, Party, no_traffic}
 use Rattle.bus_spec.specs.Cluster.{Cluster}
 

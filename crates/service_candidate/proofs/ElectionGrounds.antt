@@ -8,7 +8,8 @@ use Rattle.alloc_spec.specs.AllocatorState.{AllocatorState, knows_all}
 use Rattle.alloc_spec.specs.Rules.{opening_by}
 use Rattle.alloc_spec.specs.Transfers.{Offer, SentTransfer}
 use Rattle.bus_agreement.specs.Said.{AreSaid, AreWritable}
-use Rattle.service_alone.specs.Calm.{Pace, Timed, end_of, rows_in}
+use Rattle.bus_rows.specs.Timed.{Timed, rows_in}
+use Rattle.service_alone.specs.Calm.{Pace, end_of}
 use Rattle.service_candidate.specs.Elections.{IsCalmRestart, WaitIsOver}
 use Rattle.service_candidate.specs.ElectionsBelow.{ElectionLaws}
 use Rattle.service_candidate.specs.Terms.{NoAppendWaits, NobodyLeads}

@@ -24,7 +24,8 @@ use Rattle.alloc_spec_laws.proofs.Choices.{eq_true, tell}
 use Rattle.alloc_spec_laws.proofs.Peers.{covers, members_list}
 use Rattle.bus_agreement.proofs.Concatenations.{first_harmless}
 use Rattle.service_steps.specs.InTime.{FramesLeaveFollowers}
-use Rattle.service_alone.specs.Calm.{Pace, Timed, end_of, rows_in}
+use Rattle.bus_rows.specs.Timed.{Timed, rows_in}
+use Rattle.service_alone.specs.Calm.{Pace, end_of}
 use Rattle.service_calm.specs.Calm.{AreCalm, AreRunning, Device as OfDevice, Member as OfMember, Party, no_traffic}
 use Rattle.service_calm.specs.Calls.{Lists}
 use Rattle.service_calm.specs.Comes.{AreReady, Throughout}

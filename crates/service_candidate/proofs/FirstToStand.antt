@@ -5,7 +5,8 @@ use Rattle.raft_model.specs.Server.Role.{Follower}
 use Rattle.alloc_spec.specs.AllocatorState.{AllocatorState, knows_all, members_of}
 use Rattle.alloc_spec.specs.Step.{Event, step}
 use Rattle.service_steps.specs.InTime.{FramesLeaveFollowers}
-use Rattle.service_alone.specs.Calm.{Pace, Timed, end_of, rows_in}
+use Rattle.bus_rows.specs.Timed.{Timed, rows_in}
+use Rattle.service_alone.specs.Calm.{Pace, end_of}
 use Rattle.service_calm.specs.Calm.{AreCalm, Member as OfMember, Party, Traffic, traffic_after}
 use Rattle.service_calm.specs.Comes.{Throughout}
 use Rattle.service_calm.proofs.Group.{AreWell, CalmLaws, well_after}

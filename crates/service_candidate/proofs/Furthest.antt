@@ -24,7 +24,8 @@ use Rattle.bus_agreement.specs.Shows.{Shows}
 use Rattle.bus_agreement.proofs.Concatenations.{first_harmless, row_harmless}
 use Rattle.bus_agreement.proofs.TakenMessages.{is_vote_request}
 use Rattle.service_steps.specs.InTime.{FramesLeaveFollowers}
-use Rattle.service_alone.specs.Calm.{Pace, Timed, rows_in}
+use Rattle.bus_rows.specs.Timed.{Timed, rows_in}
+use Rattle.service_alone.specs.Calm.{Pace}
 use Rattle.service_alone.proofs.Goes.{after_both}
 use Rattle.service_alone.proofs.Members.{IsUp}
 use Rattle.service_calm.specs.Calm.{AreCalm, IsRunning, Member as OfMember, Party, no_traffic}

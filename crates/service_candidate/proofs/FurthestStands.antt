@@ -14,7 +14,8 @@ use Rattle.alloc_spec_laws.proofs.Choices.{lt_tells}
 use Rattle.bus_agreement.specs.Shows.{Shows}
 use Rattle.bus_agreement.proofs.Concatenations.{row_harmless}
 use Rattle.service_steps.specs.InTime.{FramesLeaveFollowers}
-use Rattle.service_alone.specs.Calm.{Pace, Timed, rows_in}
+use Rattle.bus_rows.specs.Timed.{Timed, rows_in}
+use Rattle.service_alone.specs.Calm.{Pace}
 use Rattle.service_alone.proofs.Goes.{after_both}
 use Rattle.service_calm.specs.Calm.{AreCalm, Device as OfDevice, Member as OfMember, Party, no_traffic}
 use Rattle.service_calm.specs.Comes.{Throughout}

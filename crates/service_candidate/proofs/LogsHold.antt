@@ -16,7 +16,8 @@ use Rattle.alloc_spec.specs.Step.{after_pop, step}
 use Rattle.alloc_spec.specs.Transfers.{ident_of}
 use Rattle.bus_agreement.proofs.RowsWithoutEvents.{left_in_queue, out_of_queue}
 use Rattle.service_steps.specs.Requests.{moment_at}
-use Rattle.service_alone.specs.Calm.{IsNext, Pace, Timed, rows_in}
+use Rattle.bus_rows.specs.Timed.{Timed, rows_in}
+use Rattle.service_alone.specs.Calm.{IsNext, Pace}
 use Rattle.service_alone.proofs.Members.{IsUp}
 use Rattle.service_calm.specs.Calm.{AreCalm, IsCalmRow, Member as OfMember, Party, Traffic, no_traffic, traffic_after}
 use Rattle.service_calm.specs.Comes.{Throughout}

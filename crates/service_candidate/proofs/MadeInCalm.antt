@@ -26,7 +26,8 @@ use Rattle.bus_agreement.proofs.Idents.{ident_ok, wanted_is}
 use Rattle.bus_agreement.proofs.Lists.{in_append, is_any}
 use Rattle.bus_agreement.proofs.MadeTransfers.{IsNew, frame_put, made_when}
 use Rattle.bus_agreement.proofs.RowsWithoutEvents.{out_of_queue}
-use Rattle.service_alone.specs.Calm.{Pace, Timed, rows_in}
+use Rattle.bus_rows.specs.Timed.{Timed, rows_in}
+use Rattle.service_alone.specs.Calm.{Pace}
 use Rattle.service_calm.specs.Calm.{AreCalm, IsCalmRow, Member as OfMember, Party, Traffic, traffic_after}
 use Rattle.service_calm.proofs.Group.{AreWell, CalmLaws, IsOf, sent_anonymous, sent_own, well_after}
 use Rattle.service_calm.proofs.Others.{some_ident}

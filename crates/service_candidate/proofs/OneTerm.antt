@@ -9,7 +9,8 @@ use Rattle.bus_rows.specs.declared.row.Row.{Row}
 use Rattle.alloc_spec.specs.AllocatorState.{AllocatorState, members_of}
 use Rattle.alloc_spec.specs.Step.{Event, step}
 use Rattle.bus_agreement.proofs.Concatenations.{first_harmless, row_harmless}
-use Rattle.service_alone.specs.Calm.{Pace, Timed, end_of, rows_in}
+use Rattle.bus_rows.specs.Timed.{Timed, rows_in}
+use Rattle.service_alone.specs.Calm.{Pace, end_of}
 use Rattle.service_alone.proofs.Goes.{after_both}
 use Rattle.service_alone.proofs.Members.{IsQuiet, IsUp}
 use Rattle.service_calm.specs.Calls.{Lists, ListsStay}

@@ -10,7 +10,8 @@ use Rattle.alloc_spec.specs.AllocatorState.{AllocatorState, start_of}
 use Rattle.alloc_spec.specs.Step.{step}
 use Rattle.bus_agreement.specs.Shows.{ShowsMember, ShowsUp}
 use Rattle.service_steps.specs.Requests.{moment_at}
-use Rattle.service_alone.specs.Calm.{IsNext, Pace, Timed, rows_in}
+use Rattle.bus_rows.specs.Timed.{Timed, rows_in}
+use Rattle.service_alone.specs.Calm.{IsNext, Pace}
 use Rattle.service_alone.proofs.Members.{IsUp}
 use Rattle.service_calm.specs.Calm.{AreCalm, AreRunning, Member as OfMember, Party, no_traffic}
 use Rattle.service_calm.specs.CalmBelow.{CalmGrounds}

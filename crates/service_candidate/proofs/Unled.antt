@@ -7,7 +7,8 @@ use Rattle.raft_model.specs.Server.Role.{Candidate, Follower, Leader}
 use Rattle.alloc_spec.specs.AllocatorState.{AllocatorState}
 use Rattle.alloc_spec.specs.Step.{Event, step}
 use Rattle.service_steps.specs.InTime.{FramesLeaveFollowers}
-use Rattle.service_alone.specs.Calm.{Pace, Timed, end_of, rows_in}
+use Rattle.bus_rows.specs.Timed.{Timed, rows_in}
+use Rattle.service_alone.specs.Calm.{Pace, end_of}
 use Rattle.service_calm.specs.Calm.{AreCalm, Device as OfDevice, Member as OfMember, Party, no_traffic}
 use Rattle.service_calm.specs.Comes.{Throughout}
 use Rattle.service_calm.proofs.Calls.{Always}

@@ -17,7 +17,8 @@ use Rattle.service_leader.proofs.ExchangeUnder.{AreAsked, Under, at_first, reach
 use Rattle.service_candidate.proofs.VotesComeBack.{vote_comes_alone}
 use Rattle.service_calm.specs.Comes.{Sends, sent_by}
 use Rattle.service_calm.proofs.Pending.{Made}
-use Rattle.service_alone.specs.Calm.{Pace, Timed, end_of, rows_in}
+use Rattle.bus_rows.specs.Timed.{Timed, rows_in}
+use Rattle.service_alone.specs.Calm.{Pace, end_of}
 use Rattle.bus_spec.specs.Cluster.{Cluster, after_row, after_rows}
 
 nothing : (xs : List Made) → ((x : Made) → In x xs → ⊥) → xs ≡ []

@@ -14,7 +14,8 @@ use Rattle.service_leader.proofs.ExchangeBack.{ComesBack}
 use Rattle.service_candidate.proofs.VotesAsked.{no_vote, vote_sent}
 use Rattle.service_calm.specs.Comes.{Sends, sent_by}
 use Rattle.service_calm.proofs.Pending.{Made}
-use Rattle.service_alone.specs.Calm.{Pace, Timed, rows_in}
+use Rattle.bus_rows.specs.Timed.{Timed, rows_in}
+use Rattle.service_alone.specs.Calm.{Pace}
 use Rattle.bus_spec.specs.Cluster.{Cluster, after_row, after_rows}
 
 module _ (both : Exchange) (its_answers : both.answers ≡ Vote) (votes_answered : VotesAreAnswered) (Alone : Type 0) (x : Made) (request : VoteRequest)

@@ -12,7 +12,8 @@ use Rattle.bus_rows.specs.declared.row.Row.TheVariants.{AEnd, AOpen, ARx, ASend,
 use Rattle.alloc_spec.specs.AllocatorState.{AllocatorState, knows_all, members_of}
 use Rattle.alloc_spec.specs.Step.{Event, after_pop, step}
 use Rattle.alloc_spec_laws.proofs.Choices.{either, lt_tells}
-use Rattle.service_alone.specs.Calm.{Pace, Timed, end_of}
+use Rattle.bus_rows.specs.Timed.{Timed}
+use Rattle.service_alone.specs.Calm.{Pace, end_of}
 use Rattle.service_alone.proofs.Members.{IsUp, steps_up}
 use Rattle.service_calm.specs.Calm.{AreCalm, IsCalmRow, Member as OfMember, Party, Traffic, reads, traffic_after}
 use Rattle.service_calm.specs.Comes.{Throughout}

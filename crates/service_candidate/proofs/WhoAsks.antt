@@ -27,7 +27,7 @@ use Rattle.service_calm.proofs.CallsOffered.{same_after}
 use Rattle.raft_model.specs.Lists.{at, at_here}
 use Rattle.bus_rows.specs.declared.row.Row.{Row}
 use Rattle.bus_rows.specs.declared.row.Row.TheVariants.{AEnd, AOpen, ARx, ASend, ATick, Crash, Ext, Fault, Open, Rx, Send, Tick}
-use Rattle.service_alone.specs.Calm.{Timed, rows_in}
+use Rattle.bus_rows.specs.Timed.{Timed, rows_in}
 use Rattle.service_candidate.specs.Wins.{OffersVoteRequest}
 use Rattle.service_candidate.proofs.FirstToStand.{AllFollow}
 use Rattle.service_candidate.proofs.RowsLeave.{stepped}

@@ -12,7 +12,8 @@ use Rattle.bus_rows.specs.declared.row.Row.TheVariants.{Rx, Tick}
 use Rattle.alloc_spec.specs.AllocatorState.{AllocatorState, members_of}
 use Rattle.alloc_spec.specs.Step.{step}
 use Rattle.alloc_spec.specs.Transfers.{SentTransfer}
-use Rattle.service_alone.specs.Calm.{Timed, end_of, rows_in}
+use Rattle.bus_rows.specs.Timed.{Timed, rows_in}
+use Rattle.service_alone.specs.Calm.{end_of}
 use Rattle.service_candidate.specs.Votes.{AnswersVote, AsksFor, CanAsk, TakesVote, VoteComes, VoteReadsAsSaid, WaitsForVote, vote_asked_by, vote_by}
 use Rattle.service_candidate.specs.VotesAlone.{VoteComesAlone}
 use Rattle.service_candidate.proofs.VotesAsked.{vote_sent}

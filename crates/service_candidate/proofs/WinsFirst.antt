@@ -6,7 +6,8 @@ use Rattle.raft_model.specs.Server.{Role}
 use Rattle.raft_model.specs.Server.Role.{Follower, Leader}
 use Rattle.bus_rows.specs.declared.row.Row.{Row}
 use Rattle.alloc_spec.specs.AllocatorState.{AllocatorState}
-use Rattle.service_alone.specs.Calm.{Timed, end_of}
+use Rattle.bus_rows.specs.Timed.{Timed}
+use Rattle.service_alone.specs.Calm.{end_of}
 use Rattle.service_candidate.specs.Wins.{LeadsAlone}
 use Rattle.service_candidate.proofs.RowsLeave.{row_leaves}
 use Rattle.service_candidate.proofs.TermsSteps.{stands_or_stays}

@@ -16,7 +16,8 @@ use Rattle.bus_rows.specs.declared.row.Row.{Row}
 use Rattle.alloc_spec.specs.AllocatorState.{AllocatorState}
 use Rattle.alloc_spec.specs.Step.{Event, moment_of, step}
 use Rattle.alloc_spec_laws.proofs.Choices.{lt_tells}
-use Rattle.service_alone.specs.Calm.{Timed, end_of}
+use Rattle.bus_rows.specs.Timed.{Timed}
+use Rattle.service_alone.specs.Calm.{end_of}
 use Rattle.service_candidate.specs.Terms.{AreWithin, NobodyLeads}
 use Rattle.service_candidate.specs.Votes.{HasVoted, vote_asked_by}
 use Rattle.service_candidate.specs.Waits.{WaitsAnew}

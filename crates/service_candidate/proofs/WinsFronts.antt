@@ -4,7 +4,8 @@ use Rattle.std.specs.Prelude.{◌⊎◌, slice_index_or}
 use Rattle.std.proofs.lemmas.Bool.Decides.{leb_tells}
 use Rattle.std.proofs.lemmas.List.{append_assoc, append-nil}
 use Rattle.raft_model.specs.Lists.{In}
-use Rattle.service_alone.specs.Calm.{Timed, end_of, rows_in}
+use Rattle.bus_rows.specs.Timed.{Timed, rows_in}
+use Rattle.service_alone.specs.Calm.{end_of}
 use Rattle.service_candidate.specs.Terms.{NobodyElseStands, NobodyStandsAbove}
 use Rattle.service_candidate.specs.Votes.{Stands}
 use Rattle.service_candidate.specs.Wins.{OffersVoteRequest, VoteRequestsFit}

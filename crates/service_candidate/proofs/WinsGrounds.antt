@@ -11,7 +11,8 @@ use Rattle.bus_rows.specs.declared.row.Row.{Row}
 use Rattle.alloc_spec.specs.AllocatorState.{AllocatorState, members_of, start_of}
 use Rattle.bus_agreement.proofs.Lists.{equal, none_twice}
 use Rattle.cluster_discovery.specs.Members.{IsMemberList, IsStart}
-use Rattle.service_alone.specs.Calm.{Pace, Timed}
+use Rattle.bus_rows.specs.Timed.{Timed}
+use Rattle.service_alone.specs.Calm.{Pace}
 use Rattle.service_candidate.specs.ElectionsBelow.{WinLaws}
 use Rattle.service_candidate.specs.Wins.{IsCalmStanding}
 use Rattle.service_candidate.specs.VotesAlone.{VotesComeAlone}

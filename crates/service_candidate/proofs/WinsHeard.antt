@@ -21,7 +21,8 @@ use Rattle.service_candidate.proofs.WinsFronts.{part_of, votes_fit_at}
 use Rattle.service_candidate.proofs.WinsStays.{in_middle}
 use Rattle.service_leader.proofs.RowsOfOne.{stepped_up}
 use Rattle.service_leader.proofs.Stretches.{world_both}
-use Rattle.service_alone.specs.Calm.{Pace, Timed, end_of, rows_in}
+use Rattle.bus_rows.specs.Timed.{Timed, rows_in}
+use Rattle.service_alone.specs.Calm.{Pace, end_of}
 use Rattle.service_calm.specs.Calls.{Lists, ListsStay}
 use Rattle.service_calm.specs.Calm.{AreCalm, AreRunning, IsRunning, Member as OfMember, Party, no_traffic}
 use Rattle.service_calm.specs.Comes.{ComesBy, EachComesWhole, Sends, sent_by}

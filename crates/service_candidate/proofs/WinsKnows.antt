@@ -7,7 +7,7 @@ use Rattle.bus_rows.specs.declared.row.Row.{Row}
 use Rattle.alloc_spec.specs.AllocatorState.{AllocatorState}
 use Rattle.alloc_spec.specs.Step.{step}
 use Rattle.alloc_spec_laws.proofs.Choices.{lt_tells}
-use Rattle.service_alone.specs.Calm.{Timed}
+use Rattle.bus_rows.specs.Timed.{Timed}
 use Rattle.service_candidate.specs.Terms.{AreWithin}
 use Rattle.service_candidate.specs.Votes.{vote_asked_by}
 use Rattle.service_candidate.specs.Wins.{KnowsTermsBy}

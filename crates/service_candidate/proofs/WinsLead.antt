@@ -9,7 +9,8 @@ use Rattle.raft_model.specs.Server.{Role, Store}
 use Rattle.raft_model.specs.Server.Role.{Candidate, Follower, Leader}
 use Rattle.alloc_spec.specs.AllocatorState.{AllocatorState}
 use Rattle.alloc_spec_laws.proofs.Choices.{lt_tells}
-use Rattle.service_alone.specs.Calm.{Timed, end_of}
+use Rattle.bus_rows.specs.Timed.{Timed}
+use Rattle.service_alone.specs.Calm.{end_of}
 use Rattle.service_candidate.specs.Terms.{NobodyLeads}
 use Rattle.service_candidate.proofs.LeadersStay.{leader_steps}
 use Rattle.service_candidate.proofs.WinsAsked.{comes_back}

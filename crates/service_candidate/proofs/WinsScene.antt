@@ -19,7 +19,8 @@ use Rattle.alloc_spec.specs.Transfers.{Offer}
 use Rattle.bus_agreement.proofs.Concatenations.{first_harmless, row_harmless}
 use Rattle.cluster_discovery.specs.Members.{Event as Discovered, IsMemberList, IsStart, Start, members}
 use Rattle.service_steps.specs.InTime.{FramesLeaveFollowers, StaysFollower, WaitsAnew as HearsAnew}
-use Rattle.service_alone.specs.Calm.{Pace, Timed, end_of, rows_in}
+use Rattle.bus_rows.specs.Timed.{Timed, rows_in}
+use Rattle.service_alone.specs.Calm.{Pace, end_of}
 use Rattle.service_alone.proofs.Members.{IsUp}
 use Rattle.service_candidate.specs.Terms.{TermsDoNotFall, TermsStay, VotesStayFree}
 use Rattle.service_candidate.specs.Votes.{IsAsStanding, IsCandidateStill, Stands, VoteAnswersAsSaid, VoteComes, VotesAreTaken, WaitsForVote}

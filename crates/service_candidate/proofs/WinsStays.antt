@@ -10,7 +10,8 @@ use Rattle.transfer_rx.specs.Reassembly.{Arrival}
 use Rattle.alloc_spec.specs.AllocatorState.{AllocatorState}
 use Rattle.alloc_spec.specs.Step.{Event}
 use Rattle.service_steps.specs.InTime.{HearsLeader}
-use Rattle.service_alone.specs.Calm.{Timed, end_of, rows_in}
+use Rattle.bus_rows.specs.Timed.{Timed, rows_in}
+use Rattle.service_alone.specs.Calm.{end_of}
 use Rattle.service_candidate.specs.Terms.{AreWithin, IsFreeFor, NobodyElseStands, NobodyLeads, NobodyStandsAbove}
 use Rattle.service_candidate.specs.Votes.{HearsAppend, IsAsStanding, Stands}
 use Rattle.service_candidate.specs.Waits.{WaitsAnew}

@@ -9,7 +9,7 @@ use Rattle.raft_model.specs.Server.{Role, Store}
 use Rattle.raft_model.specs.Server.Role.{Candidate, Follower, Leader}
 use Rattle.alloc_spec.specs.AllocatorState.{AllocatorState}
 use Rattle.alloc_spec_laws.proofs.Choices.{lt_tells}
-use Rattle.service_alone.specs.Calm.{Timed}
+use Rattle.bus_rows.specs.Timed.{Timed}
 use Rattle.service_candidate.proofs.WinsFronts.{Longest, from_row_to_row, longest, part_of}
 use Rattle.service_candidate.proofs.WinsScene.{Scene, by_end, end_before, here, last, runs_at, runs_v, v}
 use Rattle.service_candidate.proofs.WinsStays.{in_middle}

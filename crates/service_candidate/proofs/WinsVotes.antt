@@ -6,7 +6,7 @@ use Rattle.raft_model.specs.Lists.{In, at, how_many}
 use Rattle.raft_model.specs.Members.{HasNoneTwice}
 use Rattle.alloc_spec.specs.Transfers.{SentTransfer}
 use Rattle.alloc_spec_laws.proofs.Choices.{either, tell}
-use Rattle.service_alone.specs.Calm.{Timed}
+use Rattle.bus_rows.specs.Timed.{Timed}
 use Rattle.service_candidate.specs.Wins.{is_of}
 use Rattle.service_candidate.proofs.WinsScene.{Scene}
 use Rattle.service_candidate.proofs.WinsAsked.{until}

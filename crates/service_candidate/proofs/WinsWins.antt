@@ -11,7 +11,8 @@ use Rattle.bus_rows.specs.declared.row.Row.{Row}
 use Rattle.alloc_spec.specs.AllocatorState.{AllocatorState, members_of}
 use Rattle.alloc_spec.specs.Step.{step}
 use Rattle.alloc_spec_laws.proofs.Choices.{tell}
-use Rattle.service_alone.specs.Calm.{Timed, end_of}
+use Rattle.bus_rows.specs.Timed.{Timed}
+use Rattle.service_alone.specs.Calm.{end_of}
 use Rattle.service_candidate.specs.Votes.{TakesVote}
 use Rattle.service_candidate.specs.Wins.{WinsBy, is_of}
 use Rattle.service_candidate.proofs.WinsAsked.{ComesBack, asked, comes_back, comes_then, given, takes, until, until_split, y}

@@ -11,7 +11,8 @@ use Rattle.raft_model.specs.Server.Role.{Follower, Leader}
 use Rattle.bus_rows.specs.declared.row.Row.{Row}
 use Rattle.alloc_spec.specs.AllocatorState.{AllocatorState}
 use Rattle.alloc_spec.specs.Rules.{opening_by}
-use Rattle.service_alone.specs.Calm.{Pace, Timed, end_of, rows_in}
+use Rattle.bus_rows.specs.Timed.{Timed, rows_in}
+use Rattle.service_alone.specs.Calm.{Pace, end_of}
 use Rattle.service_candidate.specs.Terms.{NobodyLeads}
 use Rattle.service_candidate.specs.Votes.{Stands}
 use Rattle.service_candidate.specs.Waits.{HasTermLeft}

@@ -8,7 +8,8 @@ use Rattle.bus_rows.specs.declared.row.Row.{Row}
 use Rattle.transfer_tx.specs.Run.{of_identifier}
 use Rattle.alloc_spec.specs.AllocatorState.{AllocatorState}
 use Rattle.alloc_spec.specs.Transfers.{ident_of}
-use Rattle.service_alone.specs.Calm.{Pace, Timed, rows_in}
+use Rattle.bus_rows.specs.Timed.{Timed, rows_in}
+use Rattle.service_alone.specs.Calm.{Pace}
 use Rattle.service_candidate.specs.Votes.{HearsAppend, Stands}
 use Rattle.service_leader.specs.CallsComeBack.{LeadsNotIfUp}
 use Rattle.service_calm.specs.Calm.{AreCalm, AreRunning, Member, Party, no_traffic}

@@ -23,7 +23,8 @@ use Rattle.alloc_spec.specs.Step.{step}
 use Rattle.alloc_spec.specs.Transfers.{Offer, SentTransfer, has_room, id_of}
 use Rattle.alloc_spec_laws.specs.Saying.{vote_bytes}
 use Rattle.service_steps.specs.InTime.{HearsLeader}
-use Rattle.service_alone.specs.Calm.{Pace, Timed, end_of, rows_in}
+use Rattle.bus_rows.specs.Timed.{Timed, rows_in}
+use Rattle.service_alone.specs.Calm.{Pace, end_of}
 use Rattle.service_leader.specs.CallsComeBack.{HasPlace}
 use Rattle.service_calm.specs.Calls.{Lists}
 use Rattle.service_calm.specs.Calm.{AreCalm, AreRunning, IsRunning, Member, Party, no_traffic}

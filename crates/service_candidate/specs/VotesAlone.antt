@@ -6,7 +6,8 @@ use Rattle.dsdl_codec.specs.declared.vote_request.VoteRequest.{VoteRequest}
 use Rattle.raft_model.specs.Lists.{In}
 use Rattle.bus_rows.specs.declared.row.Row.{Row}
 use Rattle.alloc_spec.specs.Transfers.{Offer, SentTransfer}
-use Rattle.service_alone.specs.Calm.{Pace, Timed, rows_in}
+use Rattle.bus_rows.specs.Timed.{Timed, rows_in}
+use Rattle.service_alone.specs.Calm.{Pace}
 use Rattle.service_candidate.specs.Votes.{VoteComes, VoteComesBack, VoteReadsAsSaid}
 use Rattle.service_candidate.specs.Wins.{IsCalmStanding}
 use Rattle.service_calm.specs.Calm.{Member, Party}

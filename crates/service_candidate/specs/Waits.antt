@@ -16,7 +16,8 @@ use Rattle.bus_rows.specs.declared.row.Row.TheVariants.{Rx}
 use Rattle.alloc_spec.specs.AllocatorState.{AllocatorState, knows_all}
 use Rattle.transfer_rx.specs.Reassembly.{Delivery, Gives, answer}
 use Rattle.alloc_spec.specs.Accepted.{setting_for}
-use Rattle.service_alone.specs.Calm.{Pace, Timed, end_of, rows_in}
+use Rattle.bus_rows.specs.Timed.{Timed, rows_in}
+use Rattle.service_alone.specs.Calm.{Pace, end_of}
 use Rattle.service_candidate.specs.Votes.{HearsAppend, Stands}
 use Rattle.service_leader.specs.CallsComeBack.{LeadsNotIfUp}
 use Rattle.service_calm.specs.Comes.{Throughout}

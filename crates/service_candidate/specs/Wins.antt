@@ -13,7 +13,8 @@ use Rattle.bus_rows.specs.declared.row.Row.{Row}
 use Rattle.alloc_spec.specs.AllocatorState.{AllocatorState}
 use Rattle.alloc_spec.specs.Step.{Event, step}
 use Rattle.alloc_spec.specs.Transfers.{Offer}
-use Rattle.service_alone.specs.Calm.{Pace, Timed, end_of, rows_in}
+use Rattle.bus_rows.specs.Timed.{Timed, rows_in}
+use Rattle.service_alone.specs.Calm.{Pace, end_of}
 use Rattle.service_candidate.specs.Terms.{AreWithin, NobodyLeads}
 use Rattle.service_candidate.specs.Votes.{CanAsk, HearsAppend, Stands}
 use Rattle.service_leader.specs.CallsComeBack.{LeadsNotIfUp, LeadsOn}

@@ -1,7 +1,8 @@
 -- A cluster of members only comes back in time, whatever state its members are in.
 use Rattle.std.proofs.Common.{◌≡◌, ℕ, ◌+◌, ◌*◌, ◌<◌, arith, List, [], ◌++◌, length, append_assoc, append-nil, sym, ◌∙◌, ap, subst}
 use Rattle.bus_rows.specs.declared.row.Row.{Row}
-use Rattle.service_alone.specs.Calm.{HasSettled, Pace, Timed, end_of, rows_in}
+use Rattle.bus_rows.specs.Timed.{Timed, rows_in}
+use Rattle.service_alone.specs.Calm.{HasSettled, Pace, end_of}
 use Rattle.service_calm.specs.Calm.{Member as OfMember, Party}
 use Rattle.service_leader.specs.NoElection.{heard_within}
 use Rattle.service_leader.proofs.Stretches.{end_both, world_both}

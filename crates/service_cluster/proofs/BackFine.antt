@@ -7,7 +7,7 @@ use Rattle.raft_model.specs.Server.{RaftServer}
 use Rattle.bus_rows.specs.declared.row.Row.{Row}
 use Rattle.alloc_spec.specs.AllocatorState.{AllocatorState}
 use Rattle.bus_agreement.proofs.Concatenations.{first_harmless}
-use Rattle.service_alone.specs.Calm.{rows_in}
+use Rattle.bus_rows.specs.Timed.{rows_in}
 use Rattle.service_alone.proofs.Goes.{after_both}
 use Rattle.service_leader.proofs.Stretches.{harmless_both, rows_both}
 use Rattle.service_cluster.specs.ComeBack.{LogsStayWithinTheirLimit}

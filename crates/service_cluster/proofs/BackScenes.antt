@@ -1,7 +1,8 @@
 -- Where a calm is led: the scene, and a front behind which the leader has called all others.
 use Rattle.std.proofs.Common.{ℕ, ◌+◌, ◌*◌, ◌<◌, arith, List, ◌∙◌, ap, length}
 use Rattle.bus_rows.specs.declared.row.Row.{Row}
-use Rattle.service_alone.specs.Calm.{Pace, Timed, end_of}
+use Rattle.bus_rows.specs.Timed.{Timed}
+use Rattle.service_alone.specs.Calm.{Pace, end_of}
 use Rattle.service_calm.specs.Calm.{Party}
 use Rattle.service_leader.specs.NoElection.{heard_within}
 use Rattle.service_leader.proofs.Stretches.{end_both}

@@ -10,7 +10,8 @@ use Rattle.alloc_spec.specs.AllocatorState.{AllocatorState, is_recorded, members
 use Rattle.alloc_spec_laws.proofs.Proposals.{or_false}
 use Rattle.bus_agreement.proofs.Concatenations.{first_harmless}
 use Rattle.cluster_discovery.specs.Members.{is_on_list}
-use Rattle.service_alone.specs.Calm.{Timed, end_of, rows_in}
+use Rattle.bus_rows.specs.Timed.{Timed, rows_in}
+use Rattle.service_alone.specs.Calm.{end_of}
 use Rattle.service_calm.specs.Calls.{Lists}
 use Rattle.service_calm.specs.Calm.{AreCalm, Member as OfMember, no_traffic}
 use Rattle.service_calm.specs.Comes.{Throughout}

@@ -6,7 +6,8 @@ use Rattle.can_frame.specs.Timing.{call_timeout, election_wait}
 use Rattle.raft_model.specs.Lists.{In, how_many}
 use Rattle.raft_model.specs.Server.{quorum}
 use Rattle.bus_rows.specs.declared.row.Row.{Row}
-use Rattle.service_alone.specs.Calm.{Pace, Timed, rows_in}
+use Rattle.bus_rows.specs.Timed.{Timed, rows_in}
+use Rattle.service_alone.specs.Calm.{Pace}
 use Rattle.service_calm.specs.Calm.{Member, Party, no_traffic}
 use Rattle.service_calm.specs.CalmExample.{clocks, two}
 use Rattle.service_calm.specs.Comes.{HasMemory, Throughout}

@@ -13,7 +13,8 @@ use Rattle.bus_rows.specs.declared.row.Row.{Row}
 use Rattle.allocatee.specs.Allocatee.{Device}
 use Rattle.alloc_spec.specs.AllocatorState.{AllocatorState}
 use Rattle.alloc_spec_laws.proofs.Logs.{not_told}
-use Rattle.service_alone.specs.Calm.{HasSettled, Pace, Timed, end_of, rows_in}
+use Rattle.bus_rows.specs.Timed.{Timed, rows_in}
+use Rattle.service_alone.specs.Calm.{HasSettled, Pace, end_of}
 use Rattle.service_calm.specs.Calm.{Device as OfDevice, Member as OfMember}
 use Rattle.service_calm.specs.Comes.{Throughout}
 use Rattle.service_calm.proofs.Pair.{same_server}

@@ -12,7 +12,8 @@ use Rattle.alloc_spec_laws.specs.Blanks.{IsHeard}
 use Rattle.alloc_spec_laws.proofs.LeadersBlanks.{goes_on_to_wait}
 use Rattle.alloc_spec_laws.proofs.Proposals.{or_false}
 use Rattle.cluster_discovery.specs.Members.{is_on_list}
-use Rattle.service_alone.specs.Calm.{Pace, Timed, end_of, rows_in}
+use Rattle.bus_rows.specs.Timed.{Timed, rows_in}
+use Rattle.service_alone.specs.Calm.{Pace, end_of}
 use Rattle.service_calm.specs.Calls.{Lists}
 use Rattle.service_calm.specs.Calm.{AreCalm, AreRunning, Member as OfMember, Party, no_traffic}
 use Rattle.service_calm.specs.Comes.{Throughout}

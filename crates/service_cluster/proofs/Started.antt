@@ -12,7 +12,8 @@ use Rattle.alloc_spec.specs.AllocatorState.{AllocatorState, knows_all}
 use Rattle.alloc_spec.specs.Rules.{heard_with}
 use Rattle.alloc_spec.specs.Transfers.{ident_of}
 use Rattle.alloc_spec_laws.proofs.LeadersBlanks.{told_waits}
-use Rattle.service_alone.specs.Calm.{Pace, Timed}
+use Rattle.bus_rows.specs.Timed.{Timed}
+use Rattle.service_alone.specs.Calm.{Pace}
 use Rattle.service_calm.specs.Calm.{Member as OfMember, Party}
 use Rattle.service_candidate.specs.Elections.{IsCalmRestart}
 use Rattle.service_candidate.proofs.ElectionsEnd.{is_opened, opened}

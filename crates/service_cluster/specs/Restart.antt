@@ -6,7 +6,8 @@ use Rattle.raft_model.specs.Lists.{In}
 use Rattle.raft_model.specs.Server.Role.{Leader}
 use Rattle.bus_rows.specs.declared.row.Row.{Row}
 use Rattle.alloc_spec.specs.AllocatorState.{AllocatorState, knows_all}
-use Rattle.service_alone.specs.Calm.{Pace, Timed, end_of, rows_in}
+use Rattle.bus_rows.specs.Timed.{Timed, rows_in}
+use Rattle.service_alone.specs.Calm.{Pace, end_of}
 use Rattle.service_calm.specs.Calm.{Member, Party}
 use Rattle.service_leader.specs.LeadsOn.{IsLedThroughout}
 use Rattle.service_leader.specs.NoElection.{CallsFit, NoElection, greatest_wait, heard_within}

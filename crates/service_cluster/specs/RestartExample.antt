@@ -4,7 +4,8 @@ use Rattle.std.specs.Prelude.{ℕ, zero, suc, ◌+◌, ◌<◌, true, List, [], 
 use Rattle.raft_model.specs.Lists.{In}
 use Rattle.bus_rows.specs.declared.row.Row.{Row}
 use Rattle.bus_rows.specs.declared.row.Row.TheVariants.{Open, Rx, Send, Tick}
-use Rattle.service_alone.specs.Calm.{Pace, Timed, end_of}
+use Rattle.bus_rows.specs.Timed.{Timed}
+use Rattle.service_alone.specs.Calm.{Pace, end_of}
 use Rattle.service_calm.specs.Calm.{Member, Party}
 use Rattle.service_calm.specs.CalmExample.{clocks, two}
 use Rattle.service_candidate.specs.Elections.{IsAhead, election_within}

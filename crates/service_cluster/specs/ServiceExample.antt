@@ -4,7 +4,8 @@
 use Rattle.std.specs.Prelude.{ℕ, zero, suc, ◌+◌, ◌<◌, true, List, [], ◌∷◌, ◌++◌, length}
 use Rattle.bus_rows.specs.declared.row.Row.{Row}
 use Rattle.bus_rows.specs.declared.row.Row.TheVariants.{AOpen, Open}
-use Rattle.service_alone.specs.Calm.{Timed, end_of}
+use Rattle.bus_rows.specs.Timed.{Timed}
+use Rattle.service_alone.specs.Calm.{end_of}
 use Rattle.service_calm.specs.CalmExample.{clocks, group, some_uid, two}
 use Rattle.service_cluster.specs.ComeBack.{IsCalmOfDevice, served_within}
 use Rattle.service_cluster.specs.RestartExample.{opened_at}

@@ -8,7 +8,8 @@ use Rattle.transfer_tx.specs.Queue.{Queued}
 use Rattle.allocatee.specs.Allocatee.{Device, Event, after_pop, step}
 use Rattle.allocatee.specs.Allocatee as device
 use Rattle.alloc_spec_laws.proofs.Choices.{tell}
-use Rattle.service_alone.specs.Calm.{OnItsWay, Timed, end_of, next_on_bus, rows_in}
+use Rattle.bus_rows.specs.Timed.{Timed, rows_in}
+use Rattle.service_alone.specs.Calm.{OnItsWay, end_of, next_on_bus}
 use Rattle.service_alone.proofs.Asking.{its_own}
 use Rattle.service_alone.proofs.CalmSide.{waits_before}
 use Rattle.service_alone.proofs.CalmStages.{device_steps}

@@ -8,7 +8,8 @@ use Rattle.transfer_tx.specs.Queue.{Queued}
 use Rattle.allocatee.specs.Allocatee.{Device}
 use Rattle.allocatee.specs.declared.timer.FollowUp.{FollowUp}
 use Rattle.allocatee.specs.declared.timer.Timer.{Timer}
-use Rattle.service_alone.specs.Calm.{HasSettled, Timed, queue_at, waits_after}
+use Rattle.bus_rows.specs.Timed.{Timed}
+use Rattle.service_alone.specs.Calm.{HasSettled, queue_at, waits_after}
 use Rattle.service_alone.proofs.CalmDevice.{device_as}
 use Rattle.service_calm.specs.Calm.{Device as OfDevice, IsCalmRow, IsInTime, Member as OfMember, Traffic, queue_in, reads, traffic_after}
 use Rattle.service_calm.specs.Devices.{DeliversTo}

@@ -9,7 +9,8 @@ use Rattle.transfer_rx.specs.Keys.{key_of}
 use Rattle.transfer_tx.specs.Queue.{Queued}
 use Rattle.allocatee.specs.Allocatee.{Device}
 use Rattle.alloc_spec.specs.Transfers.{id_of, ident_of}
-use Rattle.service_alone.specs.Calm.{HasSettled, Pace, Timed, end_of, rows_in}
+use Rattle.bus_rows.specs.Timed.{Timed, rows_in}
+use Rattle.service_alone.specs.Calm.{HasSettled, Pace, end_of}
 use Rattle.service_calm.specs.Calm.{AreCalm, AreRunning, Device as OfDevice, Member as OfMember, Party, Traffic, no_traffic, traffic_after}
 use Rattle.service_calm.specs.Comes.{Throughout}
 use Rattle.service_calm.specs.Devices.{AllocationMayBegin, AreReadyToTell, DeviceHasMemory, SendsShortAllocations}

@@ -12,7 +12,8 @@ use Rattle.bus_rows.specs.declared.row.Row.{Row}
 use Rattle.allocatee.specs.Allocatee.{Device, Event, step}
 use Rattle.alloc_spec.specs.AllocatorState.{AllocatorState, members_of}
 use Rattle.service_steps.proofs.Alone.{one_longer}
-use Rattle.service_alone.specs.Calm.{Pace, Timed, end_of, rows_in}
+use Rattle.bus_rows.specs.Timed.{Timed, rows_in}
+use Rattle.service_alone.specs.Calm.{Pace, end_of}
 use Rattle.service_alone.proofs.Goes.{after_both}
 use Rattle.service_calm.specs.Calm.{AreCalm, Member as OfMember, Party, no_traffic}
 use Rattle.service_calm.specs.Devices.{AllocationsComeInCalm}

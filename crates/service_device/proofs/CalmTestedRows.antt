@@ -4,7 +4,8 @@ use Rattle.std.proofs.Common.{◌≡◌, ℕ, Bool, true, List, [], ◌∷◌, �
 use Rattle.std.specs.Prelude.{◌&&◌, nat_le, slice_index_or}
 use Rattle.bus_rows.specs.declared.row.Row.{Row}
 use Rattle.alloc_spec_laws.proofs.Choices.{and_left, and_right}
-use Rattle.service_alone.specs.Calm.{Pace, Timed, rows_in}
+use Rattle.bus_rows.specs.Timed.{Timed, rows_in}
+use Rattle.service_alone.specs.Calm.{Pace}
 use Rattle.service_calm.specs.Calm.{AreCalm, IsCalmRow, IsInTime, Party, Traffic, no_traffic, traffic_after}
 use Rattle.service_calm.specs.CalmExample.{clocks}
 use Rattle.service_calm.specs.Comes.{Throughout}

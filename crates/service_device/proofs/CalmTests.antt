@@ -15,7 +15,8 @@ use Rattle.alloc_spec.specs.Transfers.{Offer}
 use Rattle.alloc_spec_laws.specs.Phases.{has_room_to_tell, when_committed}
 use Rattle.allocatee.specs.Accepted.{setting}
 use Rattle.allocatee.specs.Allocatee.{Device as AskingDevice}
-use Rattle.service_alone.specs.Calm.{OnItsWay, Pace, Timed}
+use Rattle.bus_rows.specs.Timed.{Timed}
+use Rattle.service_alone.specs.Calm.{OnItsWay, Pace}
 use Rattle.service_calm.specs.Calm.{Device, Member, Party, Traffic, queue_in, traffic_after}
 use Rattle.service_calm.specs.CalmExample.{clocks}
 use Rattle.service_calm.specs.Comes.{blocks_of_longest}

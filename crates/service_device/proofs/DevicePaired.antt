@@ -9,7 +9,8 @@ use Rattle.allocatee.specs.Allocatee.{Device, Event, step}
 use Rattle.alloc_spec.specs.Exchange.{allocation_payload}
 use Rattle.alloc_spec.specs.Transfers.{Offer, SentTransfer}
 use Rattle.bus_agreement.specs.Allocatees.{Holds}
-use Rattle.service_alone.specs.Calm.{Pace, Timed, end_of, rows_in}
+use Rattle.bus_rows.specs.Timed.{Timed, rows_in}
+use Rattle.service_alone.specs.Calm.{Pace, end_of}
 use Rattle.service_calm.specs.Calm.{AreCalm, Party, no_traffic}
 use Rattle.service_calm.specs.Comes.{Sends, Throughout, sent_by}
 use Rattle.service_calm.specs.Devices.{AllocationsComeInCalm, ComesToBy, DeviceHasMemory, SendsShortAllocations}

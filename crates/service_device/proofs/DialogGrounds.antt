@@ -8,7 +8,8 @@ use Rattle.transfer_tx.specs.Queue.{Queued}
 use Rattle.allocatee.specs.Allocatee.{opening}
 use Rattle.allocatee.specs.Asking.{request_wait, timer_from}
 use Rattle.alloc_spec.specs.Transfers.{id_of}
-use Rattle.service_alone.specs.Calm.{Pace, Timed}
+use Rattle.bus_rows.specs.Timed.{Timed}
+use Rattle.service_alone.specs.Calm.{Pace}
 use Rattle.service_alone.proofs.CalmStages.{right_at_first}
 use Rattle.service_calm.specs.Calm.{Device as OfDevice, Member as OfMember, Party, no_traffic}
 use Rattle.service_calm.proofs.Pair.{Only}

@@ -9,7 +9,8 @@ use Rattle.raft_model.specs.Server.{RaftServer}
 use Rattle.bus_rows.specs.declared.row.Row.{Row}
 use Rattle.alloc_spec.specs.Transfers.{SentTransfer}
 use Rattle.bus_agreement.specs.Shows.{Shows, ShowsMember, ShowsUp}
-use Rattle.service_alone.specs.Calm.{HasSettled, Timed, end_of}
+use Rattle.bus_rows.specs.Timed.{Timed}
+use Rattle.service_alone.specs.Calm.{HasSettled, end_of}
 use Rattle.service_calm.specs.Calm.{AreCalm, IsCalmRow, IsInTime, Member as OfMember, Traffic, traffic_after}
 use Rattle.service_device.specs.Dialog.{HoldsBy}
 use Rattle.service_device.proofs.Dialog.{AllKnown, goes_on}

@@ -17,7 +17,8 @@ use Rattle.alloc_spec.specs.Exchange.{allocation_payload}
 use Rattle.alloc_spec_laws.proofs.Choices.{lt_tells}
 use Rattle.service_steps.specs.Devices.{comes_at}
 use Rattle.service_steps.specs.Requests.{IsRequest}
-use Rattle.service_alone.specs.Calm.{HasSettled, Timed, next_on_bus, queue_at, waits_after}
+use Rattle.bus_rows.specs.Timed.{Timed}
+use Rattle.service_alone.specs.Calm.{HasSettled, next_on_bus, queue_at, waits_after}
 use Rattle.service_alone.proofs.Asking.{its_own}
 use Rattle.service_alone.proofs.CalmDevice.{asked, asks_first, asks_on, device_as, request_frames, six_at_most}
 use Rattle.service_alone.proofs.CalmStages.{Right, device_steps, has_not_passed, has_now_passed, is_first, known_of, request_of}

@@ -16,7 +16,8 @@ use Rattle.allocatee.specs.Accepted.{setting}
 use Rattle.alloc_spec.specs.Step.{Event, step}
 use Rattle.alloc_spec.specs.Transfers.{Offer, ident_of}
 use Rattle.alloc_spec_laws.proofs.Choices.{and_left, and_right, tell}
-use Rattle.service_alone.specs.Calm.{IsNext, OnItsWay, Pace, Timed, next_on_bus}
+use Rattle.bus_rows.specs.Timed.{Timed}
+use Rattle.service_alone.specs.Calm.{IsNext, OnItsWay, Pace, next_on_bus}
 use Rattle.service_alone.proofs.Receiving.{GivesNone}
 use Rattle.service_calm.specs.Calm.{Device as OfDevice, IsCalmRow, IsInTime, Member as OfMember, Party, Traffic, is_sending, receives, sends, traffic_after}
 use Rattle.service_calm.specs.Comes.{Sends, sent_by}

@@ -18,7 +18,8 @@ use Rattle.alloc_spec.specs.Step.{Event, step}
 use Rattle.alloc_spec.specs.Transfers.{Offer, has_room}
 use Rattle.alloc_spec_laws.proofs.Uids.{IsWholeOf, answers_whole}
 use Rattle.service_steps.specs.Serving.{IsFirst, IsReady, allocation_from}
-use Rattle.service_alone.specs.Calm.{HasSettled, Pace, Timed, end_of, rows_in}
+use Rattle.bus_rows.specs.Timed.{Timed, rows_in}
+use Rattle.service_alone.specs.Calm.{HasSettled, Pace, end_of}
 use Rattle.service_alone.proofs.CalmGiving.{few_frames}
 use Rattle.service_calm.specs.Calm.{AreCalm, Member as OfMember, Party, no_traffic}
 use Rattle.service_calm.specs.Comes.{Sends, Throughout, sent_by}

@@ -17,7 +17,8 @@ use Rattle.alloc_spec.specs.AllocatorState.{AllocatorState}
 use Rattle.alloc_spec.specs.Step.{Event, after_pop, step}
 use Rattle.alloc_spec.specs.Step as server
 use Rattle.service_steps.specs.Devices.{RequestsAreRequests}
-use Rattle.service_alone.specs.Calm.{Pace, Timed, rows_in}
+use Rattle.bus_rows.specs.Timed.{Timed, rows_in}
+use Rattle.service_alone.specs.Calm.{Pace}
 use Rattle.service_alone.proofs.Members.{IsUp, steps_up}
 use Rattle.service_calm.specs.Calm.{AreCalm, Device as OfDevice, IsCalmRow, Member as OfMember, Party, Traffic, no_traffic, traffic_after}
 use Rattle.service_calm.proofs.Group.{AreWell, CalmLaws, sent_own, well_after}

@@ -29,7 +29,7 @@ use Rattle.bus_agreement.proofs.OneRow.{is_fine, stands}
 use Rattle.bus_agreement.proofs.OneRowMore.{grown, harmless as one_more_harmless}
 use Rattle.bus_agreement.proofs.RowsWithoutEvents.{past_first}
 use Rattle.bus_agreement.proofs.WholeTransfers.{forged_allocation}
-use Rattle.service_alone.specs.Calm.{Timed, rows_in}
+use Rattle.bus_rows.specs.Timed.{Timed, rows_in}
 use Rattle.service_device.proofs.AllocationsMade.{AllMadeSized, all_made_sized}
 use Rattle.service_device.proofs.RequestsRows.{AllHearParts, HearsParts, HoldsAt, IsTelling, telling_on}
 use Rattle.service_device.specs.ServiceBelow.{ServiceGrounds}

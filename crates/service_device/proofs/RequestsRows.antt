@@ -15,7 +15,8 @@ use Rattle.allocatee.specs.Allocatee.{Device, Event, answer_to, opening, step}
 use Rattle.allocatee.specs.Allocatee as device
 use Rattle.bus_agreement.proofs.RowsWithoutEvents.{left_in_queue, out_of_queue}
 use Rattle.service_steps.specs.Devices.{RequestsAreRequests}
-use Rattle.service_alone.specs.Calm.{Pace, Timed, rows_in}
+use Rattle.bus_rows.specs.Timed.{Timed, rows_in}
+use Rattle.service_alone.specs.Calm.{Pace}
 use Rattle.service_calm.specs.Calm.{IsCalmRow, Party, Traffic}
 use Rattle.service_device.specs.Requests.{IsRequestFor, TellsAt, TellsParts}
 use Rattle.service_device.proofs.AskingDevice.{same_device}

@@ -20,7 +20,8 @@ use Rattle.alloc_spec.specs.Transfers.{SentTransfer}
 use Rattle.bus_agreement.specs.Shows.{Shows, ShowsMember, ShowsUp}
 use Rattle.service_steps.specs.Serving.{Records, RecordsPairs}
 use Rattle.service_steps.proofs.FollowUps.{may}
-use Rattle.service_alone.specs.Calm.{HasSettled, Pace, Timed, end_of, rows_in}
+use Rattle.bus_rows.specs.Timed.{Timed, rows_in}
+use Rattle.service_alone.specs.Calm.{HasSettled, Pace, end_of}
 use Rattle.service_alone.proofs.Choosing.{Chooses}
 use Rattle.service_alone.proofs.Members.{steps_up}
 use Rattle.service_calm.specs.Calls.{Lists, ListsStay}

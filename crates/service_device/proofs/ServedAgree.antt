@@ -14,7 +14,7 @@ use Rattle.alloc_spec.specs.AllocatorState.{AllocatorState}
 use Rattle.bus_agreement.specs.Allocatees.{Allocatees, HasAllocatees, Holds}
 use Rattle.bus_agreement.specs.Headline.{HasHeadline, Headline, the_list}
 use Rattle.bus_agreement.proofs.HeadlineOfRuns.{still_pair}
-use Rattle.service_alone.specs.Calm.{Timed, rows_in}
+use Rattle.bus_rows.specs.Timed.{Timed, rows_in}
 use Rattle.service_alone.proofs.Choosing.{same_node}
 use Rattle.service_alone.proofs.Goes.{after_both}
 use Rattle.service_leader.proofs.Stretches.{rows_both}

@@ -10,7 +10,8 @@ use Rattle.raft_model.specs.Log.{term_at}
 use Rattle.bus_rows.specs.declared.row.Row.{Row}
 use Rattle.alloc_spec.specs.AllocatorState.{AllocatorState}
 use Rattle.service_steps.proofs.Alone.{last_entry}
-use Rattle.service_alone.specs.Calm.{Pace, Timed, end_of, rows_in}
+use Rattle.bus_rows.specs.Timed.{Timed, rows_in}
+use Rattle.service_alone.specs.Calm.{Pace, end_of}
 use Rattle.service_calm.specs.Calm.{AreCalm, Party, no_traffic}
 use Rattle.service_device.specs.AskingServed.{CanCommitWith}
 use Rattle.service_leader.specs.Entries.{EntriesAreCommittedInTime, IsCommittedBy, KeepsCalling, calls_left, come_within}

@@ -8,7 +8,8 @@ use Rattle.raft_core.specs.Taken.{proposal}
 use Rattle.bus_rows.specs.declared.row.Row.{Row}
 use Rattle.allocatee.specs.Allocatee.{Device, Event, opening, step}
 use Rattle.bus_agreement.specs.Allocatees.{Holds}
-use Rattle.service_alone.specs.Calm.{Pace, Timed, end_of, rows_in}
+use Rattle.bus_rows.specs.Timed.{Timed, rows_in}
+use Rattle.service_alone.specs.Calm.{Pace, end_of}
 use Rattle.service_calm.specs.Calm.{Device as OfDevice, Party}
 use Rattle.service_calm.specs.Comes.{Sends, Throughout, sent_by}
 use Rattle.service_calm.specs.Devices.{AllocationsComeInCalm, ComesToBy, DeviceHasMemory, SendsShortAllocations}

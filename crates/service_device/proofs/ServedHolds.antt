@@ -17,7 +17,8 @@ use Rattle.allocatee.proofs.Requests.{le_is}
 use Rattle.alloc_spec.specs.Exchange.{allocation_payload}
 use Rattle.alloc_spec.specs.Transfers.{SentTransfer, kind_of}
 use Rattle.bus_agreement.specs.Allocatees.{Holds}
-use Rattle.service_alone.specs.Calm.{Pace, Timed, rows_in}
+use Rattle.bus_rows.specs.Timed.{Timed, rows_in}
+use Rattle.service_alone.specs.Calm.{Pace}
 use Rattle.service_alone.proofs.CalmStages.{device_steps}
 use Rattle.service_calm.specs.Calm.{AreCalm, IsCalmRow, Party, Traffic, no_traffic, traffic_after}
 use Rattle.service_calm.specs.Devices.{DeliversTo}

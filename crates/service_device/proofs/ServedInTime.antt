@@ -9,7 +9,8 @@ use Rattle.bus_rows.specs.declared.row.Row.{Row}
 use Rattle.alloc_spec.specs.AllocatorState.{AllocatorState}
 use Rattle.alloc_spec_laws.proofs.Lists.{in_back}
 use Rattle.service_steps.proofs.Alone.{one_longer}
-use Rattle.service_alone.specs.Calm.{Pace, Timed, end_of, rows_in}
+use Rattle.bus_rows.specs.Timed.{Timed, rows_in}
+use Rattle.service_alone.specs.Calm.{Pace, end_of}
 use Rattle.service_calm.specs.Calm.{Party}
 use Rattle.service_device.specs.Served.{HasCommittedBy, IsRecordedBy, IsToldBy}
 use Rattle.service_device.specs.Settled.{IsCalmUnder}

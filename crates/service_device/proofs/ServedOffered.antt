@@ -11,7 +11,8 @@ use Rattle.alloc_spec.specs.AllocatorState.{AllocatorState}
 use Rattle.alloc_spec.specs.Ending.{call_phase}
 use Rattle.alloc_spec.specs.Step.{Event, step}
 use Rattle.alloc_spec_laws.specs.Phases.{TellsDuly, when_committed, when_told}
-use Rattle.service_alone.specs.Calm.{Pace, Timed, rows_in}
+use Rattle.bus_rows.specs.Timed.{Timed, rows_in}
+use Rattle.service_alone.specs.Calm.{Pace}
 use Rattle.service_calm.specs.Calm.{Party}
 use Rattle.service_leader.specs.LeadsOn.{LeadsIn}
 use Rattle.service_device.specs.Served.{LeadsWithLog, Tells}

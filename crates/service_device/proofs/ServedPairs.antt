@@ -6,7 +6,8 @@ use Rattle.raft_model.specs.Lists.{In}
 use Rattle.bus_rows.specs.declared.row.Row.{Row}
 use Rattle.alloc_spec.specs.AllocatorState.{AllocatorState}
 use Rattle.service_steps.proofs.Alone.{one_longer}
-use Rattle.service_alone.specs.Calm.{Pace, Timed, end_of, rows_in}
+use Rattle.bus_rows.specs.Timed.{Timed, rows_in}
+use Rattle.service_alone.specs.Calm.{Pace, end_of}
 use Rattle.service_calm.specs.Calm.{IsRunning, Party}
 use Rattle.service_leader.specs.CallsComeBack.{LeadsOn}
 use Rattle.service_leader.specs.Entries.{AreInStep, CallsReturnToWhoLeadsOn, EntriesAreCommittedInTime, calls_left}

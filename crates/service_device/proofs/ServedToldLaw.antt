@@ -13,7 +13,8 @@ use Rattle.alloc_spec.specs.Exchange.{may_follow}
 use Rattle.alloc_spec.specs.Step.{Event}
 use Rattle.alloc_spec_laws.specs.Phases.{TellsDuly, when_committed, when_told}
 use Rattle.service_steps.proofs.Alone.{one_longer}
-use Rattle.service_alone.specs.Calm.{HasSettled, Pace, Timed, end_of, rows_in}
+use Rattle.bus_rows.specs.Timed.{Timed, rows_in}
+use Rattle.service_alone.specs.Calm.{HasSettled, Pace, end_of}
 use Rattle.service_calm.specs.Calm.{Member as OfMember, Party}
 use Rattle.service_calm.proofs.Pair.{same_server}
 use Rattle.service_leader.specs.NoElection.{CallsFit}

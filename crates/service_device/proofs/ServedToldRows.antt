@@ -8,7 +8,8 @@ use Rattle.alloc_spec.specs.Step.{Event, step}
 use Rattle.alloc_spec_laws.specs.Phases.{TellsDuly, when_committed, when_told}
 use Rattle.alloc_spec_laws.proofs.Choices.{lt_tells}
 use Rattle.service_steps.proofs.Alone.{one_longer}
-use Rattle.service_alone.specs.Calm.{HasSettled, Pace, Timed, end_of, rows_in}
+use Rattle.bus_rows.specs.Timed.{Timed, rows_in}
+use Rattle.service_alone.specs.Calm.{HasSettled, Pace, end_of}
 use Rattle.service_calm.specs.Calm.{AreCalm, Member as OfMember, Party, no_traffic}
 use Rattle.service_calm.proofs.Calls.{Always}
 use Rattle.service_calm.proofs.CallsKept.{GoesOn, IsKept, further}

@@ -6,7 +6,8 @@ use Rattle.can_frame.specs.Zeros.{zeros}
 use Rattle.raft_model.specs.Lists.{In}
 use Rattle.bus_rows.specs.declared.row.Row.{Row}
 use Rattle.alloc_spec.specs.AllocatorState.{AllocatorState, members_of}
-use Rattle.service_alone.specs.Calm.{HasSettled, Timed, rows_in}
+use Rattle.bus_rows.specs.Timed.{Timed, rows_in}
+use Rattle.service_alone.specs.Calm.{HasSettled}
 use Rattle.service_device.specs.ServiceBelow.{ServiceGrounds}
 use Rattle.service_device.proofs.DialogHolds.{its_log_is_injective}
 use Rattle.service_device.proofs.Served.{ServedLaws, lists_members}

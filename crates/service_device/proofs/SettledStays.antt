@@ -14,7 +14,8 @@ use Rattle.bus_rows.specs.declared.row.Row.TheVariants.{AEnd, AOpen, ARx, ASend,
 use Rattle.transfer_rx.specs.Reassembly.{Answer as Received, Continues, Delivery, Drops, Gives, answer as received}
 use Rattle.alloc_spec.specs.Accepted.{setting_for}
 use Rattle.alloc_spec.specs.AllocatorState.{AllocatorState}
-use Rattle.service_alone.specs.Calm.{HasSettled, Pace, Timed, end_of, rows_in}
+use Rattle.bus_rows.specs.Timed.{Timed, rows_in}
+use Rattle.service_alone.specs.Calm.{HasSettled, Pace, end_of}
 use Rattle.service_calm.specs.Calm.{AreCalm, AreRunning, IsCalmRow, Member as OfMember, Party, Traffic, traffic_after}
 use Rattle.service_calm.specs.Calls.{Lists}
 use Rattle.service_leader.specs.LeadsOn.{IsLed}

@@ -6,7 +6,8 @@ use Rattle.can_frame.specs.declared.entry.Entry.{Entry}
 use Rattle.dsdl_codec.specs.declared.allocation.Allocation.{Allocation}
 use Rattle.bus_rows.specs.declared.row.Row.{Row}
 use Rattle.alloc_spec.specs.AllocatorState.{AllocatorState}
-use Rattle.service_alone.specs.Calm.{Pace, Timed, end_of, rows_in}
+use Rattle.bus_rows.specs.Timed.{Timed, rows_in}
+use Rattle.service_alone.specs.Calm.{Pace, end_of}
 use Rattle.service_calm.specs.Calm.{Member as OfMember, Party}
 use Rattle.service_device.specs.Recorded.{EachRowKeepsTheLog, Grows, KeepsLog, LeadsWith}
 use Rattle.service_device.specs.Settled.{IsAsked, IsCalmUnder}

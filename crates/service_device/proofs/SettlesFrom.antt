@@ -4,7 +4,8 @@ use Rattle.std.specs.Prelude.{⊤, slice_index_or}
 use Rattle.bus_rows.specs.declared.row.Row.{Row}
 use Rattle.alloc_spec.specs.AllocatorState.{AllocatorState}
 use Rattle.alloc_spec_laws.proofs.Choices.{lt_tells}
-use Rattle.service_alone.specs.Calm.{Pace, Timed, end_of, rows_in}
+use Rattle.bus_rows.specs.Timed.{Timed, rows_in}
+use Rattle.service_alone.specs.Calm.{Pace, end_of}
 use Rattle.service_calm.specs.Calm.{AreCalm, IsRunning, Party, no_traffic}
 use Rattle.service_device.specs.Settled.{IsCalmUnder}
 use Rattle.service_calm.proofs.Calls.{Always}

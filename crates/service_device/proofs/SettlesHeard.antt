@@ -15,7 +15,8 @@ use Rattle.bus_rows.specs.declared.row.Row.{Row}
 use Rattle.cluster_discovery.specs.Members.{is_on_list}
 use Rattle.alloc_spec.specs.AllocatorState.{AllocatorState, is_recorded, members_of}
 use Rattle.alloc_spec_laws.proofs.Choices.{le_true, tell}
-use Rattle.service_alone.specs.Calm.{Pace, Timed, end_of, rows_in}
+use Rattle.bus_rows.specs.Timed.{Timed, rows_in}
+use Rattle.service_alone.specs.Calm.{Pace, end_of}
 use Rattle.service_calm.specs.Calm.{Member as OfMember, Party}
 use Rattle.service_leader.specs.Entries.{HasComeBy, come_within, is_one_of}
 use Rattle.service_leader.specs.NoElection.{CallsFit}

@@ -18,7 +18,8 @@ use Rattle.alloc_spec.specs.Transfers.{SentTransfer}
 use Rattle.alloc_spec_laws.proofs.Choices.{lt_tells}
 use Rattle.bus_agreement.specs.Shows.{Shows, ShowsMember, ShowsUp}
 use Rattle.service_steps.proofs.Alone.{last_entry, one_longer}
-use Rattle.service_alone.specs.Calm.{Pace, Timed, end_of, rows_in}
+use Rattle.bus_rows.specs.Timed.{Timed, rows_in}
+use Rattle.service_alone.specs.Calm.{Pace, end_of}
 use Rattle.service_calm.specs.Calm.{AreCalm, Member as OfMember, Party, no_traffic}
 use Rattle.service_leader.specs.Entries.{IsCommittedBy, KeepsCalling, come_within}
 use Rattle.service_leader.specs.NoElection.{CallsFit}

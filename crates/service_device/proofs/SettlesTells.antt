@@ -7,7 +7,8 @@ use Rattle.alloc_spec.specs.AllocatorState.{AllocatorState}
 use Rattle.alloc_spec.specs.Step.{Event, step}
 use Rattle.alloc_spec_laws.specs.Phases.{TellsDuly, when_committed, when_told}
 use Rattle.alloc_spec_laws.proofs.Choices.{lt_tells}
-use Rattle.service_alone.specs.Calm.{Pace, Timed, end_of, rows_in}
+use Rattle.bus_rows.specs.Timed.{Timed, rows_in}
+use Rattle.service_alone.specs.Calm.{Pace, end_of}
 use Rattle.service_calm.specs.Calm.{Member as OfMember, Party}
 use Rattle.service_calm.proofs.Calls.{Always}
 use Rattle.service_calm.proofs.CallsKept.{IsKept, RunsWith}

@@ -8,7 +8,8 @@ use Rattle.raft_model.specs.Lists.{In}
 use Rattle.raft_model.specs.Members.{IsAll}
 use Rattle.alloc_spec.specs.AllocatorState.{AllocatorState, members_of}
 use Rattle.alloc_spec_laws.proofs.LeadersBlanks.{goes_on_to_wait}
-use Rattle.service_alone.specs.Calm.{Pace, Timed, end_of, rows_in}
+use Rattle.bus_rows.specs.Timed.{Timed, rows_in}
+use Rattle.service_alone.specs.Calm.{Pace, end_of}
 use Rattle.service_calm.specs.Calm.{Member as OfMember, Party}
 use Rattle.service_leader.specs.LeadsOn.{IsLed}
 use Rattle.service_device.specs.Settled.{MissesNobody, NobodyIsMissed}

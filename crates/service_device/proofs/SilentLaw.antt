@@ -2,7 +2,8 @@
 use Rattle.std.proofs.Common.{◌≡◌, ℕ, ◌≤◌, List, ◌++◌, append_assoc, refl, ◌∙◌, ap, arith}
 use Rattle.raft_model.specs.Lists.{In}
 use Rattle.bus_rows.specs.declared.row.Row.{Row}
-use Rattle.service_alone.specs.Calm.{Timed, end_of, rows_in}
+use Rattle.bus_rows.specs.Timed.{Timed, rows_in}
+use Rattle.service_alone.specs.Calm.{end_of}
 use Rattle.service_calm.specs.Calm.{Member as OfMember, no_traffic}
 use Rattle.service_device.specs.AskingKnown.{WhoFollowsFallsSilent}
 use Rattle.service_device.proofs.SilentRows.{GoesOn, falls_silent, goes_on}

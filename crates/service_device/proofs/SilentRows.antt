@@ -15,7 +15,8 @@ use Rattle.alloc_spec.specs.Transfers.{Offer, ident_of}
 use Rattle.alloc_spec_laws.proofs.Choices.{eq_true, lt_tells, tell}
 use Rattle.alloc_spec_laws.specs.Sound.{IsOnTheBus}
 use Rattle.bus_agreement.proofs.RowsWithoutEvents.{left_in_queue}
-use Rattle.service_alone.specs.Calm.{Pace, Timed, end_of, queue_of, rows_in, waits_after}
+use Rattle.bus_rows.specs.Timed.{Timed, rows_in}
+use Rattle.service_alone.specs.Calm.{Pace, end_of, queue_of, waits_after}
 use Rattle.service_alone.proofs.Members.{IsUp, steps_up}
 use Rattle.service_calm.specs.Calm.{AreCalm, IsCalmRow, IsInTime, Member as OfMember, Party, Traffic, traffic_after}
 use Rattle.service_calm.proofs.Group.{AreWell, CalmLaws, IsServer, IsWell, narrow_on_bus, server_sent, server_stepped, up_sent, well_after}

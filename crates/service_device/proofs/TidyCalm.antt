@@ -8,7 +8,8 @@ use Rattle.alloc_spec.specs.AllocatorState.{AllocatorState}
 use Rattle.alloc_spec.specs.Step.{after_pop, step}
 use Rattle.alloc_spec.specs.Step as server
 use Rattle.alloc_spec_laws.proofs.Choices.{eq_false}
-use Rattle.service_alone.specs.Calm.{Pace, Timed}
+use Rattle.bus_rows.specs.Timed.{Timed}
+use Rattle.service_alone.specs.Calm.{Pace}
 use Rattle.service_calm.specs.Calm.{AreCalm, IsCalmRow, Member as OfMember, Party, Traffic, traffic_after}
 use Rattle.service_calm.proofs.Group.{AreWell, CalmLaws, narrow_on_bus, sent_anonymous, well_after}
 use Rattle.service_device.specs.Settled.{IsAsked, IsNotAsked, MissesNobody, NobodyAsks, NobodyIsMissed}

@@ -12,7 +12,8 @@ use Rattle.alloc_spec.specs.AllocatorState.{AllocatorState, members_of}
 use Rattle.alloc_spec.specs.Step.{Event, after_pop, moment_of, step}
 use Rattle.alloc_spec.specs.Step as server
 use Rattle.alloc_spec_laws.specs.Sound.{IsOnTheBus}
-use Rattle.service_alone.specs.Calm.{Pace, Timed, end_of, rows_in}
+use Rattle.bus_rows.specs.Timed.{Timed, rows_in}
+use Rattle.service_alone.specs.Calm.{Pace, end_of}
 use Rattle.service_calm.specs.Calm.{AreCalm, Device as OfDevice, IsCalmRow, IsInTime, Member as OfMember, Party, Traffic, traffic_after}
 use Rattle.service_calm.proofs.Calls.{on_list}
 use Rattle.service_calm.proofs.Group.{AreWell, CalmLaws, narrow_on_bus}

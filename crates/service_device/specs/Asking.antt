@@ -6,7 +6,8 @@ use Rattle.raft_model.specs.Lists.{In}
 use Rattle.bus_rows.specs.declared.row.Row.{Row}
 use Rattle.allocatee.specs.Allocatee.{Device}
 use Rattle.alloc_spec.specs.Transfers.{id_of}
-use Rattle.service_alone.specs.Calm.{HasSettled, Pace, Timed, end_of, rows_in}
+use Rattle.bus_rows.specs.Timed.{Timed, rows_in}
+use Rattle.service_alone.specs.Calm.{HasSettled, Pace, end_of}
 use Rattle.service_calm.specs.Calm.{Device as OfDevice, Member, Party}
 use Rattle.service_calm.specs.Devices.{AllocationMayBegin, AreReadyToTell, SendsShortAllocations}
 use Rattle.service_device.specs.Dialog.{HasNothingToSay, HaveRoom, HearsWhole, HearsWholeBy}

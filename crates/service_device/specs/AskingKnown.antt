@@ -8,7 +8,8 @@ use Rattle.can_frame.specs.Timing.{call_timeout, stage_timeout, transfer_timeout
 use Rattle.raft_model.specs.Lists.{In}
 use Rattle.bus_rows.specs.declared.row.Row.{Row}
 use Rattle.alloc_spec.specs.AllocatorState.{AllocatorState}
-use Rattle.service_alone.specs.Calm.{Pace, Timed, end_of, rows_in}
+use Rattle.bus_rows.specs.Timed.{Timed, rows_in}
+use Rattle.service_alone.specs.Calm.{Pace, end_of}
 use Rattle.service_leader.specs.LeadsOn.{IsLedThroughout}
 use Rattle.service_leader.specs.NoElection.{CallsFit}
 use Rattle.service_device.specs.Asking.{HasIdBy, IsAsking, RecordsBy}

@@ -7,7 +7,8 @@ use Rattle.raft_model.specs.Lists.{In, how_many}
 use Rattle.raft_model.specs.Server.{quorum}
 use Rattle.bus_rows.specs.declared.row.Row.{Row}
 use Rattle.alloc_spec.specs.Transfers.{id_of}
-use Rattle.service_alone.specs.Calm.{Pace, Timed, end_of, rows_in}
+use Rattle.bus_rows.specs.Timed.{Timed, rows_in}
+use Rattle.service_alone.specs.Calm.{Pace, end_of}
 use Rattle.service_calm.specs.Calm.{Device as OfDevice, Member, Party}
 use Rattle.service_calm.specs.Comes.{Throughout}
 use Rattle.service_calm.specs.Devices.{AllocationMayBegin, AreReadyToTell, DeviceHasMemory, SendsShortAllocations}

@@ -15,7 +15,8 @@ use Rattle.allocatee.specs.Allocatee.{Device, opening}
 use Rattle.alloc_spec.specs.AllocatorState.{AllocatorState}
 use Rattle.alloc_spec.specs.Transfers.{ident_of, queue_places}
 use Rattle.service_steps.specs.Requests.{IsRequest}
-use Rattle.service_alone.specs.Calm.{HasSettled, Pace, Timed, end_of, rows_in}
+use Rattle.bus_rows.specs.Timed.{Timed, rows_in}
+use Rattle.service_alone.specs.Calm.{HasSettled, Pace, end_of}
 use Rattle.service_calm.specs.Calm.{Device as OfDevice, Member, Party}
 use Rattle.service_calm.specs.Comes.{Throughout}
 use Rattle.service_calm.specs.Devices.{DeviceHasMemory}

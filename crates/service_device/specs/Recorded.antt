@@ -16,7 +16,8 @@ use Rattle.bus_rows.specs.declared.row.Row.{Row}
 use Rattle.alloc_spec.specs.AllocatorState.{AllocatorState, is_known, start_of}
 use Rattle.alloc_spec.specs.Exchange.{may_follow}
 use Rattle.service_steps.specs.Serving.{MayRecord}
-use Rattle.service_alone.specs.Calm.{Pace, Timed, end_of, rows_in}
+use Rattle.bus_rows.specs.Timed.{Timed, rows_in}
+use Rattle.service_alone.specs.Calm.{Pace, end_of}
 use Rattle.service_calm.specs.Calm.{Member, Party}
 use Rattle.service_calm.specs.Comes.{Throughout}
 use Rattle.service_device.specs.Settled.{IsAsked, IsCalmUnder, IsNotAsked, IsSettled, NobodyAsks}

@@ -14,7 +14,8 @@ use Rattle.allocatee.specs.Asking.{Asking}
 use Rattle.alloc_spec.specs.Transfers.{SentTransfer}
 use Rattle.alloc_spec.specs.AllocatorState.{AllocatorState}
 use Rattle.service_steps.specs.Requests.{IsRequest}
-use Rattle.service_alone.specs.Calm.{Pace, Timed, rows_in}
+use Rattle.bus_rows.specs.Timed.{Timed, rows_in}
+use Rattle.service_alone.specs.Calm.{Pace}
 use Rattle.service_calm.specs.Calm.{AreCalm, AreRunning, Device as OfDevice, Member, Party, no_traffic}
 use Rattle.service_device.specs.Settled.{IsAsked}
 use Rattle.bus_spec.specs.Cluster.{Cluster, after_rows, arrival_at, cluster, world_of}

@@ -14,7 +14,8 @@ use Rattle.alloc_spec.specs.Exchange.{allocation_payload}
 use Rattle.alloc_spec.specs.Step.{Event, step}
 use Rattle.alloc_spec.specs.Transfers.{Offer}
 use Rattle.bus_agreement.specs.Allocatees.{Holds}
-use Rattle.service_alone.specs.Calm.{HasSettled, Pace, Timed, end_of, rows_in}
+use Rattle.bus_rows.specs.Timed.{Timed, rows_in}
+use Rattle.service_alone.specs.Calm.{HasSettled, Pace, end_of}
 use Rattle.service_calm.specs.Calm.{Member, Party}
 use Rattle.service_calm.specs.Calls.{Lists}
 use Rattle.service_device.specs.Dialog.{HasJustCome, HaveRoom, time_to_be_heard}

@@ -6,7 +6,8 @@ use Rattle.can_frame.specs.declared.entry.Entry.{Entry}
 use Rattle.can_frame.specs.Log.{log_limit}
 use Rattle.bus_rows.specs.declared.row.Row.{Row}
 use Rattle.bus_rows.specs.declared.row.Row.TheVariants.{AOpen, ARx, ASend, ATick, Open, Rx, Send, Tick}
-use Rattle.service_alone.specs.Calm.{Pace, Timed, end_of}
+use Rattle.bus_rows.specs.Timed.{Timed}
+use Rattle.service_alone.specs.Calm.{Pace, end_of}
 use Rattle.service_calm.specs.CalmExample.{clocks, group, receiver, sender, some_uid, two}
 use Rattle.service_calm.specs.Devices.{SendsShortAllocations}
 use Rattle.service_leader.specs.NoElection.{CallsFit}

@@ -7,7 +7,8 @@ use Rattle.bus_rows.specs.declared.row.Row.{Row}
 use Rattle.alloc_spec.specs.AllocatorState.{AllocatorState}
 use Rattle.alloc_spec.specs.Step.{Event}
 use Rattle.alloc_spec_laws.specs.Phases.{has_room_to_tell, when_committed}
-use Rattle.service_alone.specs.Calm.{HasSettled, Pace, Timed, end_of, rows_in}
+use Rattle.bus_rows.specs.Timed.{Timed, rows_in}
+use Rattle.service_alone.specs.Calm.{HasSettled, Pace, end_of}
 use Rattle.service_calm.specs.Calm.{Member, Party}
 use Rattle.service_leader.specs.NoElection.{CallsFit}
 use Rattle.service_device.specs.Dialog.{HasJustCome, HaveRoom}

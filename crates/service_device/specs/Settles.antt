@@ -15,7 +15,8 @@ use Rattle.raft_model.specs.Server.Role.{Leader}
 use Rattle.bus_rows.specs.declared.row.Row.{Row}
 use Rattle.alloc_spec.specs.AllocatorState.{AllocatorState, is_known, start_of}
 use Rattle.alloc_spec_laws.specs.Blanks.{IsHeard}
-use Rattle.service_alone.specs.Calm.{HasSettled, Pace, Timed, end_of, rows_in}
+use Rattle.bus_rows.specs.Timed.{Timed, rows_in}
+use Rattle.service_alone.specs.Calm.{HasSettled, Pace, end_of}
 use Rattle.service_calm.specs.Calm.{Member, Party}
 use Rattle.service_leader.specs.Entries.{KeepsCalling, calls_left, come_within, is_one_of}
 use Rattle.service_leader.specs.NoElection.{CallsFit}

@@ -18,7 +18,8 @@ use Rattle.transfer_tx.specs.Run.{of_identifier}
 use Rattle.alloc_spec.specs.AllocatorState.{AllocatorState, knows_all, members_of, start_of}
 use Rattle.alloc_spec.specs.Rules.{opening_by}
 use Rattle.alloc_spec.specs.Transfers.{ident_of}
-use Rattle.service_alone.specs.Calm.{Pace, Timed, end_of, rows_in}
+use Rattle.bus_rows.specs.Timed.{Timed, rows_in}
+use Rattle.service_alone.specs.Calm.{Pace, end_of}
 use Rattle.service_calm.specs.Calm.{AreCalm, Device, IsRunning, Member, Party, no_traffic}
 use Rattle.service_calm.specs.Calls.{Lists}
 use Rattle.service_device.specs.Recorded.{LeadsWith}

@@ -12,7 +12,8 @@ use Rattle.alloc_spec.specs.Accepted.{rows, setting_for}
 use Rattle.alloc_spec.specs.AllocatorState.{AllocatorState}
 use Rattle.alloc_spec.specs.Transfers.{ident_of}
 use Rattle.bus_agreement.proofs.Idents.{IsWanted, ident_ok}
-use Rattle.service_alone.specs.Calm.{Pace, Timed}
+use Rattle.bus_rows.specs.Timed.{Timed}
+use Rattle.service_alone.specs.Calm.{Pace}
 use Rattle.service_leader.proofs.HeardIdents.{is_wanted, not_own}
 use Rattle.service_leader.proofs.LeadsOnWays.{IsCalmOn, next_of_group}
 use Rattle.service_leader.proofs.TermsHeard.{IsOfGroup}

@@ -16,7 +16,7 @@ use Rattle.alloc_spec.specs.Transfers.{SentTransfer}
 use Rattle.alloc_spec_laws.specs.Phases.{when_told}
 use Rattle.alloc_spec_laws.proofs.Peers.{list_peers, members_list}
 use Rattle.service_steps.specs.InTime.{NoCallIsOld}
-use Rattle.service_alone.specs.Calm.{Timed}
+use Rattle.bus_rows.specs.Timed.{Timed}
 use Rattle.service_candidate.specs.Votes.{Stands, VoteComes, VotesComeBack, WaitsForVote}
 use Rattle.service_candidate.specs.Wins.{OffersVoteRequest}
 use Rattle.service_candidate.proofs.WhoAsks.{who_asks_stands}

@@ -8,7 +8,8 @@ use Rattle.raft_model.specs.Server.Role.{Candidate, Follower, Leader}
 use Rattle.bus_rows.specs.declared.row.Row.{Row}
 use Rattle.alloc_spec.specs.AllocatorState.{AllocatorState}
 use Rattle.cluster_discovery.specs.Members.{Event as Discovered, IsMemberList, IsStart, Start, members}
-use Rattle.service_alone.specs.Calm.{Pace, Timed, end_of, rows_in}
+use Rattle.bus_rows.specs.Timed.{Timed, rows_in}
+use Rattle.service_alone.specs.Calm.{Pace, end_of}
 use Rattle.service_candidate.specs.Votes.{Stands}
 use Rattle.service_candidate.proofs.RowsLeave.{row_leaves}
 use Rattle.service_candidate.proofs.TermsSteps.{stands_or_stays}

@@ -18,7 +18,7 @@ use Rattle.alloc_spec.specs.Transfers.{Offer, SentTransfer}
 use Rattle.alloc_spec_laws.specs.Phases.{when_told}
 use Rattle.alloc_spec_laws.proofs.Choices.{either}
 use Rattle.service_steps.specs.InTime.{NoCallIsOld}
-use Rattle.service_alone.specs.Calm.{Timed, rows_in}
+use Rattle.bus_rows.specs.Timed.{Timed, rows_in}
 use Rattle.service_alone.proofs.Members.{IsUp}
 use Rattle.service_candidate.specs.Votes.{AsksFor, CanAsk, Stands, WaitsForVote}
 use Rattle.service_candidate.specs.Wins.{VoteRequestsFit}

@@ -15,7 +15,8 @@ use Rattle.alloc_spec.specs.Step.{Event, step}
 use Rattle.alloc_spec.specs.Transfers.{Offer, SentTransfer}
 use Rattle.alloc_spec_laws.specs.Phases.{when_told}
 use Rattle.alloc_spec_laws.proofs.Lists.{in_back}
-use Rattle.service_alone.specs.Calm.{Timed, end_of, rows_in}
+use Rattle.bus_rows.specs.Timed.{Timed, rows_in}
+use Rattle.service_alone.specs.Calm.{end_of}
 use Rattle.service_alone.proofs.Members.{IsUp}
 use Rattle.service_candidate.specs.Votes.{CanAsk, VoteAnswersAsSaid, VoteComesBack, VoteReadsAsSaid, VotesComeBack, WaitsForVote}
 use Rattle.service_candidate.proofs.VotesAsked.{vote_sent}

@@ -13,7 +13,8 @@ use Rattle.alloc_spec.specs.Accepted.{setting_for}
 use Rattle.alloc_spec.specs.AllocatorState.{AllocatorState}
 use Rattle.alloc_spec_laws.proofs.Lists.{in_back, in_front}
 use Rattle.bus_agreement.proofs.TakenMessages.{is_vote}
-use Rattle.service_alone.specs.Calm.{Timed, end_of}
+use Rattle.bus_rows.specs.Timed.{Timed}
+use Rattle.service_alone.specs.Calm.{end_of}
 use Rattle.service_candidate.specs.Votes.{AsksFor, Stands, VoteComes}
 use Rattle.service_candidate.specs.Wins.{OffersVoteRequest}
 use Rattle.service_candidate.proofs.ResponsesDelivered.{IsWhole}

@@ -2,7 +2,7 @@
 use Rattle.std.proofs.Common.{◌≡◌, ℕ, ◌≤◌, List, [], ◌++◌, length, append_assoc, append-nil, sym, ◌∙◌, ap, subst, ◌+◌}
 use Rattle.raft_model.specs.Lists.{In}
 use Rattle.alloc_spec.specs.AllocatorState.{AllocatorState}
-use Rattle.service_alone.specs.Calm.{Timed}
+use Rattle.bus_rows.specs.Timed.{Timed}
 use Rattle.service_leader.specs.CallsComeBack.{LeadsIfUp}
 use Rattle.service_leader.specs.Entries.{PendsSince}
 use Rattle.service_leader.specs.EntriesBelow.{EntryLaws}

@@ -5,7 +5,8 @@ use Rattle.can_frame.specs.Timing.{call_timeout}
 use Rattle.raft_model.specs.Lists.{In}
 use Rattle.raft_model.specs.Messages.{Request}
 use Rattle.alloc_spec.specs.AllocatorState.{AllocatorState}
-use Rattle.service_alone.specs.Calm.{Timed, end_of}
+use Rattle.bus_rows.specs.Timed.{Timed}
+use Rattle.service_alone.specs.Calm.{end_of}
 use Rattle.service_leader.proofs.EntriesParts.{rows_counted}
 use Rattle.service_leader.specs.Answers.{AnswersAreTaken}
 use Rattle.service_leader.specs.EntriesBelow.{EntryLaws}

@@ -5,7 +5,8 @@ use Rattle.raft_model.specs.Lists.{In}
 use Rattle.bus_rows.specs.declared.row.Row.{Row}
 use Rattle.alloc_spec.specs.AllocatorState.{AllocatorState}
 use Rattle.bus_agreement.proofs.Concatenations.{first_harmless, row_harmless}
-use Rattle.service_alone.specs.Calm.{Pace, Timed, end_of, rows_in}
+use Rattle.bus_rows.specs.Timed.{Timed, rows_in}
+use Rattle.service_alone.specs.Calm.{Pace, end_of}
 use Rattle.service_leader.proofs.Stretches.{GoesOnFrom, calm_first, calm_rest, in_between, not_before, rows_both, world_both}
 use Rattle.service_elections.specs.Running.{IsCalmOf}
 use Rattle.service_calm.specs.Calm.{IsRunning, Member as OfMember, Party, no_traffic}

@@ -11,7 +11,8 @@ use Rattle.bus_rows.specs.declared.row.Row.{Row}
 use Rattle.alloc_spec.specs.AllocatorState.{AllocatorState}
 use Rattle.alloc_spec.specs.Step.{step}
 use Rattle.bus_agreement.proofs.TakenMessages.{is_append_request}
-use Rattle.service_alone.specs.Calm.{Pace, Timed, rows_in}
+use Rattle.bus_rows.specs.Timed.{Timed, rows_in}
+use Rattle.service_alone.specs.Calm.{Pace}
 use Rattle.service_calm.specs.Calls.{CallsReadAsSaid, ReadsAsSaid}
 use Rattle.service_calm.specs.Calm.{Member as OfMember, Party}
 use Rattle.service_calm.specs.Comes.{sent_by}

@@ -23,7 +23,8 @@ use Rattle.bus_agreement.proofs.Concatenations.{first_harmless, row_harmless}
 use Rattle.bus_agreement.proofs.Idents.{IsWanted, ident_ok, service_is}
 use Rattle.service_leader.proofs.HeardIdents.{is_wanted, not_own}
 use Rattle.bus_agreement.proofs.WholeTransfers.{members_own}
-use Rattle.service_alone.specs.Calm.{Pace, Timed, rows_in}
+use Rattle.bus_rows.specs.Timed.{Timed, rows_in}
+use Rattle.service_alone.specs.Calm.{Pace}
 use Rattle.service_alone.proofs.Goes.{after_both}
 use Rattle.service_alone.proofs.Members.{IsUp}
 use Rattle.service_calm.specs.Calm.{AreCalm, IsCalmRow, IsRunning, Member as OfMember, Party, no_traffic}

@@ -18,7 +18,8 @@ use Rattle.alloc_spec_laws.proofs.Choices.{lt_tells}
 use Rattle.bus_agreement.proofs.Lists.{in_append}
 use Rattle.bus_agreement.proofs.MadeTransfers.{frame_put}
 use Rattle.bus_agreement.proofs.RowsWithoutEvents.{out_of_queue}
-use Rattle.service_alone.specs.Calm.{Pace, Timed, queue_of, rows_in, waits_after}
+use Rattle.bus_rows.specs.Timed.{Timed, rows_in}
+use Rattle.service_alone.specs.Calm.{Pace, queue_of, waits_after}
 use Rattle.service_calm.specs.Calm.{AreCalm, Member as OfMember, Party, Traffic, no_traffic, queue_in, traffic_after}
 use Rattle.service_calm.proofs.Group.{AreWell, CalmLaws, IsOf, sent_anonymous, sent_own, well_after}
 use Rattle.service_candidate.proofs.LogsFrames.{none_has}

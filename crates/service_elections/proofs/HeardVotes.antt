@@ -11,7 +11,8 @@ use Rattle.alloc_spec.specs.Accepted.{setting_for}
 use Rattle.alloc_spec.specs.AllocatorState.{AllocatorState}
 use Rattle.alloc_spec.specs.Step.{step}
 use Rattle.bus_agreement.proofs.TakenMessages.{is_vote_request}
-use Rattle.service_alone.specs.Calm.{Pace, Timed, rows_in}
+use Rattle.bus_rows.specs.Timed.{Timed, rows_in}
+use Rattle.service_alone.specs.Calm.{Pace}
 use Rattle.service_calm.specs.Calm.{Member as OfMember, Party}
 use Rattle.service_calm.specs.Comes.{sent_by}
 use Rattle.service_candidate.specs.Votes.{VoteReadsAsSaid, VoteRequestsReadAsSaid}

@@ -5,7 +5,7 @@ use Rattle.raft_model.specs.Lists.{In}
 use Rattle.bus_rows.specs.declared.row.Row.{Row}
 use Rattle.bus_rows.specs.declared.row.Row.TheVariants.{Tick}
 use Rattle.alloc_spec.specs.AllocatorState.{AllocatorState}
-use Rattle.service_alone.specs.Calm.{Timed}
+use Rattle.bus_rows.specs.Timed.{Timed}
 use Rattle.service_calm.specs.Calm.{Member as OfMember}
 use Rattle.service_calm.proofs.CallsKept.{RunsWith}
 use Rattle.service_calm.proofs.Pair.{same_server}

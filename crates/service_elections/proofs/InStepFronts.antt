@@ -5,7 +5,8 @@ use Rattle.raft_model.specs.Lists.{In}
 use Rattle.bus_rows.specs.declared.row.Row.{Row}
 use Rattle.alloc_spec.specs.AllocatorState.{AllocatorState, knows_all, members_of}
 use Rattle.alloc_spec.specs.Step.{Event, step}
-use Rattle.service_alone.specs.Calm.{Timed, end_of, rows_in}
+use Rattle.bus_rows.specs.Timed.{Timed, rows_in}
+use Rattle.service_alone.specs.Calm.{end_of}
 use Rattle.service_calm.specs.Calm.{IsCalmRow, Member as OfMember}
 use Rattle.service_calm.proofs.Calls.{Always}
 use Rattle.service_calm.proofs.CallsKept.{IsKept, RunsWith, further}

@@ -13,7 +13,8 @@ use Rattle.bus_rows.specs.declared.row.Row.{Row}
 use Rattle.alloc_spec.specs.AllocatorState.{AllocatorState, knows_all, members_of}
 use Rattle.alloc_spec.specs.Step.{Event, step}
 use Rattle.service_steps.specs.InTime.{FramesLeaveFollowers}
-use Rattle.service_alone.specs.Calm.{Pace, Timed, end_of}
+use Rattle.bus_rows.specs.Timed.{Timed}
+use Rattle.service_alone.specs.Calm.{Pace, end_of}
 use Rattle.service_calm.specs.Calls.{ListsStay}
 use Rattle.service_calm.specs.Calm.{AreCalm, IsRunning, Member as OfMember, Party, Traffic}
 use Rattle.service_calm.specs.Comes.{Throughout}

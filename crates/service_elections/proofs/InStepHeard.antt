@@ -7,7 +7,8 @@ use Rattle.raft_model.specs.Messages.{Request}
 use Rattle.bus_rows.specs.declared.row.Row.{Row}
 use Rattle.alloc_spec.specs.AllocatorState.{AllocatorState, members_of}
 use Rattle.alloc_spec.specs.Step.{step}
-use Rattle.service_alone.specs.Calm.{Timed, end_of, rows_in}
+use Rattle.bus_rows.specs.Timed.{Timed, rows_in}
+use Rattle.service_alone.specs.Calm.{end_of}
 use Rattle.service_alone.proofs.Members.{IsQuiet, IsUp}
 use Rattle.service_calm.specs.Calm.{Member as OfMember, no_traffic}
 use Rattle.service_calm.specs.Comes.{Sends, sent_by}

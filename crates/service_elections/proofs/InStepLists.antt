@@ -2,7 +2,7 @@
 use Rattle.std.proofs.Common.{◌≡◌, List, [], ◌∷◌, ◌++◌, drop, inl, inr, refl, sym, ◌∙◌, ap}
 use Rattle.std.specs.Prelude.{slice_index_or}
 use Rattle.std.proofs.lemmas.List.{append_assoc, append-nil}
-use Rattle.service_alone.specs.Calm.{Timed}
+use Rattle.bus_rows.specs.Timed.{Timed}
 use Rattle.service_candidate.proofs.WinsFronts.{part_of}
 
 -- the first of these rows, or this one where there is none

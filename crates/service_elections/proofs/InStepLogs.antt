@@ -7,7 +7,8 @@ use Rattle.raft_model.specs.Server.Role.{Leader}
 use Rattle.transfer_rx.specs.Reassembly.{Arrival}
 use Rattle.alloc_spec.specs.AllocatorState.{AllocatorState}
 use Rattle.alloc_spec.specs.Step.Event.{Rx, Tick}
-use Rattle.service_alone.specs.Calm.{Timed, end_of}
+use Rattle.bus_rows.specs.Timed.{Timed}
+use Rattle.service_alone.specs.Calm.{end_of}
 use Rattle.service_calm.specs.Calm.{Member as OfMember}
 use Rattle.service_steps.specs.InTime.{HearsLeader}
 use Rattle.service_leader.specs.LeadsOn.{LeadsIn}

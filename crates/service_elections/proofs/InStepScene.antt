@@ -4,7 +4,8 @@ use Rattle.std.specs.Prelude.{◌⊎◌}
 use Rattle.raft_model.specs.Lists.{In}
 use Rattle.raft_model.specs.Server.Role.{Follower, Leader}
 use Rattle.alloc_spec.specs.AllocatorState.{AllocatorState}
-use Rattle.service_alone.specs.Calm.{Timed, end_of, rows_in}
+use Rattle.bus_rows.specs.Timed.{Timed, rows_in}
+use Rattle.service_alone.specs.Calm.{end_of}
 use Rattle.service_calm.specs.Calm.{Member as OfMember}
 use Rattle.service_leader.specs.LeadsOn.{LeadsIn}
 use Rattle.service_leader.specs.NoElection.{NoElection}

@@ -7,7 +7,8 @@ use Rattle.raft_core.specs.Times.{wait}
 use Rattle.raft_model.specs.Lists.{In}
 use Rattle.raft_model.specs.Server.Role.{Follower}
 use Rattle.alloc_spec.specs.AllocatorState.{AllocatorState}
-use Rattle.service_alone.specs.Calm.{Timed, end_of, rows_in}
+use Rattle.bus_rows.specs.Timed.{Timed, rows_in}
+use Rattle.service_alone.specs.Calm.{end_of}
 use Rattle.service_calm.specs.Calm.{Member as OfMember}
 use Rattle.service_calm.specs.Comes.{Throughout}
 use Rattle.service_calm.proofs.CallsKept.{RunsWith}

@@ -11,7 +11,8 @@ use Rattle.raft_model.specs.Messages.{Request}
 use Rattle.raft_model.specs.Moves.Elections.{IsGranted, with_term}
 use Rattle.raft_model.specs.Server.{Store}
 use Rattle.alloc_spec.specs.AllocatorState.{AllocatorState}
-use Rattle.service_alone.specs.Calm.{Timed, end_of}
+use Rattle.bus_rows.specs.Timed.{Timed}
+use Rattle.service_alone.specs.Calm.{end_of}
 use Rattle.service_calm.specs.Calm.{Member as OfMember}
 use Rattle.service_calm.proofs.Pair.{same_server}
 use Rattle.service_leader.proofs.Stretches.{end_both}

@@ -8,7 +8,7 @@ use Rattle.bus_rows.specs.declared.row.Row.{Row}
 use Rattle.alloc_spec.specs.AllocatorState.{AllocatorState}
 use Rattle.alloc_spec.specs.Step.{step}
 use Rattle.service_steps.proofs.LeadsOn.{leads_on_at_ticks}
-use Rattle.service_alone.specs.Calm.{Timed, rows_in}
+use Rattle.bus_rows.specs.Timed.{Timed, rows_in}
 use Rattle.service_candidate.specs.Votes.{Stands}
 use Rattle.service_candidate.proofs.RowsLeave.{ticked}
 use Rattle.service_candidate.proofs.WinsLead.{no_candidate}

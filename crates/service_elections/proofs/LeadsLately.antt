@@ -7,7 +7,8 @@ use Rattle.raft_model.specs.Lists.{In}
 use Rattle.bus_rows.specs.declared.row.Row.{Row}
 use Rattle.alloc_spec.specs.AllocatorState.{AllocatorState}
 use Rattle.bus_agreement.proofs.Concatenations.{first_harmless}
-use Rattle.service_alone.specs.Calm.{Pace, Timed, rows_in}
+use Rattle.bus_rows.specs.Timed.{Timed, rows_in}
+use Rattle.service_alone.specs.Calm.{Pace}
 use Rattle.service_leader.specs.NoElection.{CallsFit, ClocksGoOn, greatest_wait, heard_within}
 use Rattle.service_leader.proofs.NextCall.{CallLaws, FollowsLately, HearsCalls, IsHeeded, follows_lately}
 use Rattle.service_leader.proofs.Stretches.{GoesOnFrom, calm_first, fits_front, rows_both}

@@ -9,7 +9,8 @@ use Rattle.raft_model.specs.Server.Role.{Leader}
 use Rattle.bus_rows.specs.declared.row.Row.{Row}
 use Rattle.alloc_spec.specs.AllocatorState.{AllocatorState}
 use Rattle.alloc_spec_laws.proofs.Lists.{in_back}
-use Rattle.service_alone.specs.Calm.{Pace, Timed, end_of, rows_in}
+use Rattle.bus_rows.specs.Timed.{Timed, rows_in}
+use Rattle.service_alone.specs.Calm.{Pace, end_of}
 use Rattle.service_candidate.specs.Terms.{AreWithin}
 use Rattle.service_candidate.specs.Votes.{Stands}
 use Rattle.service_candidate.proofs.WinsLead.{no_candidate}

@@ -36,7 +36,8 @@ use Rattle.service_calm.specs.Comes.{Sends, sent_by}
 use Rattle.service_calm.proofs.Group.{AreWell, CalmLaws, IsWell}
 use Rattle.service_calm.proofs.Pair.{same_server}
 use Rattle.service_calm.proofs.Pending.{Made}
-use Rattle.service_alone.specs.Calm.{Pace, Timed, rows_in}
+use Rattle.bus_rows.specs.Timed.{Timed, rows_in}
+use Rattle.service_alone.specs.Calm.{Pace}
 use Rattle.service_alone.proofs.Members.{IsQuiet}
 use Rattle.bus_spec.specs.Cluster.{Cluster, after_row, after_rows, receipt_of, world_of}
 use Rattle.bus_spec.specs.Members.MemberStatus.{Up}

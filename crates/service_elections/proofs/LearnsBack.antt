@@ -20,7 +20,8 @@ use Rattle.service_calm.specs.Comes.{Delivers, Sends, sent_by}
 use Rattle.service_calm.proofs.Group.{IsWell}
 use Rattle.service_calm.proofs.Pair.{same_server}
 use Rattle.service_calm.proofs.Pending.{Made}
-use Rattle.service_alone.specs.Calm.{Pace, Timed, rows_in}
+use Rattle.bus_rows.specs.Timed.{Timed, rows_in}
+use Rattle.service_alone.specs.Calm.{Pace}
 use Rattle.bus_spec.specs.Cluster.{Cluster, after_row, after_rows, receipt_of, step_of}
 use Rattle.bus_spec.specs.Members.MemberStatus.{Up}
 

@@ -35,7 +35,8 @@ use Rattle.service_calm.proofs.Counting.{now_after}
 use Rattle.service_calm.proofs.Group.{AreWell, CalmLaws, IsWell, well_after}
 use Rattle.service_calm.proofs.Pair.{same_server}
 use Rattle.service_calm.proofs.Pending.{Made}
-use Rattle.service_alone.specs.Calm.{Pace, Timed, rows_in}
+use Rattle.bus_rows.specs.Timed.{Timed, rows_in}
+use Rattle.service_alone.specs.Calm.{Pace}
 use Rattle.bus_spec.specs.Cluster.{Cluster, after_row, arrival_at, frame_at, receipt_of, tick_of}
 use Rattle.bus_spec.specs.Lawful.{DoNoHarm}
 use Rattle.bus_spec.specs.Members.MemberStatus.{Up}

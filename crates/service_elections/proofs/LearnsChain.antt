@@ -19,7 +19,8 @@ use Rattle.service_calm.specs.Comes.{Sends, sent_by}
 use Rattle.service_calm.proofs.Counting.{Follow}
 use Rattle.service_calm.proofs.Follows.{apart_next}
 use Rattle.service_calm.proofs.Pending.{Made}
-use Rattle.service_alone.specs.Calm.{Pace, Timed}
+use Rattle.bus_rows.specs.Timed.{Timed}
+use Rattle.service_alone.specs.Calm.{Pace}
 use Rattle.bus_spec.specs.Cluster.{Cluster, after_row, arrival_at, frame_at}
 use Rattle.bus_spec.specs.Members.MemberStatus.{Up}
 

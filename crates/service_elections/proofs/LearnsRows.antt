@@ -16,7 +16,8 @@ use Rattle.service_candidate.proofs.WaitsTicks.{tick_leaves}
 use Rattle.service_calm.specs.Calm.{IsCalmRow, Member as OfMember, Party, Traffic}
 use Rattle.service_calm.proofs.Counting.{now_after}
 use Rattle.service_calm.proofs.Pair.{same_event, same_server, same_stepper}
-use Rattle.service_alone.specs.Calm.{Pace, Timed}
+use Rattle.bus_rows.specs.Timed.{Timed}
+use Rattle.service_alone.specs.Calm.{Pace}
 use Rattle.service_alone.proofs.Members.{IsQuiet}
 use Rattle.bus_spec.specs.Cluster.{Cluster, after_row, arrival_at, frame_at, receipt_of, step_of, tick_of}
 use Rattle.bus_spec.specs.Lawful.{DoesNoHarm}

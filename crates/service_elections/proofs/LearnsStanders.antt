@@ -26,7 +26,8 @@ use Rattle.service_calm.specs.CallsInTime.{OffersCall}
 use Rattle.service_calm.proofs.Calls.{lists_on}
 use Rattle.service_calm.proofs.Group.{AreWell, CalmLaws, IsWell, well_after}
 use Rattle.service_calm.proofs.Pair.{same_server}
-use Rattle.service_alone.specs.Calm.{Pace, Timed, rows_in}
+use Rattle.bus_rows.specs.Timed.{Timed, rows_in}
+use Rattle.service_alone.specs.Calm.{Pace}
 use Rattle.bus_spec.specs.Cluster.{Cluster, after_row, after_rows, cluster, step_of, tick_of, world_of}
 use Rattle.bus_spec.specs.Lawful.{DoNoHarm, DoesNoHarm}
 use Rattle.bus_spec.specs.Members.MemberStatus.{Up}

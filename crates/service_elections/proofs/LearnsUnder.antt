@@ -23,7 +23,8 @@ use Rattle.service_calm.proofs.Counting.{Follow}
 use Rattle.service_calm.proofs.Follows.{apart_next}
 use Rattle.service_calm.proofs.Pair.{same_stepper}
 use Rattle.service_calm.proofs.Pending.{Made}
-use Rattle.service_alone.specs.Calm.{Pace, Timed}
+use Rattle.bus_rows.specs.Timed.{Timed}
+use Rattle.service_alone.specs.Calm.{Pace}
 use Rattle.bus_spec.specs.Cluster.{Cluster, after_row, receipt_of, step_of}
 
 module _ (both : Exchange) (Open : Made → AllocatorState → Type 0) (quick : 4 * both.pace.delay < 1000) where

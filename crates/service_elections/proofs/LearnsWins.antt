@@ -17,7 +17,8 @@ use Rattle.service_calm.specs.CallsInTime.{OffersCall}
 use Rattle.service_calm.proofs.CallsOffered.{Offered, step_keeps_calls, touches_after}
 use Rattle.service_calm.proofs.Group.{AreWell, CalmLaws, IsWell, well_after}
 use Rattle.service_calm.proofs.Pair.{same_server}
-use Rattle.service_alone.specs.Calm.{Pace, Timed, end_of, rows_in}
+use Rattle.bus_rows.specs.Timed.{Timed, rows_in}
+use Rattle.service_alone.specs.Calm.{Pace, end_of}
 use Rattle.bus_spec.specs.Cluster.{Cluster, after_row, after_rows, step_of}
 use Rattle.bus_spec.specs.Members.MemberStatus.{Up}
 

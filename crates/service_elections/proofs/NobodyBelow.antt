@@ -7,7 +7,8 @@ use Rattle.can_frame.specs.Timing.{call_timeout}
 use Rattle.raft_model.specs.Lists.{In}
 use Rattle.bus_rows.specs.declared.row.Row.{Row}
 use Rattle.alloc_spec.specs.AllocatorState.{AllocatorState}
-use Rattle.service_alone.specs.Calm.{Timed, end_of, rows_in}
+use Rattle.bus_rows.specs.Timed.{Timed, rows_in}
+use Rattle.service_alone.specs.Calm.{end_of}
 use Rattle.service_calm.specs.Calls.{ListsStay}
 use Rattle.service_calm.specs.CallsInTime.{LeadersCallInTime, OffersCall, OffersCallBy}
 use Rattle.service_calm.specs.Calm.{Member as OfMember, no_traffic}

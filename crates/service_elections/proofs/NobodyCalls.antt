@@ -4,7 +4,8 @@ use Rattle.std.proofs.lemmas.List.{append_assoc}
 use Rattle.raft_model.specs.Lists.{In}
 use Rattle.alloc_spec.specs.AllocatorState.{AllocatorState}
 use Rattle.alloc_spec.specs.Step.{step}
-use Rattle.service_alone.specs.Calm.{Timed, end_of}
+use Rattle.bus_rows.specs.Timed.{Timed}
+use Rattle.service_alone.specs.Calm.{end_of}
 use Rattle.service_alone.proofs.Members.{IsUp}
 use Rattle.service_calm.specs.Calm.{Member as OfMember}
 use Rattle.service_calm.specs.CallsInTime.{OffersCall}

@@ -8,7 +8,8 @@ use Rattle.raft_model.specs.Server.Role.{Candidate, Follower, Leader}
 use Rattle.bus_rows.specs.declared.row.Row.{Row}
 use Rattle.bus_rows.specs.declared.row.Row.TheVariants.{AEnd, AOpen, ARx, ASend, ATick, Crash, Ext, Fault, Open, Rx, Send, Tick}
 use Rattle.alloc_spec.specs.AllocatorState.{AllocatorState}
-use Rattle.service_alone.specs.Calm.{Pace, Timed, end_of, rows_in}
+use Rattle.bus_rows.specs.Timed.{Timed, rows_in}
+use Rattle.service_alone.specs.Calm.{Pace, end_of}
 use Rattle.service_calm.specs.Calm.{AreCalm, AreRunning, IsCalmRow, IsRunning, Member as OfMember, Party, Traffic, traffic_after}
 use Rattle.service_calm.proofs.Calls.{Always}
 use Rattle.service_calm.proofs.CallsKept.{GoesOn, IsKept, further}

@@ -4,7 +4,8 @@ use Rattle.std.proofs.Common.{◌≡◌, ℕ, ◌+◌, ◌*◌, ◌<◌, arith, 
 use Rattle.std.specs.Prelude.{◌⊎◌}
 use Rattle.std.proofs.lemmas.List.{append_assoc, append-nil}
 use Rattle.raft_model.specs.Lists.{In}
-use Rattle.service_alone.specs.Calm.{Timed, end_of}
+use Rattle.bus_rows.specs.Timed.{Timed}
+use Rattle.service_alone.specs.Calm.{end_of}
 use Rattle.service_calm.specs.Calm.{Member as OfMember}
 use Rattle.service_leader.specs.CallsComeBack.{LeadsNotIfUp}
 use Rattle.service_leader.specs.LeadsOn.{LeadsIn}

@@ -4,7 +4,8 @@ use Rattle.dsdl_codec.specs.declared.append_request.AppendRequest.{AppendRequest
 use Rattle.raft_model.specs.Lists.{In}
 use Rattle.bus_rows.specs.declared.row.Row.{Row}
 use Rattle.alloc_spec.specs.Transfers.{Offer}
-use Rattle.service_alone.specs.Calm.{Pace, Timed, end_of, rows_in}
+use Rattle.bus_rows.specs.Timed.{Timed, rows_in}
+use Rattle.service_alone.specs.Calm.{Pace, end_of}
 use Rattle.service_leader.specs.Answers.{AnswersAreTaken}
 use Rattle.service_leader.specs.CallsComeBack.{ComesBack}
 use Rattle.service_leader.specs.EntriesBelow.{EntryLaws}

@@ -14,7 +14,8 @@ use Rattle.alloc_spec.specs.AllocatorState.{AllocatorState, members_of}
 use Rattle.alloc_spec.specs.Step.{Event, step}
 use Rattle.alloc_spec.specs.Transfers.{Offer, has_room}
 use Rattle.alloc_spec_laws.specs.Apart.{AreAllApart, AreApart}
-use Rattle.service_alone.specs.Calm.{Timed, end_of, rows_in}
+use Rattle.bus_rows.specs.Timed.{Timed, rows_in}
+use Rattle.service_alone.specs.Calm.{end_of}
 use Rattle.service_alone.proofs.Goes.{after_both}
 use Rattle.service_leader.specs.Answers.{AnswersAreTaken, AnswersCall, TakesAnswer, WaitsForAnswer, answer_by, asked_by}
 use Rattle.service_leader.specs.CallsAsk.{AsksNext, next_request}

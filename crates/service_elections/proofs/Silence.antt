@@ -20,7 +20,8 @@ use Rattle.alloc_spec.specs.Step.{Event, moment_of}
 use Rattle.alloc_spec.specs.Transfers.{kind_of, number_of}
 use Rattle.alloc_spec_laws.specs.Responses.{IsResponse}
 use Rattle.bus_agreement.proofs.TakenMessages.{is_append, is_append_request, is_vote, is_vote_request}
-use Rattle.service_alone.specs.Calm.{Pace, Timed, rows_in}
+use Rattle.bus_rows.specs.Timed.{Timed, rows_in}
+use Rattle.service_alone.specs.Calm.{Pace}
 use Rattle.service_calm.specs.Calm.{Member as OfMember, Party}
 use Rattle.service_calm.specs.CalmBelow.{CalmGrounds}
 use Rattle.service_calm.proofs.Grounds.{its_node, shown_up}

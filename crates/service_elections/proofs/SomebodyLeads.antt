@@ -7,7 +7,8 @@ use Rattle.raft_model.specs.Lists.{In}
 use Rattle.bus_rows.specs.declared.row.Row.{Row}
 use Rattle.alloc_spec.specs.AllocatorState.{AllocatorState}
 use Rattle.alloc_spec_laws.proofs.Choices.{lt_tells}
-use Rattle.service_alone.specs.Calm.{Timed, end_of, rows_in}
+use Rattle.bus_rows.specs.Timed.{Timed, rows_in}
+use Rattle.service_alone.specs.Calm.{end_of}
 use Rattle.service_calm.specs.Calm.{AreRunning, Member as OfMember}
 use Rattle.service_leader.specs.CallsAsk.{CallsAskNext}
 use Rattle.service_leader.specs.CallsComeBack.{LeadsNotIfUp}

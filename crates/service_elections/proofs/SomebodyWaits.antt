@@ -13,7 +13,8 @@ use Rattle.alloc_spec.specs.AllocatorState.{AllocatorState, knows_all, opening}
 use Rattle.alloc_spec.specs.Rules.{times_with}
 use Rattle.alloc_spec.specs.Step.{Event, step}
 use Rattle.alloc_spec.specs.Step.Event.{Rx, Tick}
-use Rattle.service_alone.specs.Calm.{Pace, Timed, end_of, rows_in}
+use Rattle.bus_rows.specs.Timed.{Timed, rows_in}
+use Rattle.service_alone.specs.Calm.{Pace, end_of}
 use Rattle.service_alone.proofs.Goes.{after_both}
 use Rattle.service_calm.specs.Calm.{AreCalm, IsRunning, Member as OfMember, Party, Traffic}
 use Rattle.service_calm.specs.Comes.{Throughout}

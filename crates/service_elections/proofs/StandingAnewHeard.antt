@@ -11,7 +11,8 @@ use Rattle.service_elections.specs.Running.{IsCalmOf}
 use Rattle.service_elections.specs.Sent.{StandersAreHeard}
 use Rattle.service_elections.proofs.CalmFronts.{Calm, at, calm_of, goes_at}
 use Rattle.service_calm.specs.Calm.{Member as OfMember, Party}
-use Rattle.service_alone.specs.Calm.{Pace, Timed, end_of, rows_in}
+use Rattle.bus_rows.specs.Timed.{Timed, rows_in}
+use Rattle.service_alone.specs.Calm.{Pace, end_of}
 use Rattle.bus_spec.specs.Cluster.{after_row, after_rows, world_of}
 use Rattle.bus_spec.specs.Members.MemberStatus.{Up}
 

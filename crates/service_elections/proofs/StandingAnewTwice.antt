@@ -19,7 +19,8 @@ use Rattle.service_calm.specs.Calm.{IsCalmRow, Member as OfMember, Party}
 use Rattle.service_calm.proofs.CallsKept.{IsKept, RunsWith}
 use Rattle.service_calm.proofs.Counting.{now_after}
 use Rattle.service_calm.proofs.Pair.{same_server}
-use Rattle.service_alone.specs.Calm.{Pace, Timed}
+use Rattle.bus_rows.specs.Timed.{Timed}
+use Rattle.service_alone.specs.Calm.{Pace}
 use Rattle.service_alone.proofs.Members.{IsQuiet}
 use Rattle.bus_spec.specs.Cluster.{Cluster, step_of, tick_of}
 

@@ -20,7 +20,8 @@ use Rattle.service_elections.proofs.CalmFronts.{Calm, among, at, at_more, before
 use Rattle.service_elections.proofs.StandingAnewTwice.{twice}
 use Rattle.service_calm.specs.Calm.{AreCalm, Member as OfMember, Party, no_traffic}
 use Rattle.service_calm.specs.Comes.{Throughout}
-use Rattle.service_alone.specs.Calm.{Pace, Timed, end_of, rows_in}
+use Rattle.bus_rows.specs.Timed.{Timed, rows_in}
+use Rattle.service_alone.specs.Calm.{Pace, end_of}
 use Rattle.bus_spec.specs.Cluster.{Cluster, after_row, after_rows, world_of}
 use Rattle.bus_spec.specs.Members.{Member}
 use Rattle.bus_spec.specs.Members.MemberStatus.{Up}

@@ -5,7 +5,8 @@ use Rattle.raft_model.specs.Lists.{In, how_many}
 use Rattle.raft_model.specs.Server.{quorum}
 use Rattle.bus_rows.specs.declared.row.Row.{Row}
 use Rattle.alloc_spec.specs.AllocatorState.{AllocatorState, knows_all}
-use Rattle.service_alone.specs.Calm.{Pace, Timed, end_of, rows_in}
+use Rattle.bus_rows.specs.Timed.{Timed, rows_in}
+use Rattle.service_alone.specs.Calm.{Pace, end_of}
 use Rattle.service_candidate.specs.Elections.{StandApart}
 use Rattle.service_candidate.specs.Votes.{CanAsk, Stands}
 use Rattle.service_candidate.specs.Waits.{HasTermLeft}

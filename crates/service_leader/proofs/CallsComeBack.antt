@@ -32,7 +32,8 @@ use Rattle.service_calm.specs.Calm.{IsCalmRow, Member as OfMember, Party}
 use Rattle.service_calm.specs.Comes.{Delivers, Sends, Throughout, sent_by}
 use Rattle.service_calm.proofs.Calls.{lists_on}
 use Rattle.service_calm.proofs.Pair.{same_server}
-use Rattle.service_alone.specs.Calm.{Pace, Timed, end_of, rows_in}
+use Rattle.bus_rows.specs.Timed.{Timed, rows_in}
+use Rattle.service_alone.specs.Calm.{Pace, end_of}
 use Rattle.bus_spec.specs.Cluster.{Cluster, after_row, after_rows, receipt_of, step_of}
 
 no_follower : (role : Role) → role ≡ Leader → role ≡ Follower → ⊥

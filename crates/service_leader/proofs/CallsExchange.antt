@@ -26,7 +26,8 @@ use Rattle.service_calm.specs.Calls.{ReadsAsSaid}
 use Rattle.service_calm.specs.Calm.{AreCalm, Member as OfMember, Party, no_traffic}
 use Rattle.service_calm.specs.Comes.{Delivers, MayComeFirst, Sends}
 use Rattle.service_calm.proofs.Group.{AreWell, CalmLaws, IsServer}
-use Rattle.service_alone.specs.Calm.{Pace, Timed}
+use Rattle.bus_rows.specs.Timed.{Timed}
+use Rattle.service_alone.specs.Calm.{Pace}
 use Rattle.service_alone.proofs.Members.{IsQuiet}
 use Rattle.bus_spec.specs.Cluster.{Cluster}
 use Rattle.bus_spec.specs.Members.MemberStatus.{Up}

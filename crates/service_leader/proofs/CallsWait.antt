@@ -30,7 +30,8 @@ use Rattle.service_calm.specs.Comes.{Sends}
 use Rattle.service_calm.proofs.Counting.{now_after}
 use Rattle.service_calm.proofs.Pair.{same_server}
 use Rattle.service_steps.specs.Requests.{moment_at}
-use Rattle.service_alone.specs.Calm.{Pace, Timed}
+use Rattle.bus_rows.specs.Timed.{Timed}
+use Rattle.service_alone.specs.Calm.{Pace}
 use Rattle.service_alone.proofs.Members.{IsUp}
 use Rattle.bus_spec.specs.Cluster.{Cluster, after_row, arrival_at, frame_at, step_of}
 use Rattle.bus_spec.specs.Members.MemberStatus.{Up}

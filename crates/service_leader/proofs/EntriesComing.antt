@@ -8,7 +8,8 @@ use Rattle.raft_model.specs.Messages.{Request, reach}
 use Rattle.raft_model.specs.Server.Role.{Leader}
 use Rattle.alloc_spec.specs.AllocatorState.{AllocatorState, members_of}
 use Rattle.alloc_spec.specs.Step.{Event, step}
-use Rattle.service_alone.specs.Calm.{Pace, Timed, end_of}
+use Rattle.bus_rows.specs.Timed.{Timed}
+use Rattle.service_alone.specs.Calm.{Pace, end_of}
 use Rattle.service_calm.specs.Calm.{AreCalm, Member as OfMember, Party, no_traffic}
 use Rattle.service_leader.specs.NoElection.{CallsFit}
 use Rattle.service_calm.proofs.Calls.{Goes}

@@ -28,7 +28,8 @@ use Rattle.bus_spec.specs.Members.{MemberStatus}
 use Rattle.bus_spec.specs.Members.MemberStatus.{Down, Failed, Up}
 use Rattle.alloc_spec.specs.Transfers.{Offer}
 use Rattle.node_discovery.specs.Watch.{next_query}
-use Rattle.service_alone.specs.Calm.{NoneIsLate, Timed, rows_in}
+use Rattle.bus_rows.specs.Timed.{Timed, rows_in}
+use Rattle.service_alone.specs.Calm.{NoneIsLate}
 use Rattle.service_calm.specs.Calm.{AreCalm, Device, IsInTime, Member, Party, Traffic, no_traffic, queue_in, traffic_after}
 use Rattle.service_calm.specs.CalmExample.{clocks, group, leading_world, pace, then_world}
 use Rattle.service_leader.specs.CallsComeBack.{HasPlace, LeadsNotIfUp}

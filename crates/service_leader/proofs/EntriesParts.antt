@@ -10,7 +10,8 @@ use Rattle.alloc_spec.specs.AllocatorState.{AllocatorState, members_of, start_of
 use Rattle.alloc_spec.specs.Step.{Event}
 use Rattle.alloc_spec_laws.proofs.Choices.{lt_tells}
 use Rattle.alloc_spec_laws.proofs.Peers.{IsList, members_list}
-use Rattle.service_alone.specs.Calm.{Pace, Timed, end_of, rows_in}
+use Rattle.bus_rows.specs.Timed.{Timed, rows_in}
+use Rattle.service_alone.specs.Calm.{Pace, end_of}
 use Rattle.service_calm.specs.Calm.{AreCalm, Member as OfMember, Party, Traffic, reads, traffic_after}
 use Rattle.service_leader.specs.CallsAsk.{next_request}
 use Rattle.bus_spec.specs.Cluster.{Cluster, after_row, after_rows, step_of, tick_of}

@@ -14,7 +14,8 @@ use Rattle.alloc_spec.specs.Step.{Event, step}
 use Rattle.alloc_spec.specs.Transfers.{Offer}
 use Rattle.alloc_spec_laws.specs.Calls.{IsCalled}
 use Rattle.bus_agreement.proofs.Concatenations.{first_harmless, row_harmless}
-use Rattle.service_alone.specs.Calm.{Pace, Timed, rows_in}
+use Rattle.bus_rows.specs.Timed.{Timed, rows_in}
+use Rattle.service_alone.specs.Calm.{Pace}
 use Rattle.service_alone.proofs.Goes.{after_both}
 use Rattle.service_calm.specs.Calls.{Calls, ReadsAsSaid}
 use Rattle.service_calm.specs.Calm.{IsRunning, Party}

@@ -15,7 +15,8 @@ use Rattle.bus_rows.specs.declared.row.Row.TheVariants.{AEnd, AOpen, ARx, ASend,
 use Rattle.alloc_spec.specs.AllocatorState.{AllocatorState}
 use Rattle.alloc_spec.specs.Step.{Event, step}
 use Rattle.bus_agreement.specs.Duty.{DoesItsDuty, IsDutiful}
-use Rattle.service_alone.specs.Calm.{Pace, Timed, end_of, rows_in}
+use Rattle.bus_rows.specs.Timed.{Timed, rows_in}
+use Rattle.service_alone.specs.Calm.{Pace, end_of}
 use Rattle.service_alone.proofs.Goes.{after_both}
 use Rattle.service_calm.specs.Calm.{Member as OfMember, Party}
 use Rattle.service_leader.specs.CallsComeBack.{LeadsIfUp}

@@ -9,7 +9,8 @@ use Rattle.raft_model.specs.Messages.{Request}
 use Rattle.alloc_spec.specs.AllocatorState.{AllocatorState}
 use Rattle.alloc_spec.specs.Step.{Event}
 use Rattle.alloc_spec_laws.proofs.Lists.{in_back}
-use Rattle.service_alone.specs.Calm.{Pace, Timed, end_of, rows_in}
+use Rattle.bus_rows.specs.Timed.{Timed, rows_in}
+use Rattle.service_alone.specs.Calm.{Pace, end_of}
 use Rattle.service_calm.specs.Calm.{Member as OfMember, Party}
 use Rattle.service_leader.specs.CallsComeBack.{LeadsIfUp}
 use Rattle.service_leader.specs.Entries.{GoesOnCalling, PendsSince, come_within}

@@ -17,7 +17,8 @@ use Rattle.service_calm.specs.Comes.{Delivers, HasMemory, IsHeard, Sends, sent_b
 use Rattle.service_calm.proofs.Counting.{IsCounted, is_one, is_to, is_to_true, ones}
 use Rattle.service_calm.proofs.Group.{CalmLaws}
 use Rattle.service_calm.proofs.Pair.{out_ones}
-use Rattle.service_alone.specs.Calm.{Pace, Timed, rows_in}
+use Rattle.bus_rows.specs.Timed.{Timed, rows_in}
+use Rattle.service_alone.specs.Calm.{Pace}
 use Rattle.bus_spec.specs.Cluster.{Cluster, after_row, after_rows, step_of}
 use Rattle.bus_spec.specs.Members.MemberStatus.{Up}
 

@@ -25,7 +25,8 @@ use Rattle.service_calm.proofs.MembersHear.{NextOf, NoneComesOf, PairOf, none_la
 use Rattle.service_calm.proofs.Pair.{Expected, FitsIn, made_none, made_of, made_one, same_server}
 use Rattle.service_calm.proofs.Pending.{Coming, Made}
 use Rattle.service_steps.proofs.FollowUps.{same_number}
-use Rattle.service_alone.specs.Calm.{IsNext, Pace, Timed, end_of, rows_in}
+use Rattle.bus_rows.specs.Timed.{Timed, rows_in}
+use Rattle.service_alone.specs.Calm.{IsNext, Pace, end_of}
 use Rattle.bus_spec.specs.Cluster.{Cluster, after_row, after_rows, arrival_at, frame_at, step_of}
 use Rattle.bus_spec.specs.Members.MemberStatus.{Up}
 

@@ -28,7 +28,8 @@ use Rattle.service_calm.proofs.MembersHear.{NextOf, NoneComesOf, PairOf, none_la
 use Rattle.service_calm.proofs.Pair.{Expected, made_none, made_of, made_one, same_server, same_stepper, sent_among}
 use Rattle.service_calm.proofs.Pending.{Coming, Made}
 use Rattle.service_steps.proofs.FollowUps.{same_number}
-use Rattle.service_alone.specs.Calm.{IsNext, Pace, Timed}
+use Rattle.bus_rows.specs.Timed.{Timed}
+use Rattle.service_alone.specs.Calm.{IsNext, Pace}
 use Rattle.bus_spec.specs.Cluster.{Cluster, after_row, arrival_at, frame_at, receipt_of, step_of}
 
 -- ---- transfer IDs that follow each other

@@ -17,7 +17,8 @@ use Rattle.service_leader.specs.CallsComeBack.{HasPlace}
 use Rattle.service_calm.specs.Comes.{Delivers, Sends, sent_by}
 use Rattle.service_calm.proofs.Pair.{same_server, same_stepper}
 use Rattle.service_calm.proofs.Pending.{Made}
-use Rattle.service_alone.specs.Calm.{Pace, Timed, end_of, rows_in}
+use Rattle.bus_rows.specs.Timed.{Timed, rows_in}
+use Rattle.service_alone.specs.Calm.{Pace, end_of}
 use Rattle.bus_spec.specs.Cluster.{Cluster, after_row, after_rows, receipt_of, step_of}
 
 module _ (both : Exchange) where

@@ -12,7 +12,7 @@ use Rattle.service_leader.proofs.ExchangeStart.{Fresh, answering, asking}
 use Rattle.service_calm.specs.Calm.{AreCalm, Traffic, no_traffic, traffic_after}
 use Rattle.service_calm.proofs.Group.{AreWell, well_after}
 use Rattle.service_calm.proofs.Pending.{Made}
-use Rattle.service_alone.specs.Calm.{Timed, rows_in}
+use Rattle.bus_rows.specs.Timed.{Timed, rows_in}
 use Rattle.bus_spec.specs.Cluster.{Cluster, after_row, after_rows}
 
 module _ (both : Exchange) where

@@ -17,7 +17,7 @@ use Rattle.service_calm.specs.Sessions.{AllAdmit}
 use Rattle.service_calm.proofs.Group.{AreWell, IsServer, well_after}
 use Rattle.service_calm.proofs.Pair.{AtFirst, Only}
 use Rattle.service_calm.proofs.Ways.{Waiting}
-use Rattle.service_alone.specs.Calm.{Timed, rows_in}
+use Rattle.bus_rows.specs.Timed.{Timed, rows_in}
 use Rattle.service_alone.proofs.Members.{IsQuiet}
 use Rattle.bus_spec.specs.Cluster.{Cluster, after_row, after_rows, cluster, world_of}
 use Rattle.bus_spec.specs.Lawful.{DoNoHarm, DoesNoHarm}

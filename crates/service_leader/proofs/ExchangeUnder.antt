@@ -13,7 +13,8 @@ use Rattle.service_leader.proofs.ExchangeStart.{Fresh}
 use Rattle.bus_agreement.proofs.Lists.{in_append}
 use Rattle.service_calm.specs.Comes.{Sends, sent_by}
 use Rattle.service_calm.proofs.Pending.{Made}
-use Rattle.service_alone.specs.Calm.{Pace, Timed, rows_in}
+use Rattle.bus_rows.specs.Timed.{Timed, rows_in}
+use Rattle.service_alone.specs.Calm.{Pace}
 use Rattle.bus_spec.specs.Cluster.{Cluster, after_row, after_rows}
 
 module _ (both : Exchange) (IsAsked : ℕ → Type 0) where

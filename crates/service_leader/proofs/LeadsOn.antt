@@ -12,7 +12,8 @@ use Rattle.alloc_spec.specs.Transfers.{SentTransfer}
 use Rattle.bus_agreement.specs.LawsBelow.{CodecLaws}
 use Rattle.bus_agreement.specs.Safe.{IsDeliveredTo, IsOneTransfer}
 use Rattle.bus_agreement.specs.Shows.{Shows}
-use Rattle.service_alone.specs.Calm.{Pace, Timed, rows_in}
+use Rattle.bus_rows.specs.Timed.{Timed, rows_in}
+use Rattle.service_alone.specs.Calm.{Pace}
 use Rattle.service_alone.proofs.Members.{steps_up}
 use Rattle.service_calm.specs.Calm.{AreCalm, AreRunning, IsCalmRow, IsRunning, Member as OfMember, Party, Traffic, traffic_after}
 use Rattle.service_leader.specs.LeadsOn.{FollowsWithin, IsLed, LeadsIn, NobodyStands, WaitsOn}

@@ -3,7 +3,8 @@ use Rattle.std.proofs.Common.{ℕ, ◌≤◌, List, [], ◌∷◌, ◌++◌, inl
 use Rattle.raft_model.specs.Lists.{In}
 use Rattle.bus_rows.specs.declared.row.Row.{Row}
 use Rattle.transfer_tx.specs.Queue.{Queued}
-use Rattle.service_alone.specs.Calm.{IsNext, OnItsWay, Pace, Timed, rows_in}
+use Rattle.bus_rows.specs.Timed.{Timed, rows_in}
+use Rattle.service_alone.specs.Calm.{IsNext, OnItsWay, Pace}
 use Rattle.service_calm.specs.Calm.{AreCalm, AreRunning, IsCalmRow, Member as OfMember, Party, Traffic, on_way_after, traffic_after}
 use Rattle.service_calm.proofs.Group.{AreWell, CalmLaws, sent_anonymous, sent_own, well_after}
 use Rattle.service_leader.proofs.FramesFly.{Fly, fly_after, next_is}

@@ -17,7 +17,8 @@ use Rattle.alloc_spec.specs.Transfers.{Offer, SentTransfer}
 use Rattle.alloc_spec_laws.proofs.Choices.{lt_tells}
 use Rattle.alloc_spec_laws.proofs.Lists.{in_back, in_front}
 use Rattle.bus_agreement.proofs.Concatenations.{first_harmless, row_harmless}
-use Rattle.service_alone.specs.Calm.{Pace, Timed, end_of, rows_in}
+use Rattle.bus_rows.specs.Timed.{Timed, rows_in}
+use Rattle.service_alone.specs.Calm.{Pace, end_of}
 use Rattle.service_alone.proofs.Goes.{after_both}
 use Rattle.service_alone.proofs.Members.{IsUp, steps_up}
 use Rattle.service_calm.specs.Calm.{AreCalm, AreRunning, IsRunning, Member as OfMember, Party}

@@ -10,7 +10,8 @@ use Rattle.bus_rows.specs.declared.row.Row.TheVariants.{AEnd, AOpen, ARx, ASend,
 use Rattle.alloc_spec.specs.AllocatorState.{AllocatorState}
 use Rattle.bus_agreement.proofs.Concatenations.{first_harmless}
 use Rattle.service_steps.specs.InTime.{FramesLeaveFollowers, StaysFollower}
-use Rattle.service_alone.specs.Calm.{Pace, Timed, end_of, rows_in}
+use Rattle.bus_rows.specs.Timed.{Timed, rows_in}
+use Rattle.service_alone.specs.Calm.{Pace, end_of}
 use Rattle.service_calm.specs.Calm.{AreRunning, IsCalmRow, Member as OfMember, Party}
 use Rattle.service_calm.specs.Calls.{Lists}
 use Rattle.service_calm.specs.Comes.{Throughout}

@@ -9,7 +9,8 @@ use Rattle.alloc_spec.specs.AllocatorState.{AllocatorState}
 use Rattle.alloc_spec.specs.Transfers.{id_of}
 use Rattle.bus_agreement.proofs.Concatenations.{first_harmless}
 use Rattle.service_steps.specs.InTime.{FramesLeaveFollowers, StaysFollower}
-use Rattle.service_alone.specs.Calm.{Pace, Timed, end_of, rows_in}
+use Rattle.bus_rows.specs.Timed.{Timed, rows_in}
+use Rattle.service_alone.specs.Calm.{Pace, end_of}
 use Rattle.service_alone.proofs.Goes.{after_both}
 use Rattle.service_calm.specs.Calls.{Calls, CallsAreHeard, HearsCallBy}
 use Rattle.service_calm.specs.Calm.{AreCalm, AreRunning, Member as OfMember, Party, no_traffic}

@@ -5,7 +5,8 @@ use Rattle.std.proofs.lemmas.Bool.Decides.{leb_tells}
 use Rattle.raft_model.specs.Lists.{In}
 use Rattle.bus_rows.specs.declared.row.Row.{Row}
 use Rattle.alloc_spec_laws.proofs.Choices.{either}
-use Rattle.service_alone.specs.Calm.{Pace, Timed, end_of, rows_in}
+use Rattle.bus_rows.specs.Timed.{Timed, rows_in}
+use Rattle.service_alone.specs.Calm.{Pace, end_of}
 use Rattle.service_calm.specs.Calm.{AreCalm, Member, Party, Traffic, reads, traffic_after}
 use Rattle.service_calm.specs.CallsInTime.{OffersCall}
 use Rattle.service_calm.specs.Comes.{Throughout}

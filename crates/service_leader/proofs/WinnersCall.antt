@@ -8,7 +8,8 @@ use Rattle.raft_model.specs.Server.Role.{Leader}
 use Rattle.bus_rows.specs.declared.row.Row.{Row}
 use Rattle.alloc_spec.specs.AllocatorState.{AllocatorState, members_of}
 use Rattle.alloc_spec.specs.Step.{Event, step}
-use Rattle.service_alone.specs.Calm.{Pace, Timed, rows_in}
+use Rattle.bus_rows.specs.Timed.{Timed, rows_in}
+use Rattle.service_alone.specs.Calm.{Pace}
 use Rattle.service_leader.specs.CallsAsk.{AsksNext, next_request}
 use Rattle.service_leader.specs.CallsComeBack.{LeadsNotIfUp}
 use Rattle.service_leader.specs.Entries.{GoesOnCalling, PendsSince}

@@ -20,7 +20,8 @@ use Rattle.alloc_spec.specs.AllocatorState.{AllocatorState, members_of}
 use Rattle.alloc_spec.specs.Step.{step}
 use Rattle.alloc_spec.specs.Transfers.{Offer, SentTransfer, has_room}
 use Rattle.alloc_spec_laws.specs.Saying.{append_bytes}
-use Rattle.service_alone.specs.Calm.{Pace, Timed, end_of, rows_in}
+use Rattle.bus_rows.specs.Timed.{Timed, rows_in}
+use Rattle.service_alone.specs.Calm.{Pace, end_of}
 use Rattle.service_calm.specs.Calm.{AreCalm, AreRunning, IsRunning, Member, Party, no_traffic}
 use Rattle.service_calm.specs.Comes.{AreReady, ComesBy, Delivers, HasMemory, MayComeFirst, NoneRepeats, Sends}
 use Rattle.service_calm.specs.Comes.{Throughout, sent_by}

@@ -11,7 +11,8 @@ use Rattle.bus_rows.specs.declared.row.Row.{Row}
 use Rattle.alloc_spec.specs.AllocatorState.{AllocatorState}
 use Rattle.alloc_spec.specs.Step.{step}
 use Rattle.alloc_spec.specs.Transfers.{Offer, SentTransfer, id_of, queue_places}
-use Rattle.service_alone.specs.Calm.{Pace, Timed, end_of, rows_in}
+use Rattle.bus_rows.specs.Timed.{Timed, rows_in}
+use Rattle.service_alone.specs.Calm.{Pace, end_of}
 use Rattle.service_leader.specs.Answers.{AnswersCall, TakesAnswer, answer_by, asked_by}
 use Rattle.service_calm.specs.Calls.{Calls, Lists}
 use Rattle.service_calm.specs.Calm.{AreCalm, AreRunning, Member, Party, no_traffic}

@@ -5,7 +5,8 @@ use Rattle.can_frame.specs.declared.step.What.TheVariants.{App, AppQ}
 use Rattle.can_frame.specs.Timing.{call_timeout}
 use Rattle.bus_rows.specs.declared.row.Row.TheVariants.{ARx, ATick, Rx, Send, Tick}
 use Rattle.alloc_spec.specs.Transfers.{id_of}
-use Rattle.service_alone.specs.Calm.{Timed, end_of, rows_in}
+use Rattle.bus_rows.specs.Timed.{Timed, rows_in}
+use Rattle.service_alone.specs.Calm.{end_of}
 use Rattle.service_calm.specs.Calls.{Calls, Lists}
 use Rattle.service_leader.specs.CallsComeBack.{HasPlace, LeadsOn}
 use Rattle.service_calm.specs.Calm.{AreCalm, no_traffic}

@@ -18,7 +18,8 @@ use Rattle.raft_model.specs.Server.Role.{Leader}
 use Rattle.bus_rows.specs.declared.row.Row.{Row}
 use Rattle.alloc_spec.specs.AllocatorState.{AllocatorState}
 use Rattle.alloc_spec.specs.Transfers.{SentTransfer, id_of}
-use Rattle.service_alone.specs.Calm.{Pace, Timed, end_of, rows_in}
+use Rattle.bus_rows.specs.Timed.{Timed, rows_in}
+use Rattle.service_alone.specs.Calm.{Pace, end_of}
 use Rattle.service_calm.specs.Calls.{Lists}
 use Rattle.service_leader.specs.CallsComeBack.{CallsReturn, HasPlace, LeadsOn}
 use Rattle.service_calm.specs.Calm.{AreCalm, AreRunning, Member, Party, no_traffic}

@@ -3,7 +3,8 @@
 use Rattle.std.specs.Prelude.{◌≡◌, ◌+◌, ◌<◌, ◌≤◌, List, [], ◌∷◌, ◌++◌}
 use Rattle.bus_rows.specs.declared.row.Row.TheVariants.{ATick, Tick}
 use Rattle.alloc_spec.specs.AllocatorState.{AllocatorState}
-use Rattle.service_alone.specs.Calm.{Timed, end_of, rows_in}
+use Rattle.bus_rows.specs.Timed.{Timed, rows_in}
+use Rattle.service_alone.specs.Calm.{end_of}
 use Rattle.service_leader.specs.CallsExample.{answer_rows}
 use Rattle.service_calm.specs.Calm.{AreCalm, AreRunning, no_traffic}
 use Rattle.service_calm.specs.CalmExample.{append_rows, clocks, first_rows, group, leading_row, pace, receiver, sender}

@@ -6,7 +6,8 @@ use Rattle.raft_model.specs.Server.Role.{Follower, Leader}
 use Rattle.bus_rows.specs.declared.row.Row.{Row}
 use Rattle.bus_rows.specs.declared.row.Row.TheVariants.{Tick}
 use Rattle.alloc_spec.specs.AllocatorState.{AllocatorState}
-use Rattle.service_alone.specs.Calm.{Pace, Timed, rows_in}
+use Rattle.bus_rows.specs.Timed.{Timed, rows_in}
+use Rattle.service_alone.specs.Calm.{Pace}
 use Rattle.service_calm.specs.Calm.{AreCalm, AreRunning, Member, Party, no_traffic}
 use Rattle.bus_spec.specs.Cluster.{Cluster, after_row, after_rows, world_of}
 use Rattle.bus_spec.specs.Lawful.{DoNoHarm}

@@ -6,7 +6,8 @@ use Rattle.raft_model.specs.Messages.Message.{Requests}
 use Rattle.bus_rows.specs.declared.row.Row.{Row}
 use Rattle.bus_rows.specs.declared.row.Row.TheVariants.{Rx, Send, Tick}
 use Rattle.alloc_spec.specs.Transfers.{Offer}
-use Rattle.service_alone.specs.Calm.{Pace, Timed, rows_in}
+use Rattle.bus_rows.specs.Timed.{Timed, rows_in}
+use Rattle.service_alone.specs.Calm.{Pace}
 use Rattle.service_calm.specs.Calm.{Member, Party}
 use Rattle.service_calm.specs.CalmExample.{calm_rows, first_rows, two}
 use Rattle.bus_spec.specs.Cluster.{Cluster, world_of}

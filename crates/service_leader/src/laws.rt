@@ -18,7 +18,7 @@ ghost use Rattle.can_frame.specs.Timing.{election_wait};
 ghost use Rattle.service_calm.specs.CallsInTime.{OffersCallBy};
 ghost use Rattle.service_calm.specs.Calm.{AreCalm, AreRunning, Member, no_traffic};
 ghost use Rattle.service_calm.specs.CalmExample.{clocks, receiver, sender, two};
-ghost use Rattle.service_alone.specs.Calm.{rows_in};
+ghost use Rattle.bus_rows.specs.Timed.{rows_in};
 ghost use Rattle.alloc_spec.specs.ClusterMembers.{AreMembers};
 ghost use Rattle.bus_spec.specs.Cluster.{cluster};
 ghost use Rattle.bus_spec.specs.Lawful.{DoNoHarm};

@@ -6,7 +6,8 @@ use Rattle.alloc_spec.specs.ClusterMembers.{AreMembers}
 use Rattle.bus_spec.specs.Cluster.{cluster, frame_at, world_of}
 use Rattle.bus_spec.specs.Refinement.{events, transfers_of_rows}
 use Rattle.bus_agreement.proofs.Concatenations.{ids_stay}
-use Rattle.bus_physics.specs.Physics.{ComeInOrderToDevice, ComesInOrderToDevice, device_heard_by, rows_in}
+use Rattle.bus_rows.specs.Timed.{rows_in}
+use Rattle.bus_physics.specs.Physics.{ComeInOrderToDevice, ComesInOrderToDevice, device_heard_by}
 use Rattle.bus_physics.proofs.FollowingDevices.{follow_device}
 use Rattle.bus_physics.proofs.Devices.{SessionLaws, along}
 use Rattle.bus_physics.proofs.Single.{IsSingle, single}

@@ -5,7 +5,8 @@ use Rattle.alloc_spec.specs.ClusterMembers.{AreMembers}
 use Rattle.bus_spec.specs.Cluster.{cluster, world_of}
 use Rattle.bus_spec.specs.Refinement.{events, transfers_of_rows}
 use Rattle.bus_agreement.proofs.Concatenations.{ids_stay}
-use Rattle.bus_physics.specs.Physics.{heard_by, rows_in}
+use Rattle.bus_rows.specs.Timed.{rows_in}
+use Rattle.bus_physics.specs.Physics.{heard_by}
 use Rattle.bus_physics.proofs.Following.{follow}
 use Rattle.bus_physics.proofs.Members.{MemberLaws, along}
 use Rattle.bus_physics.proofs.Now.{now_of_a_step}

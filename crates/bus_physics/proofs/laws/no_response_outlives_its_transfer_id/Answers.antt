@@ -2,7 +2,8 @@ use Rattle.std.proofs.Common.{◌<◌, arith, refl}
 use Rattle.std.specs.Prelude.{[], ◌∷◌, ◌++◌}
 use Rattle.bus_spec.specs.Cluster.{cluster, world_of}
 use Rattle.bus_spec.specs.Refinement.{transfers_of_rows}
-use Rattle.bus_physics.specs.Physics.{heard_by, rows_in}
+use Rattle.bus_rows.specs.Timed.{rows_in}
+use Rattle.bus_physics.specs.Physics.{heard_by}
 use Rattle.bus_physics.proofs.Answering.{IsMadeSoon, all_soon}
 use Rattle.bus_physics.proofs.Members.{MemberLaws, along}
 use Rattle.bus_physics.proofs.Now.{now_of_a_step}

@@ -20,7 +20,8 @@ use Rattle.bus_spec.specs.Cluster.{Cluster, after_row, cluster}
 use Rattle.bus_spec.specs.Lawful.{AreLawful}
 use Rattle.bus_spec.specs.Refinement.{transfers_of_rows}
 use Rattle.bus_physics.specs.Example.{at_allocatee, at_member, before, everything, limits, two}
-use Rattle.bus_physics.specs.Physics.{GoesOn, Reading, rows_in}
+use Rattle.bus_rows.specs.Timed.{rows_in}
+use Rattle.bus_physics.specs.Physics.{GoesOn, Reading}
 use Rattle.bus_physics.specs.Schedule.{DeviceHears, LawfulButForBus}
 use Rattle.bus_physics.proofs.laws.premises_can_be_met.Goals as goal
 

@@ -1,7 +1,8 @@
 use Rattle.std.proofs.Common.{ℕ, ◌+◌, List, [], ◌∷◌, refl}
 use Rattle.can_frame.specs.declared.entry.Entry.{Entry}
 use Rattle.bus_rows.specs.declared.row.Row.{Row}
-use Rattle.service_alone.specs.Calm.{HasSettled, Pace, Timed}
+use Rattle.bus_rows.specs.Timed.{Timed}
+use Rattle.service_alone.specs.Calm.{HasSettled, Pace}
 use Rattle.service_alone.specs.CalmRecovery.{AreQuiet, no_own_traffic}
 use Rattle.service_alone.proofs.Reached.{laws_say}
 use Rattle.service_alone.proofs.StaysSettled.{Ends, goes_on, ready_at_end, settled_at_end}

@@ -2,7 +2,7 @@ use Rattle.std.proofs.Common.{ℕ, ◌∷◌, ◌∙◌, ap, sym, subst}
 use Rattle.can_frame.specs.declared.step.What.{What}
 use Rattle.can_frame.specs.declared.step.What.TheVariants.{AppQ}
 use Rattle.alloc_spec.specs.Transfers.{id_of, kind_of}
-use Rattle.service_alone.specs.Calm.{rows_in}
+use Rattle.bus_rows.specs.Timed.{rows_in}
 use Rattle.service_calm.specs.Calm.{no_traffic}
 use Rattle.service_calm.specs.Comes.{AreReady, IsHeard, MayComeFirst, sent_by}
 use Rattle.service_calm.proofs.Calls.{further_on, heard_by}

@@ -16,7 +16,8 @@ use Rattle.alloc_spec.specs.Transfers.{Offer}
 use Rattle.alloc_spec.specs.Step.{Event, all_nodes, step}
 use Rattle.service_calm.specs.Calm.{Device, IsInTime, IsRunning, Member, Party, Traffic, no_traffic, queue_in}
 use Rattle.service_calm.specs.Comes.{AreReady, Sends}
-use Rattle.service_alone.specs.Calm.{NoneIsLate, rows_in}
+use Rattle.bus_rows.specs.Timed.{rows_in}
+use Rattle.service_alone.specs.Calm.{NoneIsLate}
 use Rattle.allocatee.specs.Accepted.{rows as device_rows}
 use Rattle.allocatee.specs.Allocatee.{step as device_step}
 use Rattle.bus_spec.specs.Cluster.{Cluster, after_rows, receipt_of}

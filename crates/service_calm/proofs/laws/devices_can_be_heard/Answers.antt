@@ -29,7 +29,8 @@ use Rattle.service_calm.specs.Devices.{DeviceHasMemory}
 use Rattle.service_calm.specs.DevicesExample.{allocation_offer, answering_row, answering_world, asking_group, asking_rows, asking_world}
 use Rattle.service_calm.proofs.Pair.{same_event, same_server}
 use Rattle.service_calm.proofs.laws.devices_can_be_heard.Goals as goal
-use Rattle.service_alone.specs.Calm.{NoneIsLate, rows_in}
+use Rattle.bus_rows.specs.Timed.{rows_in}
+use Rattle.service_alone.specs.Calm.{NoneIsLate}
 use Rattle.alloc_spec.specs.Step.{Event}
 use Rattle.alloc_spec.specs.Transfers.{Offer}
 use Rattle.bus_spec.specs.Cluster.{Cluster, after_rows, receipt_of, step_of, tick_of}

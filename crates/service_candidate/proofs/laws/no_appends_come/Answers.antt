@@ -1,5 +1,5 @@
 use Rattle.std.proofs.Common.{◌∷◌}
-use Rattle.service_alone.specs.Calm.{rows_in}
+use Rattle.bus_rows.specs.Timed.{rows_in}
 use Rattle.service_candidate.proofs.ElectionGrounds.{logs_go_on}
 use Rattle.service_calm.proofs.Grounds.{calm_laws}
 use Rattle.service_candidate.proofs.LogsHold.{hears_none}

@@ -11,7 +11,7 @@ use Rattle.service_candidate.proofs.VotesAsked.{fresh, voting}
 use Rattle.service_candidate.proofs.VotesComeBack.{vote_comes_back}
 use Rattle.service_calm.proofs.Grounds.{calm_laws, is_server, well}
 use Rattle.service_candidate.proofs.laws.vote_requests_come_back.Goals as goal
-use Rattle.service_alone.specs.Calm.{rows_in}
+use Rattle.bus_rows.specs.Timed.{rows_in}
 use Rattle.service_calm.specs.Calm.{Member, no_traffic}
 use Rattle.service_calm.specs.Comes.{sent_by}
 use Rattle.service_calm.proofs.Group.{AreWell}

@@ -1,5 +1,5 @@
 use Rattle.std.proofs.Common.{◌++◌}
-use Rattle.service_alone.specs.Calm.{rows_in}
+use Rattle.bus_rows.specs.Timed.{rows_in}
 use Rattle.service_candidate.proofs.TermsHold.{begins, behind, two_or_more, votes_stay}
 use Rattle.service_candidate.proofs.laws.votes_stay_free.Goals as goal
 use Rattle.bus_spec.specs.Cluster.{after_rows, world_of}

@@ -3,7 +3,7 @@ use Rattle.alloc_spec.specs.AllocatorState.{AllocatorState}
 use Rattle.service_candidate.proofs.ElectionGrounds.{all_listed, found}
 use Rattle.service_candidate.proofs.ElectionsEnd.{ends, first_stands, furthest_too, is_ahead, top_of_first}
 use Rattle.service_candidate.specs.Elections.{OthersFollow}
-use Rattle.service_alone.specs.Calm.{rows_in}
+use Rattle.bus_rows.specs.Timed.{rows_in}
 use Rattle.service_candidate.proofs.WhoAsks.{who_follows_asks_nobody}
 use Rattle.service_candidate.proofs.laws.who_is_ahead_wins.Goals as goal
 use Rattle.bus_spec.specs.Cluster.{after_rows, world_of}

@@ -8,7 +8,7 @@ use Rattle.service_candidate.proofs.WinsHeard.{is_heard}
 use Rattle.service_candidate.proofs.laws.who_stands_is_heard.Goals as goal
 use Rattle.service_leader.proofs.Stretches.{harmless_both, rows_both}
 use Rattle.bus_agreement.proofs.Concatenations.{first_harmless, row_harmless}
-use Rattle.service_alone.specs.Calm.{rows_in}
+use Rattle.bus_rows.specs.Timed.{rows_in}
 use Rattle.service_calm.specs.Calm.{IsRunning, Member}
 use Rattle.service_calm.specs.Comes.{Sends, sent_by}
 use Rattle.bus_spec.specs.Cluster.{Cluster, after_rows, cluster, world_of}

@@ -1,6 +1,6 @@
 use Rattle.std.proofs.Common.{◌≢◌, ℕ, ◌+◌, [], ◌∷◌, arith, refl, sym, subst, inl, inr}
 use Rattle.raft_model.specs.Lists.{In}
-use Rattle.service_alone.specs.Calm.{rows_in}
+use Rattle.bus_rows.specs.Timed.{rows_in}
 use Rattle.service_calm.specs.Calm.{Member}
 use Rattle.service_calm.specs.CalmExample.{clocks, group, receiver, sender, some_uid, two}
 use Rattle.service_calm.specs.Comes.{HasMemory, Throughout}

@@ -1,5 +1,5 @@
 use Rattle.std.proofs.Common.{List, ◌++◌}
-use Rattle.service_alone.specs.Calm.{Timed}
+use Rattle.bus_rows.specs.Timed.{Timed}
 use Rattle.service_device.proofs.AskingServed.{heard_device_is_served}
 use Rattle.service_device.proofs.ServiceFronts.{agrees, fitting_behind, lists_behind, served_laws, telling_laws}
 use Rattle.service_device.proofs.laws.heard_devices_are_served_in_calm.Goals as goal

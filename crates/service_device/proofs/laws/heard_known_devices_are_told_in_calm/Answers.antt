@@ -1,5 +1,6 @@
 use Rattle.std.proofs.Common.{List, ◌++◌, sym, subst}
-use Rattle.service_alone.specs.Calm.{HasSettled, Timed, rows_in}
+use Rattle.bus_rows.specs.Timed.{Timed, rows_in}
+use Rattle.service_alone.specs.Calm.{HasSettled}
 use Rattle.service_alone.proofs.Goes.{after_both}
 use Rattle.service_device.proofs.KnownTold.{known_device_is_told}
 use Rattle.service_device.proofs.ServedBehind.{harmless_to}

@@ -1,5 +1,5 @@
 use Rattle.std.proofs.Common.{◌++◌, refl}
-use Rattle.service_alone.specs.Calm.{rows_in}
+use Rattle.bus_rows.specs.Timed.{rows_in}
 use Rattle.service_leader.proofs.EntriesRows.{led_from_start, leads_if_up}
 use Rattle.service_device.proofs.LosesNothing.{loses_nothing}
 use Rattle.service_device.proofs.laws.leaders_lose_nothing_in_calm.Goals as goal

@@ -1,6 +1,7 @@
 use Rattle.std.proofs.Common.{ℕ, ◌+◌, List, ◌++◌}
 use Rattle.bus_rows.specs.declared.row.Row.{Row}
-use Rattle.service_alone.specs.Calm.{end_of, rows_in}
+use Rattle.bus_rows.specs.Timed.{rows_in}
+use Rattle.service_alone.specs.Calm.{end_of}
 use Rattle.service_calm.specs.Calm.{Member}
 use Rattle.service_device.specs.Settles.{LeadersSettle, settle_within}
 use Rattle.service_device.proofs.ServiceFronts.{fitting_behind}

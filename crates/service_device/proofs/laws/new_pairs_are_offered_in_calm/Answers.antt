@@ -1,6 +1,6 @@
 use Rattle.std.proofs.Common.{◌≡◌, ◌+◌, List, [], ◌++◌, arith}
 use Rattle.alloc_spec.specs.AllocatorState.{AllocatorState}
-use Rattle.service_alone.specs.Calm.{Timed, rows_in}
+use Rattle.bus_rows.specs.Timed.{Timed, rows_in}
 use Rattle.service_calm.specs.Calm.{Member}
 use Rattle.service_device.specs.Dialog.{time_to_be_heard}
 use Rattle.service_device.specs.Served.{time_to_be_committed}

@@ -1,5 +1,6 @@
 use Rattle.std.proofs.Common.{◌+◌, List, ◌++◌, length}
-use Rattle.service_alone.specs.Calm.{Timed, end_of, rows_in}
+use Rattle.bus_rows.specs.Timed.{Timed, rows_in}
+use Rattle.service_alone.specs.Calm.{end_of}
 use Rattle.service_device.specs.AskingServed.{serve_within}
 use Rattle.service_device.proofs.AskingServed.{has_id, recorded_device_is_served}
 use Rattle.service_device.proofs.ServiceFronts.{agrees, fitting_behind, lists_behind, served_laws, telling_laws}

@@ -2,7 +2,7 @@ use Rattle.std.proofs.Common.{ℕ, List, ◌∷◌, ◌++◌, ◌∙◌, ap, sym
 use Rattle.can_frame.specs.declared.step.What.{What}
 use Rattle.can_frame.specs.declared.step.What.TheVariants.{App}
 use Rattle.alloc_spec.specs.Transfers.{kind_of}
-use Rattle.service_alone.specs.Calm.{Timed, rows_in}
+use Rattle.bus_rows.specs.Timed.{Timed, rows_in}
 use Rattle.service_calm.specs.Comes.{AreReady, IsHeard, MayComeFirst, NoneRepeats}
 use Rattle.service_leader.proofs.AnswersOffered.{answer_sent}
 use Rattle.service_leader.proofs.laws.answers_come_in_calm.Goals as goal

@@ -24,7 +24,8 @@ use Rattle.allocatee.specs.Accepted.{rows as device_rows}
 use Rattle.allocatee.specs.Allocatee.{step as device_step}
 use Rattle.allocatee.specs.Asking.{clock_phase as device_clock}
 use Rattle.allocatee.specs.Judging.{arrival_judgement as device_judgement}
-use Rattle.service_alone.specs.Calm.{NoneIsLate, Timed, rows_in}
+use Rattle.bus_rows.specs.Timed.{Timed, rows_in}
+use Rattle.service_alone.specs.Calm.{NoneIsLate}
 use Rattle.service_leader.specs.CallsComeBack.{HasPlace, LeadsIfUp, LeadsNotIfUp, LeadsOn}
 use Rattle.service_leader.specs.CallsExample.{answer_rows, long_rows}
 use Rattle.service_calm.specs.Calm.{AreCalm, Device, IsInTime, Member, Party, Traffic, no_traffic, queue_in, traffic_after}

@@ -12,7 +12,7 @@ use Rattle.service_leader.proofs.CallsWait.{IsCalling}
 use Rattle.service_leader.proofs.Exchange.{AllGiven, Exchange}
 use Rattle.service_leader.proofs.ExchangeGoes.{Going, at_first}
 use Rattle.service_leader.proofs.ExchangeStart.{all_given}
-use Rattle.service_alone.specs.Calm.{Timed, rows_in}
+use Rattle.bus_rows.specs.Timed.{Timed, rows_in}
 use Rattle.service_calm.proofs.Grounds.{calm_laws, is_server, well}
 use Rattle.service_calm.proofs.Group.{AreWell}
 use Rattle.service_leader.proofs.laws.calls_come_back.Goals as goal

@@ -1,5 +1,5 @@
 use Rattle.std.proofs.Common.{◌≡◌, ℕ, List, [], ◌∷◌, ◌++◌, arith, inl, inr, refl, sym, subst}
-use Rattle.service_alone.specs.Calm.{Timed, rows_in}
+use Rattle.bus_rows.specs.Timed.{Timed, rows_in}
 use Rattle.service_calm.specs.Calm.{AreCalm, no_traffic}
 use Rattle.service_calm.specs.CalmExample.{clocks, first_rows, group, leading_row, pace, sending_row, start, then_world, two, vote_rows}
 use Rattle.service_calm.specs.Comes.{HasMemory, Throughout}

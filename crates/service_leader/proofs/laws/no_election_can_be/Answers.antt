@@ -26,7 +26,8 @@ use Rattle.alloc_spec_laws.proofs.Choices.{and_left, and_right, eq_false, eq_tru
 use Rattle.allocatee.specs.Accepted.{rows as device_rows}
 use Rattle.allocatee.specs.Allocatee.{step as device_step}
 use Rattle.allocatee.specs.Judging.{arrival_judgement as device_judgement}
-use Rattle.service_alone.specs.Calm.{NoneIsLate, rows_in}
+use Rattle.bus_rows.specs.Timed.{rows_in}
+use Rattle.service_alone.specs.Calm.{NoneIsLate}
 use Rattle.service_calm.specs.Calm.{Device, IsInTime, IsRunning, Member, Party, Traffic, queue_in}
 use Rattle.service_calm.specs.CalmExample.{clocks, two}
 use Rattle.service_calm.specs.CallsInTime.{OffersCall}

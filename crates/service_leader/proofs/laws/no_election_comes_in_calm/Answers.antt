@@ -1,7 +1,7 @@
 use Rattle.std.proofs.Common.{List, ◌++◌, subst}
 use Rattle.bus_rows.specs.declared.row.Row.{Row}
 use Rattle.bus_agreement.proofs.Concatenations.{first_harmless}
-use Rattle.service_alone.specs.Calm.{rows_in}
+use Rattle.bus_rows.specs.Timed.{rows_in}
 use Rattle.service_leader.proofs.NextCall.{CallLaws}
 use Rattle.service_leader.proofs.NoElectionBegins.{no_election_behind}
 use Rattle.service_calm.proofs.Grounds.{is_server}

@@ -1,6 +1,6 @@
 use Rattle.std.proofs.Common.{ℕ, ◌++◌, refl, subst}
 use Rattle.raft_model.specs.Lists.{In}
-use Rattle.service_alone.specs.Calm.{rows_in}
+use Rattle.bus_rows.specs.Timed.{rows_in}
 use Rattle.service_calm.specs.Calm.{Member, no_traffic}
 use Rattle.service_calm.proofs.Grounds.{calm_laws, well}
 use Rattle.service_leader.proofs.LeadsOn.{all_play, is_led, play_on}
