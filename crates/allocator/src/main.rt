@@ -13,73 +13,45 @@
 //! becomes that of a link or a disk. A word that is not UTF-8 is none that the program reads.
 #![tactic(auto)]
 
+mod opened;
+mod refusal;
+
+use crate::opened::{held_streams, link_of, made_stores, old_stores, stores_of, take_away};
+use crate::refusal::Refusal;
 use allocator_app::{Plan, Status, Told, plan, run};
 use can_link::{CanBus, CanLink};
-use disk_model::{Disk, FileDisk, IMAGE};
+use cmd_new::any_has_run;
+use disk_model::FileDisk;
 use host_pace::{PacedClock, TimelyLink};
 use outside::{Link, StdClock, StdSink, StdSource};
 use std::alloc::{AllocError, Global};
 use std::cell::{Cell, RefCell};
-use std::fs::File;
-use std::io::ErrorKind;
 use std::process::ExitCode;
-use std::rt::Files;
 use std::time::Duration;
-use std::{env, fs, thread};
+use std::{env, thread};
 use udp_link::UdpLink;
-
-/// The exit code where a link or a disk was not opened.
-const NOT_OPENED: u8 = 12;
-
-/// The descriptors of the standard streams are those below this.
-const STREAMS: usize = 3;
 
 /// The descriptor of the socket for the words of `can`.
 const SOCKET: i32 = 0;
 
 fn main(rt: HostRuntime) -> ExitCode {
-    let arguments = match env::args(&rt) {
-        Ok(arguments) => arguments,
-        Err(error) if error.kind() == ErrorKind::OutOfMemory => {
-            return ExitCode::from(Status::Memory.code());
-        }
-        Err(_) => return ExitCode::from(Status::Usage.code()),
-    };
-    let mut words = Vec::new(rt.alloc());
-    for word in arguments.skip(1) {
-        if words.push(word).is_err() {
-            return ExitCode::from(Status::Memory.code());
-        }
+    match answer(&rt) {
+        Ok(status) => ExitCode::from(status.code()),
+        Err(refusal) => ExitCode::from(refusal.code()),
     }
-    let is_on_can = words.first().is_some_and(|word| word.as_str() == "can");
-    if is_on_can {
-        let Ok(of_node) = words_of_node(rt.alloc(), &words) else {
-            return ExitCode::from(Status::Memory.code());
+}
+
+/// Opens what the words ask for, and does what they say.
+fn answer(rt: &HostRuntime) -> Result<Status, Refusal> {
+    let words = read_words(rt)?;
+    if words.first().is_some_and(|word| word.as_str() == "can") {
+        let words = words_of_node(rt.alloc(), &words)?;
+        return match plan(&words) {
+            Some(Plan::Node { told, ids, .. }) => run_on_can(rt, &words, &told, &ids),
+            _ => Ok(Status::Usage),
         };
-        words = of_node;
     }
-    let mut streams = Vec::new(rt.alloc());
-    let idle = Cell::new(0);
-    let bus = RefCell::new(CanBus::new(SOCKET));
-    let mut on_can = Vec::new(rt.alloc());
-    let mut over_udp = Vec::new(rt.alloc());
-    let mut disks = Vec::new(rt.alloc());
-    let mut made = Vec::new(rt.alloc());
-    let asked = plan(&words);
-    if let Some(Plan::Node { .. } | Plan::New { .. } | Plan::Audit { .. }) = &asked {
-        // An opened file gets the lowest free descriptor. These files take those of the standard streams
-        // that are closed, and keep them to the end. They are only read, so a report for a closed output
-        // still fails.
-        for _ in 0..STREAMS {
-            let Ok(stream) = File::open(&rt, "/dev/null") else {
-                return ExitCode::from(NOT_OPENED);
-            };
-            if streams.push(stream).is_err() {
-                return ExitCode::from(Status::Memory.code());
-            }
-        }
-    }
-    match &asked {
+    match plan(&words) {
         Some(
             Plan::Node {
                 told,
@@ -87,93 +59,106 @@ fn main(rt: HostRuntime) -> ExitCode {
                 ids,
                 ..
             },
-        ) => {
-            for (place, id) in ids.as_slice().iter().enumerate() {
-                let clock = StdClock::new(&rt);
-                let is_full = if is_on_can {
-                    let link = CanLink::new(&bus, place);
-                    on_can.push(TimelyLink::new(link, clock, &idle)).is_err()
-                } else {
-                    let opened = match told {
-                        Told::Size(_) => UdpLink::open(&rt, *base, *id),
-                        Told::Members(_) => UdpLink::open_strict(&rt, *base, *id, ids),
-                    };
-                    let Ok(link) = opened else {
-                        return ExitCode::from(NOT_OPENED);
-                    };
-                    over_udp.push(TimelyLink::new(link, clock, &idle)).is_err()
-                };
-                if is_full {
-                    return ExitCode::from(Status::Memory.code());
-                }
-                if let Err(code) = open_store(&rt, Some(told), *id, &mut disks) {
-                    return ExitCode::from(code);
-                }
-            }
-        }
-        Some(Plan::New { ids }) => {
-            for id in ids.as_slice() {
-                let Ok(path) = store_of(rt.alloc(), *id) else {
-                    take_away(&rt, &made);
-                    return ExitCode::from(Status::Memory.code());
-                };
-                let Ok(disk) = FileDisk::make(&rt, path.as_str()) else {
-                    take_away(&rt, &made);
-                    return ExitCode::from(NOT_OPENED);
-                };
-                if made.push(path).is_err() || disks.push(Some(disk)).is_err() {
-                    take_away(&rt, &made);
-                    return ExitCode::from(Status::Memory.code());
-                }
-            }
-        }
-        Some(Plan::Audit { ids }) => {
-            for id in ids.as_slice() {
-                if let Err(code) = open_store(&rt, None, *id, &mut disks) {
-                    return ExitCode::from(code);
-                }
-            }
-        }
-        _ => {}
+        ) => run_over_udp(rt, &words, &told, base, &ids),
+        Some(Plan::New { ids }) => run_on_new_stores(rt, &words, &ids),
+        Some(Plan::Audit { ids }) => run_on_old_stores(rt, &words, &ids),
+        _ => Ok(follow::<UdpLink>(rt, &words, &mut [], &mut [], &Cell::new(0))),
     }
-    if let Some(Plan::Node { told, .. }) = &asked {
-        let ran_before = disks.iter_mut().flatten().any(was_written);
-        thread::sleep(&rt, Duration::from_millis(told.rest(ran_before)));
-    }
-    let status = if is_on_can {
-        follow(&rt, &words, &mut on_can, &mut disks, &idle)
-    } else {
-        follow(&rt, &words, &mut over_udp, &mut disks, &idle)
-    };
-    if status != Status::Done {
-        take_away(&rt, &made);
-    }
-    ExitCode::from(status.code())
 }
 
-/// Opens the store of a member and puts it behind the other disks: that of a node by what its members are told of
-/// the cluster, and one that is audited, whose members are told nothing, to be read. The exit code where it fails.
-fn open_store(
-    rt: &HostRuntime,
-    told: Option<&Told>,
-    id: u8,
-    disks: &mut Vec<Option<FileDisk>>,
-) -> Result<(), u8> {
-    let Ok(path) = store_of(rt.alloc(), id) else {
-        return Err(Status::Memory.code());
-    };
-    let opened = match told {
-        Some(Told::Size(_)) => FileDisk::open(rt, path.as_str()),
-        Some(Told::Members(_)) => FileDisk::open_made(rt, path.as_str()),
-        None => FileDisk::open_old(rt, path.as_str()),
-    };
-    let Ok(disk) = opened else {
-        return Err(NOT_OPENED);
-    };
-    if disks.push(Some(disk)).is_err() {
-        return Err(Status::Memory.code());
+/// The words that the program was started with, behind its name.
+fn read_words(rt: &HostRuntime) -> Result<Vec<String>, Refusal> {
+    let mut words = Vec::new(rt.alloc());
+    for word in env::args(rt)?.skip(1) {
+        words.push(word)?;
     }
-    Ok(())
+    Ok(words)
+}
+
+/// The words of `node` that ask for what these words of `can` do. They have a base, which says nothing here.
+fn words_of_node(alloc: Global, words: &[String]) -> Result<Vec<String>, AllocError> {
+    let mut of_node = Vec::new(alloc);
+    of_node.push(format!(in alloc; "node")?)?;
+    for (place, word) in words.iter().enumerate().skip(1) {
+        of_node.push(word.clone()?)?;
+        if place == 1 {
+            of_node.push(format!(in alloc; "1024")?)?;
+        }
+    }
+    Ok(of_node)
+}
+
+/// Runs these members, each with a link over UDP.
+fn run_over_udp(
+    rt: &HostRuntime,
+    words: &[String],
+    told: &Told,
+    base: u16,
+    ids: &[u8],
+) -> Result<Status, Refusal> {
+    let _streams = held_streams(rt)?;
+    let idle = Cell::new(0);
+    let mut links = Vec::new(rt.alloc());
+    for id in ids {
+        let link = link_of(rt, told, base, *id, ids)?;
+        links.push(TimelyLink::new(link, StdClock::new(rt), &idle))?;
+    }
+    run_members(rt, words, told, ids, &mut links, &idle)
+}
+
+/// Runs these members, with their links on the CAN bus of the socket.
+fn run_on_can(
+    rt: &HostRuntime,
+    words: &[String],
+    told: &Told,
+    ids: &[u8],
+) -> Result<Status, Refusal> {
+    let _streams = held_streams(rt)?;
+    let idle = Cell::new(0);
+    let bus = RefCell::new(CanBus::new(SOCKET));
+    let mut links = Vec::new(rt.alloc());
+    for place in 0..ids.len() {
+        let link = CanLink::new(&bus, place);
+        links.push(TimelyLink::new(link, StdClock::new(rt), &idle))?;
+    }
+    run_members(rt, words, told, ids, &mut links, &idle)
+}
+
+/// Runs these members over links that are open, once their stores are open and the process has rested.
+fn run_members<L: Link>(
+    rt: &HostRuntime,
+    words: &[String],
+    told: &Told,
+    ids: &[u8],
+    links: &mut [L],
+    idle: &Cell<usize>,
+) -> Result<Status, Refusal> {
+    let mut stores = stores_of(rt, told, ids)?;
+    let rest = told.rest(any_has_run(&mut stores));
+    thread::sleep(rt, Duration::from_millis(rest));
+    Ok(follow(rt, words, links, &mut stores, idle))
+}
+
+/// Makes the stores of these members. None stays where one was not made, or `run` does not come to its end.
+fn run_on_new_stores(rt: &HostRuntime, words: &[String], ids: &[u8]) -> Result<Status, Refusal> {
+    let _streams = held_streams(rt)?;
+    let mut stores = Vec::new(rt.alloc());
+    let mut paths = Vec::new(rt.alloc());
+    let outcome = match made_stores(rt, ids, &mut stores, &mut paths) {
+        Ok(()) => Ok(follow::<UdpLink>(rt, words, &mut [], &mut stores, &Cell::new(0))),
+        Err(refusal) => Err(refusal),
+    };
+    if outcome != Ok(Status::Done) {
+        take_away(rt, &paths);
+    }
+    outcome
+}
+
+/// Compares the stores of these members.
+fn run_on_old_stores(rt: &HostRuntime, words: &[String], ids: &[u8]) -> Result<Status, Refusal> {
+    let _streams = held_streams(rt)?;
+    let mut stores = old_stores(rt, ids)?;
+    Ok(follow::<UdpLink>(rt, words, &mut [], &mut stores, &Cell::new(0)))
 }
 
 /// Does what the words say with these links and disks, and the standard streams. The clock sleeps where no link
@@ -197,35 +182,4 @@ fn follow<L: Link>(
         disks,
         &mut clock,
     )
-}
-
-/// The words of `node` that ask for what these words of `can` do. They have a base, which says nothing here.
-fn words_of_node(alloc: Global, words: &[String]) -> Result<Vec<String>, AllocError> {
-    let mut of_node = Vec::new(alloc);
-    of_node.push(format!(in alloc; "node")?)?;
-    for (place, word) in words.iter().enumerate().skip(1) {
-        of_node.push(word.clone()?)?;
-        if place == 1 {
-            of_node.push(format!(in alloc; "1024")?)?;
-        }
-    }
-    Ok(of_node)
-}
-
-/// Whether a member ran on this disk before: it is not all zeros, or cannot be read.
-fn was_written(disk: &mut FileDisk) -> bool {
-    let mut image = [0; IMAGE];
-    disk.read(0, &mut image).is_err() || image.iter().any(|byte| *byte != 0)
-}
-
-/// Takes these files away, as far as they can be.
-fn take_away<R: Files>(rt: &R, paths: &[String]) {
-    for path in paths {
-        let _ = fs::remove_file(rt, path.as_str());
-    }
-}
-
-/// The file in which this member has its store.
-fn store_of(alloc: Global, id: u8) -> Result<String, AllocError> {
-    format!(in alloc; "alloc-{}.store", id)
 }

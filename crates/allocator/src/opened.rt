@@ -1,0 +1,118 @@
+ghost use Rattle.std.specs.Prelude.{◌≡◌, ◌≤◌, [], length, IfOk, IfSome, IsSome};
+ghost use Rattle.can_frame.specs.Sizes.{most_members};
+ghost use Rattle.allocator_app.specs.Told.{list_of};
+
+use crate::refusal::Refusal;
+use allocator_app::Told;
+use disk_model::FileDisk;
+use std::alloc::{AllocError, Global};
+use std::fs;
+use std::fs::File;
+use std::rt::Files;
+use udp_link::UdpLink;
+
+/// The descriptors of the standard streams are those below this.
+const STREAMS: usize = 3;
+
+/// Files that take the descriptors of those standard streams that are closed, as long as they live: an opened file
+/// gets the lowest free descriptor. They are only read, so a report for a closed output still fails.
+pub fn held_streams(rt: &HostRuntime) -> Result<Vec<File>, Refusal> {
+    let mut streams = Vec::new(rt.alloc());
+    for _ in 0..STREAMS {
+        let Ok(stream) = File::open(rt, "/dev/null") else {
+            return Err(Refusal::NotOpened);
+        };
+        streams.push(stream)?;
+    }
+    Ok(streams)
+}
+
+/// The link over UDP of a member that runs with these in one process. Where the members are told a list of them, it is
+/// strict.
+pub fn link_of(
+    rt: &HostRuntime,
+    told: &Told,
+    base: u16,
+    id: u8,
+    here: &[u8],
+) -> Result<UdpLink, Refusal>
+    requires { length here.now ≤ most_members }
+    ensures base { IfOk result (λ link. link.base ≡ base) }
+    ensures id { IfOk result (λ link. link.id ≡ id) }
+    ensures strict { (list_of told.now ≡ [] → ⊥) → IfOk result (λ link. IsSome link.here) }
+    ensures here { IfOk result (λ link. IfSome link.here (λ nodes. nodes.items ≡ here.now)) }
+{
+    let opened = match told {
+        Told::Size(_) => UdpLink::open(rt, base, id),
+        Told::Members(_) => UdpLink::open_strict(rt, base, id, here),
+    };
+    match opened {
+        Ok(link) => Ok(link),
+        Err(_) => Err(Refusal::NotOpened),
+    }
+}
+
+/// The stores of these members, each in its file. Where the members are told a list of them, each file is there
+/// already; where they are told their number, a missing file is made.
+pub fn stores_of(
+    rt: &HostRuntime,
+    told: &Told,
+    ids: &[u8],
+) -> Result<Vec<Option<FileDisk>>, Refusal> {
+    let mut stores = Vec::new(rt.alloc());
+    for id in ids {
+        let path = path_of(rt.alloc(), *id)?;
+        let opened = match told {
+            Told::Size(_) => FileDisk::open(rt, path.as_str()),
+            Told::Members(_) => FileDisk::open_made(rt, path.as_str()),
+        };
+        match opened {
+            Ok(disk) => stores.push(Some(disk))?,
+            Err(_) => return Err(Refusal::NotOpened),
+        }
+    }
+    Ok(stores)
+}
+
+/// The stores of these members, in files that are there already, to be read.
+pub fn old_stores(rt: &HostRuntime, ids: &[u8]) -> Result<Vec<Option<FileDisk>>, Refusal> {
+    let mut stores = Vec::new(rt.alloc());
+    for id in ids {
+        match FileDisk::open_old(rt, path_of(rt.alloc(), *id)?.as_str()) {
+            Ok(disk) => stores.push(Some(disk))?,
+            Err(_) => return Err(Refusal::NotOpened),
+        }
+    }
+    Ok(stores)
+}
+
+/// Makes a file for the store of each of these members, up to the first that cannot be made, and puts those that are
+/// made, and their paths, behind the others.
+pub fn made_stores(
+    rt: &HostRuntime,
+    ids: &[u8],
+    stores: &mut Vec<Option<FileDisk>>,
+    paths: &mut Vec<String>,
+) -> Result<(), Refusal> {
+    for id in ids {
+        let path = path_of(rt.alloc(), *id)?;
+        let Ok(disk) = FileDisk::make(rt, path.as_str()) else {
+            return Err(Refusal::NotOpened);
+        };
+        paths.push(path)?;
+        stores.push(Some(disk))?;
+    }
+    Ok(())
+}
+
+/// Takes these files away, as far as they can be.
+pub fn take_away<R: Files>(rt: &R, paths: &[String]) {
+    for path in paths {
+        let _ = fs::remove_file(rt, path.as_str());
+    }
+}
+
+/// The file in which this member has its store.
+fn path_of(alloc: Global, id: u8) -> Result<String, AllocError> {
+    format!(in alloc; "alloc-{}.store", id)
+}
