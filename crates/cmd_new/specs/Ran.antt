@@ -18,9 +18,10 @@ module _ {D : Type 0} (ghosts : Ghosts D) where
     pub tells : ghosts.tells after ≡ ghosts.tells before
     pub contents : ghosts.tells before ≡ true → ghosts.contents after ≡ ghosts.contents before
 
-  -- a disk is that of a member that ran before, or failed
+  -- a disk is not the store of a member that has stored nothing, if it tells what it holds, or it failed
   abbrev pub HasRun : D → D → Type 0
-  HasRun before after = (IsNew before → ⊥) ⊎ Rose (ghosts.faults before) (ghosts.faults after)
+  HasRun before after = (ghosts.tells before ≡ true → AreZeros (ghosts.contents before).seen → ⊥)
+      ⊎ Rose (ghosts.faults before) (ghosts.faults after)
 
   -- the same of a place, at which there may be none
   abbrev pub IsNewPlace : Option D → Type 0
