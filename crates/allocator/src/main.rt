@@ -13,6 +13,9 @@
 //! becomes that of a link or a disk. A word that is not UTF-8 is none that the program reads.
 #![tactic(auto)]
 
+ghost use Rattle.std.specs.Prelude.{◌≤◌, length};
+ghost use Rattle.can_frame.specs.Sizes.{most_members};
+
 mod opened;
 mod refusal;
 
@@ -95,7 +98,9 @@ fn run_over_udp(
     told: &Told,
     base: u16,
     ids: &[u8],
-) -> Result<Status, Refusal> {
+) -> Result<Status, Refusal>
+    requires { length ids.now ≤ most_members }
+{
     let _streams = held_streams(rt)?;
     let idle = Cell::new(0);
     let mut links = Vec::new(rt.alloc());
