@@ -1,4 +1,4 @@
-ghost use Rattle.std.specs.Prelude.{◌≡◌, ◌<◌, ◌≤◌, length, Some, None, IfSome, IsNone, MatchOption, is_some, slice_get};
+ghost use Rattle.std.specs.Prelude.{◌≡◌, ◌<◌, ◌≤◌, [], ◌∷◌, ◌++◌, codes, length, Some, None, IfSome, IsNone, MatchOption, is_some, slice_get};
 ghost use Rattle.std.specs.List.{list_any, position_from};
 ghost use Rattle.std.specs.Str.{bytes_eq};
 ghost use Rattle.dsdl_text.specs.Sections.{kind_layout, types_of};
@@ -54,18 +54,22 @@ pub fn number_bits(type_name: &[u8]) -> Option<u8>
     ensures fits { IfSome result (λ bits. bits < 65) }
 {
     match type_name {
-        b"bool" => Some(1),
-        b"uint1" => Some(1),
-        b"uint2" => Some(2),
-        b"uint3" => Some(3),
-        b"uint4" => Some(4),
-        b"uint5" => Some(5),
-        b"uint6" => Some(6),
-        b"uint7" => Some(7),
-        b"uint8" => Some(8),
-        b"uint16" => Some(16),
-        b"uint32" => Some(32),
-        b"uint64" => Some(64),
+        [b'b', b'o', b'o', b'l'] => Some(1),
+        [b'u', b'i', b'n', b't', digit] => digit_bits(*digit),
+        [b'u', b'i', b'n', b't', b'1', b'6'] => Some(16),
+        [b'u', b'i', b'n', b't', b'3', b'2'] => Some(32),
+        [b'u', b'i', b'n', b't', b'6', b'4'] => Some(64),
+        _ => None,
+    }
+}
+
+/// How many bits a number has whose type ends with that digit.
+fn digit_bits(digit: u8) -> Option<u8>
+    ensures value { result ≡ texts.number_bits (codes "uint" ++ digit ∷ []) }
+    ensures fits { IfSome result (λ bits. bits < 65) }
+{
+    match digit {
+        b'1'..=b'8' => Some(digit - b'0'),
         _ => None,
     }
 }
