@@ -5,6 +5,8 @@
 //! stays as it was, and the length tells how much room is needed. No memory is taken.
 #![tactic(auto)]
 
+mod sink;
+
 ghost use Rattle.std.specs.Prelude.{◌≡◌, ◌≤◌, ◌<◌, [], Some, length, take};
 ghost use Rattle.can_frame.specs.Sizes.{longest_payload, most_members};
 ghost use Rattle.cmd_io.specs.Codes.{status_code};
@@ -20,7 +22,7 @@ use cmd_decode::decode;
 use cmd_io::Status;
 use cmd_logs::{convert, watch};
 use outside::MemorySource;
-use page_sink::ArraySink;
+use sink::ArraySink;
 
 /// How a run ended: the exit code of the program, and how many bytes the report has.
 #[repr(C)]

@@ -1,3 +1,5 @@
+//! A sink that keeps what is written in itself.
+
 ghost use Rattle.std.specs.Prelude.{◌≡◌, ◌≤◌, [], Some, length};
 
 use arrayvec::ArrayVec;
