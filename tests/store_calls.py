@@ -1,6 +1,6 @@
 """Looks at the system calls by which the program keeps its stores, under strace.
 
-store_calls.py WAY PROGRAM BASE: in an empty folder. WAY is `order`, `write`, `sync` or `opening`. The status is 0 where
+store_calls.py WAY PROGRAM BASE: in an empty folder. WAY is `order`, `write`, `sync`, `opening` or `twice`. The status is 0 where
 all is as it has to be, 1 where it is not, and 77 where there is no strace that may trace.
 """
 from __future__ import annotations
@@ -127,12 +127,33 @@ def fails(program: str, base: int, call: str) -> List[str]:
     return faults + [f"after it comes {line}" for line in after]
 
 
+def twice(program: str, _base: int) -> List[str]:
+    """A store that somebody may write to is read twice: one that stays is compared, one that changes is not."""
+    subprocess.run([program, "new", "1"], check=True, stdout=subprocess.DEVNULL)
+    # The first read lasts half a second longer, so that bytes can change before the second.
+    slow = ("-P", os.path.abspath("alloc-1.store"), "-e", "inject=pread64:delay_exit=500000:when=1")
+    traced = ["strace", "-qq", "-o", "log", "-e", "trace=pread64", *slow]
+    faults: List[str] = []
+    for changes, expected in ((False, (0, b"agree 0\n")), (True, (DISK_FAULT, b"disk fault 1\n"))):
+        with subprocess.Popen([*traced, program, "audit", "1"], stdout=subprocess.PIPE) as tracer:
+            with open("alloc-1.store", "r+b", buffering=0) as store:
+                number = 0
+                while changes and tracer.poll() is None:
+                    number += 1
+                    # Behind the length of a copy that is not chosen: no value has these bytes.
+                    os.pwrite(store.fileno(), number.to_bytes(8, "little"), KEY_BYTES - 8)
+            written = tracer.communicate()[0]
+        if (tracer.returncode, written) != expected:
+            faults.append(f"changes: {changes}; the status is {tracer.returncode}, and this was written: {written!r}")
+    return faults
+
+
 def main() -> int:
     way, program, base = sys.argv[1], sys.argv[2], int(sys.argv[3])
     if not can_trace():
         return SKIPPED
-    if way == "order":
-        faults = order(program, base)
+    if way in ("order", "twice"):
+        faults = {"order": order, "twice": twice}[way](program, base)
     else:
         call = {"write": "pwrite64", "sync": "fdatasync", "opening": "fsync"}[way]
         faults = fails(program, base, call)
