@@ -4,6 +4,7 @@ ghost use Rattle.std.specs.Prelude.{◌≡◌, ◌<◌, ◌≤◌, length, repli
 ghost use Rattle.disk_model.specs.Pattern.{IsUsable};
 ghost use Rattle.kv_store.specs.Image.{key_count, value_limit};
 
+use crate::same::same;
 use arrayvec::ArrayVec;
 use can_frame::Entry;
 use disk_model::{IMAGE, MemoryDisk};
@@ -88,66 +89,41 @@ fn a_stop_leaves_the_state_after_some_of_the_puts(rt: HostRuntime) {
     for call in 1..9u64 {
         let late = Some((u32::from(call >= 5), 0, 0));
         let early = Some((u32::from(call >= 4), 0, 0));
-        assert_eq!(rt; stopped_in_set_term(call, Pattern::Old), late, "old {call}");
-        assert_eq!(rt;
-            stopped_in_set_term(call, Pattern::New),
-            early,
+        assert!(rt;
+            same(&stopped_in_set_term(call, Pattern::Old), &late),
+            "old {call}"
+        );
+        assert!(rt;
+            same(&stopped_in_set_term(call, Pattern::New), &early),
             "new {call}"
         );
-        assert_eq!(rt; stopped_in_set_term(call, byte(0x55)), early, "odd {call}");
-        assert_eq!(rt; stopped_in_set_term(call, byte(0xaa)), late, "even {call}");
+        assert!(rt;
+            same(&stopped_in_set_term(call, byte(0x55)), &early),
+            "odd {call}"
+        );
+        assert!(rt;
+            same(&stopped_in_set_term(call, byte(0xaa)), &late),
+            "even {call}"
+        );
         let none = Some((1, 0, 0));
         let last = Some((1, 0, u8::from(call >= 8)));
-        assert_eq!(rt; stopped_in_append(call, Pattern::Old), none, "old {call}");
-        assert_eq!(rt; stopped_in_append(call, Pattern::New), last, "new {call}");
-        assert_eq!(rt; stopped_in_append(call, byte(0x55)), last, "odd {call}");
-        assert_eq!(rt; stopped_in_append(call, byte(0xaa)), none, "even {call}");
+        assert!(rt;
+            same(&stopped_in_append(call, Pattern::Old), &none),
+            "old {call}"
+        );
+        assert!(rt;
+            same(&stopped_in_append(call, Pattern::New), &last),
+            "new {call}"
+        );
+        assert!(rt;
+            same(&stopped_in_append(call, byte(0x55)), &last),
+            "odd {call}"
+        );
+        assert!(rt;
+            same(&stopped_in_append(call, byte(0xaa)), &none),
+            "even {call}"
+        );
     }
-}
-
-/// The term after a `set_term(1)` whose sixth device call fails, and what this call and a vote answer.
-fn failed() -> Option<(u32, Result<(), Fault>, Result<(), Fault>)> {
-    let mut durable = empty()?;
-    durable.fail_at(6);
-    let first = take_term(&mut durable)?;
-    if durable.vote() != 0 {
-        return None;
-    }
-    let second = durable.set_vote(9);
-    if durable.stopped() {
-        return None;
-    }
-    Some((durable.term(), first, second))
-}
-
-/// The faults of a stored state that is closed, opened, stopped in `set_term(1)` and opened again, with the
-/// term that each opening finds.
-fn stopped_in_place() -> Option<[(bool, u32); 4]> {
-    let mut durable = Durable::closed(MemoryDisk::new(&[0; IMAGE]));
-    let closed = (durable.fault().is_some(), durable.term());
-    durable.reopen().ok()?;
-    let opened = (durable.fault().is_some(), durable.term());
-    durable.stop_at(5);
-    let _ = take_term(&mut durable)?;
-    durable.restart(Pattern::Old);
-    let stopped = (durable.fault().is_some(), durable.term());
-    durable.reopen().ok()?;
-    let again = (durable.fault().is_some(), durable.term());
-    Some([closed, opened, stopped, again])
-}
-
-#[test]
-fn a_stored_state_stays_where_it_is_through_a_stop(rt: HostRuntime) {
-    assert_eq!(rt;
-        stopped_in_place(),
-        Some([(true, 0), (false, 0), (true, 1), (false, 1)])
-    );
-}
-
-#[test]
-fn a_fault_is_answered_for_ever(rt: HostRuntime) {
-    let fault = Err(Fault { count: 1 });
-    assert_eq!(rt; failed(), Some((1, fault, fault)));
 }
 
 /// Term, vote, last, commit, and the entry at place 1 and its origin after a vote, an append, a commit, a
@@ -189,7 +165,7 @@ fn used() -> Option<(u32, u8, u8, u8, Entry, u8)> {
 
 #[test]
 fn what_was_put_is_found_again(rt: HostRuntime) {
-    assert_eq!(rt; used(), Some((1, 9, 1, 1, pair(), EXCHANGE)));
+    assert!(rt; same(&used(), &Some((1, 9, 1, 1, pair(), EXCHANGE))));
 }
 
 /// Why an image of zeros with these bytes is refused.
@@ -208,25 +184,41 @@ fn refused(bytes: &[(usize, u8)]) -> Option<OpenFault> {
 
 #[test]
 fn the_first_damaged_key_is_named(rt: HostRuntime) {
-    assert_eq!(rt; refused(&[(1, 1), (2, 1)]), None);
-    assert_eq!(rt; refused(&[(1, 1), (2, 2)]), None);
-    assert_eq!(rt; refused(&[(1, 1), (2, 3)]), Some(OpenFault::Damaged(0)));
-    assert_eq!(rt; refused(&[(1, 1)]), Some(OpenFault::Damaged(0)));
-    assert_eq!(rt; refused(&[(68, 3)]), Some(OpenFault::Damaged(1)));
-    assert_eq!(rt;
-        refused(&[(135, 1), (136, 126)]),
-        Some(OpenFault::Damaged(2))
+    assert!(rt; refused(&[(1, 1), (2, 1)]).is_none());
+    assert!(rt; refused(&[(1, 1), (2, 2)]).is_none());
+    assert!(rt; same(&refused(&[(1, 1), (2, 3)]), &Some(OpenFault::Damaged(0))));
+    assert!(rt; same(&refused(&[(1, 1)]), &Some(OpenFault::Damaged(0))));
+    assert!(rt; same(&refused(&[(68, 3)]), &Some(OpenFault::Damaged(1))));
+    assert!(rt;
+        same(
+            &refused(&[(135, 1), (136, 126)]),
+            &Some(OpenFault::Damaged(2))
+        )
     );
-    assert_eq!(rt;
-        refused(&[(202, 1), (203, 128)]),
-        Some(OpenFault::Damaged(3))
+    assert!(rt;
+        same(
+            &refused(&[(202, 1), (203, 128)]),
+            &Some(OpenFault::Damaged(3))
+        )
     );
-    assert_eq!(rt; refused(&[(269, 1), (270, 1)]), Some(OpenFault::Damaged(4)));
-    assert_eq!(rt; refused(&[(202, 1), (203, 1)]), Some(OpenFault::Damaged(5)));
-    assert_eq!(rt; refused(&[(8778, 33)]), Some(OpenFault::Damaged(131)));
-    assert_eq!(rt;
-        refused(&[(68, 3), (8778, 33)]),
-        Some(OpenFault::Damaged(131))
+    assert!(rt;
+        same(
+            &refused(&[(269, 1), (270, 1)]),
+            &Some(OpenFault::Damaged(4))
+        )
+    );
+    assert!(rt;
+        same(
+            &refused(&[(202, 1), (203, 1)]),
+            &Some(OpenFault::Damaged(5))
+        )
+    );
+    assert!(rt; same(&refused(&[(8778, 33)]), &Some(OpenFault::Damaged(131))));
+    assert!(rt;
+        same(
+            &refused(&[(68, 3), (8778, 33)]),
+            &Some(OpenFault::Damaged(131))
+        )
     );
 }
 
@@ -275,31 +267,11 @@ fn two_pairs(version: u8, first: &[u8], second: &[u8]) -> MemoryDisk
     MemoryDisk::new(&image)
 }
 
-/// What a stop in place of a device call of an opening leaves of a disk, where the opening makes that call.
-fn stopped_in_opening(mut disk: MemoryDisk, call: u64, pattern: Pattern) -> Option<MemoryDisk>
-    requires { IsUsable pattern }
-{
-    disk.stop_at(call);
-    match Durable::open(disk) {
-        Ok(_) => None,
-        Err(refused) => {
-            let mut disk = refused.disk;
-            if !disk.stopped() {
-                return None;
-            }
-            disk.restart(pattern);
-            Some(disk)
-        }
-    }
-}
-
 /// Term, vote, last, commit, and of both entries the node ID and the origin.
 type Found = (u32, u8, u8, u8, [u8; 4]);
 
-/// What an opening finds of two entries that makes no more device calls than these, and the disk.
-fn opened_by(mut disk: MemoryDisk, calls: u64) -> Option<(Found, MemoryDisk)> {
-    disk.stop_at(calls.saturating_add(1));
-    let durable = Durable::open(disk).ok()?;
+/// What is found of two entries.
+fn found_in(durable: &Durable<MemoryDisk>) -> Option<Found> {
     if durable.last() != 2 {
         return None;
     }
@@ -309,89 +281,19 @@ fn opened_by(mut disk: MemoryDisk, calls: u64) -> Option<(Found, MemoryDisk)> {
         durable.entry(2).node,
         durable.origin(2),
     ];
-    let found = (
+    Some((
         durable.term(),
         durable.vote(),
         durable.last(),
         durable.commit(),
         entries,
-    );
-    Some((found, durable.into_disk()))
-}
-
-/// How a stop treats the write that was not synced: it loses or keeps it, or leaves a pattern of one byte,
-/// where the selector is 1 if it was turned.
-#[derive(Clone, Copy)]
-enum Stop {
-    Lost,
-    Kept,
-    Byte(u8),
-}
-
-impl Stop {
-    fn pattern(self) -> Pattern
-        ensures { IsUsable result }
-    {
-        match self {
-            Stop::Lost => Pattern::Old,
-            Stop::Kept => Pattern::New,
-            Stop::Byte(pattern) => byte(pattern),
-        }
-    }
-}
-
-/// What an opening leaves of two pairs of version 1 that stops at a device call.
-fn cut_off(call: u64, stop: Stop) -> Option<MemoryDisk> {
-    stopped_in_opening(two_pairs(1, &[], &[]), call, stop.pattern())
-}
-
-/// How many device calls the opening after it makes, where it finds the pairs and origins of 0, and the one
-/// after that makes two and finds the same.
-fn goes_on(call: u64, stop: Stop) -> Option<u64> {
-    let expected = (1, 0, 2, 2, [125, 0, 124, 0]);
-    for calls in 1..20u64 {
-        if stopped_in_opening(cut_off(call, stop)?, calls, Pattern::Old).is_some() {
-            continue;
-        }
-        let calls = calls.saturating_sub(1);
-        let (found, disk) = opened_by(cut_off(call, stop)?, calls)?;
-        let disk = stopped_in_opening(disk, 2, Pattern::Old)?;
-        let (again, _) = opened_by(disk, 2)?;
-        return if found == expected && again == expected {
-            Some(calls)
-        } else {
-            None
-        };
-    }
-    None
-}
-
-#[test]
-fn an_opening_goes_on_where_another_was_cut_off(rt: HostRuntime) {
-    for call in 1..15u64 {
-        let lost = match call {
-            1..=6 => 14,
-            7..=10 => 10,
-            _ => 6,
-        };
-        let kept = match call {
-            1..=5 => 14,
-            6..=9 => 10,
-            10..=13 => 6,
-            _ => 2,
-        };
-        assert_eq!(rt; goes_on(call, Stop::Lost), Some(lost), "lost {call}");
-        assert_eq!(rt; goes_on(call, Stop::Byte(0xaa)), Some(lost), "even {call}");
-        assert_eq!(rt; goes_on(call, Stop::Kept), Some(kept), "kept {call}");
-        assert_eq!(rt; goes_on(call, Stop::Byte(0x55)), Some(kept), "odd {call}");
-    }
-    assert!(rt; cut_off(15, Stop::Lost).is_none());
+    ))
 }
 
 /// What an opening finds of two pairs, or the key that is damaged.
 fn opened(disk: MemoryDisk) -> Result<Option<Found>, OpenFault> {
     match Durable::open(disk) {
-        Ok(durable) => Ok(opened_by(durable.into_disk(), 2).map(|opened| opened.0)),
+        Ok(durable) => Ok(found_in(&durable)),
         Err(refused) => Err(refused.why),
     }
 }
@@ -401,18 +303,37 @@ fn an_entry_has_an_origin_from_version_2_on(rt: HostRuntime) {
     let found = |first: u8, second: u8| Ok(Some((1, 0, 2, 2, [125, first, 124, second])));
     for origin in 0..5u8 {
         let other = 4 - origin;
-        assert_eq!(rt;
-            opened(two_pairs(2, &[origin], &[other])),
-            found(origin, other)
+        assert!(rt;
+            same(
+                &opened(two_pairs(2, &[origin], &[other])),
+                &found(origin, other)
+            )
         );
-        assert_eq!(rt; opened(two_pairs(1, &[], &[origin])), found(0, origin));
+        assert!(rt; same(&opened(two_pairs(1, &[], &[origin])), &found(0, origin)));
     }
-    assert_eq!(rt; opened(two_pairs(0, &[], &[])), found(0, 0));
-    assert_eq!(rt; opened(two_pairs(1, &[], &[5])), Err(OpenFault::Damaged(6)));
-    assert_eq!(rt;
-        opened(two_pairs(1, &[], &[0, 0])),
-        Err(OpenFault::Damaged(6))
+    assert!(rt; same(&opened(two_pairs(0, &[], &[])), &found(0, 0)));
+    assert!(rt;
+        same(
+            &opened(two_pairs(1, &[], &[5])),
+            &Err(OpenFault::Damaged(6))
+        )
     );
-    assert_eq!(rt; opened(two_pairs(2, &[], &[0])), Err(OpenFault::Damaged(5)));
-    assert_eq!(rt; opened(two_pairs(2, &[0], &[])), Err(OpenFault::Damaged(6)));
+    assert!(rt;
+        same(
+            &opened(two_pairs(1, &[], &[0, 0])),
+            &Err(OpenFault::Damaged(6))
+        )
+    );
+    assert!(rt;
+        same(
+            &opened(two_pairs(2, &[], &[0])),
+            &Err(OpenFault::Damaged(5))
+        )
+    );
+    assert!(rt;
+        same(
+            &opened(two_pairs(2, &[0], &[])),
+            &Err(OpenFault::Damaged(6))
+        )
+    );
 }

@@ -1,0 +1,9 @@
+use Rattle.std.proofs.Common.{◌∙◌}
+use Rattle.raft_log.specs.DurableViews.{durable_state}
+use Rattle.store_tests.proofs.member.Member.expire.Goals as goal
+
+pub invariant_of-result : goal.invariant_of-result
+invariant_of-result c = record {
+  sized = c.expire.ensures.size ∙ c.args.self.sized;
+  fits = c.expire.ensures.fits (durable_state c.args.self.durable) c.args.self.fits;
+}
