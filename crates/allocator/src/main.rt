@@ -22,7 +22,7 @@ mod refusal;
 use crate::opened::{held_streams, link_of, made_stores, old_stores, stores_of, take_away};
 use crate::refusal::Refusal;
 use allocator_app::{Plan, Status, Told, plan, run};
-use can_link::{CanBus, CanLink};
+use can_link::{CanBus, CanLink, RawSocket};
 use cmd_new::any_has_run;
 use disk_model::FileDisk;
 use host_pace::{PacedClock, TimelyLink};
@@ -111,7 +111,7 @@ fn run_over_udp(
     run_members(rt, words, told, ids, &mut links, &idle)
 }
 
-/// Runs these members, with their links on the CAN bus of the socket.
+/// Runs these members, with their links on the CAN bus of the socket, until the echo of a frame is late.
 fn run_on_can(
     rt: &HostRuntime,
     words: &[String],
@@ -120,13 +120,21 @@ fn run_on_can(
 ) -> Result<Status, Refusal> {
     let _streams = held_streams(rt)?;
     let idle = Cell::new(0);
-    let bus = RefCell::new(CanBus::new(SOCKET));
+    let bus = RefCell::new(CanBus::new(RawSocket::new(SOCKET), StdClock::new(rt)));
     let mut links = Vec::new(rt.alloc());
     for place in 0..ids.len() {
         let link = CanLink::new(&bus, place);
         links.push(TimelyLink::new(link, StdClock::new(rt), &idle))?;
     }
-    run_members(rt, words, told, ids, &mut links, &idle)
+    let status = run_members(rt, words, told, ids, &mut links, &idle)?;
+    let is_late = match bus.try_borrow() {
+        Ok(bus) => bus.is_late(),
+        Err(_) => false,
+    };
+    match status {
+        Status::LinkFault(_) if is_late => Err(Refusal::LateEcho),
+        _ => Ok(status),
+    }
 }
 
 /// Runs these members over links that are open, once their stores are open and the process has rested.

@@ -6,7 +6,7 @@ use std::alloc::{AllocError, AllocFailed};
 use std::io;
 use std::io::ErrorKind;
 
-/// Why the program ends before it does what its words say.
+/// Why the program ends with no status of [`allocator_app::run`].
 #[derive(Clone, Copy, Debug, Drop, PartialEq, Eq)]
 pub enum Refusal {
     /// There is not enough memory.
@@ -17,15 +17,19 @@ pub enum Refusal {
 
     /// A link or a disk was not opened.
     NotOpened,
+
+    /// The echo of a frame is late: it waits in the CAN interface.
+    LateEcho,
 }
 
 impl Refusal {
-    /// The exit code: that of the status of this name, or 12.
+    /// The exit code: that of the status of this name, or one of the program's own.
     pub fn code(self) -> u8 {
         match self {
             Refusal::Memory => Status::Memory.code(),
             Refusal::Usage => Status::Usage.code(),
             Refusal::NotOpened => 12,
+            Refusal::LateEcho => 17,
         }
     }
 }

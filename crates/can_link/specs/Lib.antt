@@ -1,2 +1,4 @@
 pub mod Packet
 pub mod Inboxes
+pub mod Socket
+pub mod Way

@@ -4,22 +4,23 @@ ghost use Rattle.outside.specs.Faults.{HasCause, counted, one_more};
 ghost use Rattle.outside.specs.Traffic.{Receives, Sends};
 
 use crate::bus::CanBus;
-use outside::{Failed, Link, RawFrame, Received};
+use crate::socket::Socket;
+use outside::{Clock, Failed, Link, RawFrame, Received};
 use std::cell::RefCell;
 
 /// The link of one member over a bus that it may share with others of its process. It tells no contents.
 #[derive(Drop)]
-pub struct CanLink<'a> {
-    bus: &'a RefCell<CanBus>,
+pub struct CanLink<'a, S, C> {
+    bus: &'a RefCell<CanBus<S, C>>,
 
     /// Of the members of this process, the first one has 0.
     place: usize,
     faults: u64,
 }
 
-impl<'a> CanLink<'a> {
+impl<'a, S: Socket, C: Clock> CanLink<'a, S, C> {
     /// The link of the member at a place, 0 to 4.
-    pub fn new(bus: &'a RefCell<CanBus>, place: usize) -> CanLink<'a>
+    pub fn new(bus: &'a RefCell<CanBus<S, C>>, place: usize) -> CanLink<'a, S, C>
         ensures place { result.place ≡ place }
         ensures faults { result.faults ≡ 0 }
     {
@@ -40,7 +41,7 @@ impl<'a> CanLink<'a> {
         Failed
     }
 
-    /// What has come, unless the socket failed.
+    /// What has come, unless the socket failed or an echo is late.
     fn received(&self) -> Option<Received> {
         match self.bus.try_borrow_mut() {
             Ok(mut bus) => bus.recv(self.place),
@@ -57,7 +58,7 @@ impl<'a> CanLink<'a> {
     }
 }
 
-impl Link for CanLink<'_> {
+impl<S: Socket, C: Clock> Link for CanLink<'_, S, C> {
     ghost coming = { λ _. None };
 
     ghost sent = { λ _. None };

@@ -1,0 +1,135 @@
+"""A member of `can` alone on a packet socket, looked at packet by packet: one frame is on its way at a time, a member whose
+echo is late writes nothing more and ends, and who of one process hears what. For tests/program.
+
+packet_echoes.py PROGRAM: in an empty folder; it ends with 1, and says what is not so."""
+from __future__ import annotations
+
+import os
+import socket
+import subprocess
+import sys
+import time
+from typing import Callable, Dict, Iterator, List, Optional, Tuple
+
+sys.dont_write_bytecode = True
+import packets  # noqa: E402 (it stands beside this file)
+
+LATE_ECHO = 17
+LATE = 0.5  # seconds until an echo is late
+PATIENCE = 30.0  # seconds until a member has to have sent something, or to have ended
+
+
+class Members:
+    """One process of `can` with these members, whose cluster has three, and the other end of its socket."""
+
+    def __init__(self, program: str, nodes: List[int]) -> None:
+        names = list(map(str, nodes))
+        subprocess.run([program, "new", *names], stdout=subprocess.DEVNULL, check=True)
+        self.end, theirs = socket.socketpair(socket.AF_UNIX, socket.SOCK_SEQPACKET)
+        theirs.setblocking(False)
+        words = [program, "can", "1,2,3", "1000000000", *names]
+        with theirs, open("report", "wb") as report:
+            self.process = subprocess.Popen(words, stdin=theirs.fileno(), stdout=report)
+
+    def packet(self, seconds: float) -> Optional[bytes]:
+        """The next packet that the process writes; None where it writes none for so many seconds, or ended."""
+        self.end.settimeout(seconds)
+        try:
+            return self.end.recv(64) or None
+        except OSError:
+            return None
+
+    def packets(self, seconds: float) -> Iterator[bytes]:
+        end = time.monotonic() + seconds
+        while time.monotonic() < end and (packet := self.packet(max(0.001, end - time.monotonic()))):
+            yield packet
+
+    def give(self, packet: bytes) -> None:
+        self.end.send(packet)
+
+    def close(self) -> None:
+        if self.process.poll() is None:
+            self.process.kill()
+        self.process.wait()
+        self.end.close()
+        for name in os.listdir():
+            os.remove(name)
+
+
+def withheld(program: str, echoed: int) -> Tuple[bool, str]:
+    """After so many echoes none comes any more: the next frame is the last one, and its process ends."""
+    members = Members(program, [1])
+    try:
+        for _ in range(echoed):
+            packet = members.packet(PATIENCE)
+            if packet is None:
+                return False, "it wrote nothing"
+            members.give(packet)
+        if members.packet(PATIENCE) is None:
+            return False, "it wrote nothing"
+        written, begun = time.monotonic(), len(list(members.packets(PATIENCE)))
+        status, lasted = members.process.wait(PATIENCE), time.monotonic() - written
+        said = f"{begun} further frames, status {status} after {lasted:.2f} s"
+        return begun == 0 and status == LATE_ECHO and LATE <= lasted < 10 * LATE, said
+    finally:
+        members.close()
+
+
+def delayed(program: str) -> Tuple[bool, str]:
+    """An echo that comes a little less than late is none that is late; and what another sends is no echo."""
+    members = Members(program, [1])
+    try:
+        for _ in range(4):
+            packet = members.packet(PATIENCE)
+            if packet is None:
+                return False, f"it ended with {members.process.poll()}"
+            identifier, data = packets.frame_of(packet)
+            members.give(packets.packet_of(identifier, bytes([data[0] ^ 1]) + data[1:]))  # the same but for one bit
+            if list(members.packets(LATE / 5)):
+                return False, "it took another frame for its echo"
+            members.give(packet)
+        return True, ""
+    finally:
+        members.close()
+
+
+def two_of_one_process(program: str) -> Tuple[bool, str]:
+    """Of two members of one process each hears the other, once that was on the bus, and never itself: the one that asks
+    for votes is answered by the other, and by nobody else."""
+    members = Members(program, [1, 2])
+    answers: Dict[Tuple[int, int], int] = {}
+    try:
+        end = time.monotonic() + PATIENCE
+        while time.monotonic() < end and not answers:
+            packet = members.packet(PATIENCE)
+            if packet is None:
+                return False, f"it ended with {members.process.poll()}"
+            members.give(packet)
+            identifier, _ = packets.frame_of(packet)
+            if identifier & 0x80 and not identifier & 0x8000:  # a response
+                pair = identifier & 0x7F, identifier >> 8 & 0x7F
+                answers[pair] = answers.get(pair, 0) + 1
+        return set(answers) in ({(1, 2)}, {(2, 1)}), f"answers: {answers}"
+    finally:
+        members.close()
+
+
+def main() -> int:
+    program = sys.argv[1]
+    tries: List[Tuple[str, Callable[[], Tuple[bool, str]]]] = [
+        ("an echo that never comes ends the member", lambda: withheld(program, 0)),
+        ("a later echo that does not come ends it too", lambda: withheld(program, 5)),
+        ("an echo in time, and another's frame", lambda: delayed(program)),
+        ("two members of one process hear each other", lambda: two_of_one_process(program)),
+    ]
+    failed = 0
+    for text, one in tries:
+        is_so, said = one()
+        if not is_so:
+            print(f"not so: {text}: {said}")
+            failed += 1
+    return 1 if failed else 0
+
+
+if __name__ == "__main__":
+    sys.exit(main())
