@@ -214,19 +214,16 @@ class OneAtATime(Case):
         self.assertEqual(self.told(1) + self.told(2), [])
         self.assertEqual(self.counts("own"), [0])
 
-    def test_a_frame_that_nobody_acknowledges_is_told_once(self) -> None:
-        self.says(1, datagram(NODE_STATUS_OF_1))
+    def test_a_frame_that_nobody_acknowledges_ends_the_bridge(self) -> None:
+        for number in range(2):
+            self.says(1, datagram(NODE_STATUS_OF_1, bytes([number, 0xC0])))
         self.turn()
         self.assertEqual(self.errors.getvalue(), "")
         self.old_after(0.0)
-        self.says(1, datagram(NODE_STATUS_OF_1))
-        self.turn()
-        self.turn()
-        self.assertEqual(self.errors.getvalue().count("acknowledged"), 1)
-        self.raw.echoes()
-        self.turn()
-        self.assertEqual(len(self.raw.sent), 1, "what waited for too long is dropped")
-        self.assertEqual(self.counts("to_bus", "too_old"), [1, 1])
+        with self.assertRaisesRegex(Ended, "is the cable of can0 loose") as raised:
+            self.turn()
+        self.assertEqual(raised.exception.status, 17)
+        self.assertEqual(len(self.raw.sent), 1, "nothing is written behind it")
 
     def test_an_echo_that_waits_in_the_socket_is_in_time(self) -> None:
         """This process did not run for a while: the frame was out long before."""
