@@ -26,7 +26,7 @@ SANITIZED = ["-g", "-O1", "-fsanitize=address,undefined", "-fno-sanitize-recover
 SIX_FUNCTIONS = {"pread", "pwrite", "fdatasync", "memcpy", "memmove", "memset"}
 MEMBERS = (1, 2, 3)
 STORE_BYTES = 8844
-NOT_OPENED = 12
+NOT_OPENED, LATE_ECHO = 12, 17
 REST = 5.5  # seconds of a member whose store is not new
 PATIENCE = 30  # seconds that a device waits: a rest, and some elections
 C_EXAMPLES = EXAMPLES / "c"
@@ -226,6 +226,21 @@ class Start(unittest.TestCase):
         self.assertLess(waits[0], REST)
         self.assertGreaterEqual(waits[1], REST)
         self.assertLess(waits[1], PATIENCE)
+
+
+    def test_a_late_echo_ends_it(self) -> None:
+        """Nobody acknowledges: its first frame is its last one, until somebody looked at the cable."""
+        folder = tempfile.mkdtemp(dir=Place.folder)
+        done(self.program, "new", "alloc-1.store", cwd=folder)
+        ours, theirs = socket.socketpair(socket.AF_UNIX, socket.SOCK_SEQPACKET)
+        with ours, theirs:
+            words = [self.program, f"fd:{theirs.fileno()}", "1", "1,", "alloc-1.store"]
+            ended = Ended(words, cwd=folder, pass_fds=[theirs.fileno()], timeout=PATIENCE)
+            theirs.close()
+            self.assertEqual(ended.status, LATE_ECHO, ended.errors)
+            self.assertIn("nobody acknowledges", ended.errors)
+            self.assertEqual(len(ours.recv(64)), 16)
+            self.assertEqual(ours.recv(64), b"")
 
 
 class Cluster(unittest.TestCase):

@@ -10,7 +10,8 @@
  * the program, which then writes its list to standard error.
  *
  * The status is 0; 1 for wrong words; 12 where the socket or the store cannot be opened, or the store cannot be made; 13
- * where the socket failed; 14 where the store failed or is damaged.
+ * where the socket failed; 14 where the store failed or is damaged; 17 where the echo of a frame was half a second late:
+ * nobody acknowledged it, and it waits in the interface. Take that down, and up again, before the next start.
  *
  * INTERFACE may be fd:N, a socket of packets that is open already and gives each packet back to its sender, for tests.
  */
@@ -33,11 +34,14 @@
 #include <time.h>
 #include <unistd.h>
 
-enum { WRONG_WORDS = 1, NOT_OPENED = 12, BUS_FAILED = 13, STORE_FAILED = 14 };
+enum { WRONG_WORDS = 1, NOT_OPENED = 12, BUS_FAILED = 13, STORE_FAILED = 14, LATE_ECHO = 17 };
 
-/* Milliseconds. A frame that was not on the bus by then may never come there: nobody acknowledges, or the controller
- * was started again. What waits behind it is let go. */
+/* Milliseconds. A frame that was not on the bus by then waits in the controller, since nobody acknowledges it, and comes
+ * out when somebody does, however late that is. So the program ends, and writes nothing behind it. */
 enum { LONGEST_ON_ITS_WAY = 500 };
+
+/* Milliseconds. Where the program was stopped for longer than that, what waits to be sent is let go. */
+enum { LONGEST_PAUSE = 1000 };
 
 /* Milliseconds from the last frame of a member to the opening of the next one with its store: its transfer IDs begin at
  * 0 again, so no frame of before, and no answer to one, may be on its way any more. */
@@ -50,8 +54,8 @@ enum { MOST_MEMBERS = 5 };
 struct bus {
     int fd;
     int is_on_its_way;
-    int is_silent; /* it was said that nobody acknowledges */
-    uint64_t since;
+    uint64_t since; /* the reading before the frame on its way was written */
+    uint64_t turn;  /* the reading at which this turn began */
     struct can_frame last;
     caldrouz_ages ages;
 };
@@ -188,7 +192,6 @@ static int hear_one(struct bus *bus, caldrouz *node, uint32_t *status) {
     }
     if (bus->is_on_its_way && is_same(&in, &bus->last)) {
         bus->is_on_its_way = 0;
-        bus->is_silent = 0;
         return 1;
     }
     if (!caldrouz_ages_is_fresh(&bus->ages, now)) {
@@ -204,19 +207,25 @@ static int hear_one(struct bus *bus, caldrouz *node, uint32_t *status) {
     return 1;
 }
 
+/* Whether the echo of a frame is late, where the socket has nothing any more: it may have waited there. */
+static int is_late(const struct bus *bus) {
+    return bus->is_on_its_way && now_ms() - bus->since > LONGEST_ON_ITS_WAY;
+}
+
+/* Lets go of what waits to be sent, where the program was stopped since this turn began: it is old. */
+static void let_go_of_old(const struct bus *bus, caldrouz *node, uint64_t now) {
+    caldrouz_frame frame;
+    if (now - bus->turn > LONGEST_PAUSE) {
+        while (caldrouz_take(node, &frame)) {
+        }
+    }
+}
+
 /* Sends the next frame, if none is on its way. Answers 1, 0 where none was sent, or -1 where the socket failed. */
 static int send_one(struct bus *bus, caldrouz *node) {
     const uint64_t now = now_ms();
     caldrouz_frame frame;
-    if (bus->is_on_its_way && now - bus->since > LONGEST_ON_ITS_WAY) {
-        if (!bus->is_silent) {
-            fprintf(stderr, "nobody acknowledges\n");
-        }
-        bus->is_silent = 1;
-        bus->is_on_its_way = 0;
-        while (caldrouz_take(node, &frame)) {
-        }
-    }
+    let_go_of_old(bus, node, now);
     if (bus->is_on_its_way || !caldrouz_take(node, &frame)) {
         return 0;
     }
@@ -289,6 +298,7 @@ int main(int count, char **words) {
         return NOT_OPENED;
     }
     caldrouz_ages_empty(&bus.ages, now_ms());
+    bus.turn = now_ms();
     if (ran_before(store)) {
         rest(REST);
         if (is_ended) {
@@ -305,11 +315,18 @@ int main(int count, char **words) {
     /* a turn is that of `allocator node`: the clock, one frame that came, one frame to send */
     while (status == CALDROUZ_DONE && !is_ended) {
         int heard, sent;
-        status = caldrouz_tick(&node, now_ms(), random_word());
+        const uint64_t now = now_ms();
+        let_go_of_old(&bus, &node, now);
+        bus.turn = now;
+        status = caldrouz_tick(&node, now, random_word());
         if (status != CALDROUZ_DONE) {
             break;
         }
         heard = hear_one(&bus, &node, &status);
+        if (heard == 0 && is_late(&bus)) {
+            fprintf(stderr, "%s: nobody acknowledges: take it down, and up again, before its cable is mended\n", words[1]);
+            return LATE_ECHO;
+        }
         sent = status == CALDROUZ_DONE && heard >= 0 ? send_one(&bus, &node) : 0;
         if (heard < 0 || sent < 0) {
             perror(words[1]);
