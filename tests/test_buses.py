@@ -3,6 +3,7 @@ from __future__ import annotations
 
 import errno
 import socket
+import struct
 import unittest
 from unittest import mock
 
@@ -23,6 +24,31 @@ class Words(unittest.TestCase):
         for name in ("", "an_interface_that_is_too_long", "can\0"):
             with self.assertRaises(OSError):
                 buses.open_bus(name)
+
+
+class Echo(unittest.TestCase):
+    """What the kernel tells of interfaces: the flags are those of `ip link show`, <NOARP,UP,LOWER_UP,ECHO> and the like."""
+
+    def answer(self, flags: int, kind: bytes) -> bytes:
+        def attribute(number: int, value: bytes) -> bytes:
+            return struct.pack("=HH", 4 + len(value), number) + value + bytes(-len(value) % 4)
+
+        body = attribute(3, b"can0\0") + attribute(18, attribute(1, kind + b"\0"))
+        return struct.pack("=IHHIIBxHiII", 32 + len(body), 16, 0, 1, 0, 0, 280, 3, flags, 0) + body
+
+    def test_a_driver_with_an_echo_of_its_own_and_a_bus_without_a_wire(self) -> None:
+        self.assertIs(buses.has_true_echo(self.answer(0x400C1, b"can")), True)
+        self.assertIs(buses.has_true_echo(self.answer(0xC1, b"can")), False)
+        self.assertIs(buses.has_true_echo(self.answer(0xC1, b"slcan")), False)
+        self.assertIs(buses.has_true_echo(self.answer(0xC1, b"vcan")), True)
+
+    def test_what_is_no_description_tells_nothing(self) -> None:
+        self.assertIsNone(buses.has_true_echo(b""))
+        self.assertIsNone(buses.has_true_echo(struct.pack("=IHHII", 36, 2, 0, 1, 0) + bytes(20)))
+
+    def test_interfaces_of_this_machine(self) -> None:
+        self.assertIs(buses.tells_what_is_out("lo"), False)
+        self.assertIsNone(buses.tells_what_is_out("no-interface"))
 
 
 class OverUdp(unittest.TestCase):

@@ -5,13 +5,15 @@
     frame = bus.receive(0.5)              # a Frame, or None where none comes for so many seconds
     bus.send(frame)                       # as a node on the bus would
     buses.is_base("5000")                 # whether a word is a base port
+    buses.tells_what_is_out("can0")       # whether the driver gives a frame back once it was on the bus
 """
 from __future__ import annotations
 
 import errno
 import socket
+import struct
 import time
-from typing import List, Optional, Sequence, Tuple, Union
+from typing import Dict, List, Optional, Sequence, Tuple, Union
 
 from . import table, wire
 
@@ -21,10 +23,50 @@ TOOL_PORTS = 118, 121, 122, 123, 124, 125
 BRIDGE_PORT = 119  # from here members that were told their list take frames of any node
 ROOM = 1 << 20  # bytes that a socket is asked to keep
 FULL_FOR = 0.5  # seconds for which a full queue of an interface is tried again
+IFF_ECHO = 1 << 18  # of linux/if.h
+WITHOUT_A_WIRE = "vcan", "vxcan"  # what is sent on these is out at once
+MESSAGE = struct.Struct("=IHHIIBxHiII")  # a struct nlmsghdr and a struct ifinfomsg of Linux
+GET_LINK, NEW_LINK, IS_REQUEST = 18, 16, 1
+LINK_INFO, INFO_KIND = 18, 1
 
 
 def is_base(word: str) -> bool:
     return word.isascii() and word.isdigit() and LEAST_BASE <= int(word[:9]) <= GREATEST_BASE and len(word) < 9
+
+
+def tells_what_is_out(channel: str) -> Optional[bool]:
+    """Whether a frame comes back on this interface once it was on the bus, and no sooner; None where the system does not
+    tell. Where the driver has no echo of its own, the kernel gives a frame back before the driver has it."""
+    try:
+        with socket.socket(socket.AF_NETLINK, socket.SOCK_RAW, 0) as link:
+            link.settimeout(1.0)
+            link.send(MESSAGE.pack(MESSAGE.size, GET_LINK, IS_REQUEST, 1, 0, 0, 0, socket.if_nametoindex(channel), 0, 0))
+            answer = link.recv(1 << 16)
+    except OSError:
+        return None
+    return has_true_echo(answer)
+
+
+def has_true_echo(answer: bytes) -> Optional[bool]:
+    """What the kernel's description of an interface says of its echo; None where it is none."""
+    if len(answer) < MESSAGE.size:
+        return None
+    _, kind, _, _, _, _, _, _, flags, _ = MESSAGE.unpack_from(answer)
+    if kind != NEW_LINK:
+        return None
+    info = _attributes(_attributes(answer[MESSAGE.size:]).get(LINK_INFO, b""))
+    return bool(flags & IFF_ECHO) or info.get(INFO_KIND, b"").rstrip(b"\0").decode() in WITHOUT_A_WIRE
+
+
+def _attributes(data: bytes) -> Dict[int, bytes]:
+    found = {}
+    while len(data) >= 4:
+        length, kind = struct.unpack_from("=HH", data)
+        if length < 4:
+            break
+        found[kind] = data[4:length]
+        data = data[length + 3 & ~3:]
+    return found
 
 
 class UdpBus:
