@@ -62,12 +62,14 @@ class Processes(unittest.TestCase):
         with tempfile.TemporaryDirectory() as name:
             proc = pathlib.Path(name)
             lines = {7: "allocator node 3 5000 9 1", 8: "/usr/bin/allocator node 1,2,3 5200 9 1 2", 9: "less node"}
+            lines[10] = "/usr/lib/caldrouz/allocator can 1,2,3 9 3"
+            lines[11] = "allocator can 1,2,3 9"
             for number, words in lines.items():
                 (proc / str(number)).mkdir()
                 (proc / str(number) / "cmdline").write_text(words.replace(" ", "\0") + "\0")
                 (proc / str(number) / "cwd").symlink_to(name)
             found = machine.members_running(name)
-        self.assertEqual([(it.process, it.members) for it in found], [(7, [1]), (8, [1, 2])])
+        self.assertEqual([(it.process, it.members) for it in found], [(7, [1]), (8, [1, 2]), (10, [3])])
 
 
 class Interfaces(unittest.TestCase):
@@ -96,8 +98,13 @@ class Interfaces(unittest.TestCase):
                 "journalctl": "echo to_bus=5 own=3",
             }
         )
-        self.assertEqual(found, machine.Interface(True, "can", 1000, 100, 500000, "ERROR-PASSIVE"))
+        self.assertEqual(found, machine.Interface(True, False, "can", 1000, 100, 500000, "ERROR-PASSIVE"))
         self.assertEqual(self.journal, "to_bus=5 own=3\n")
+
+    def test_who_tells_when_a_frame_was_on_the_bus(self) -> None:
+        for flags, kind, echo in (('"ECHO"', "can", True), ("", "slcan", False), ("", "vcan", True)):
+            text = f'[{{"flags":[{flags}],"linkinfo":{{"info_kind":"{kind}"}}}}]'
+            self.assertEqual(self.told({"ip": f"echo '{text}'"}).echo, echo, kind)
 
     def test_what_makes_no_sense(self) -> None:
         for text in ("", "[]", "[5]", "{}", "nonsense"):

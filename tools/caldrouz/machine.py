@@ -3,6 +3,7 @@
     machine.disk_of(path)                 # a Disk: the kind of its file system, where it is mounted, with which options
     machine.members_running()             # the processes that run members
     machine.interface("can0")             # an Interface, or None where `ip` cannot tell
+    machine.clock_error(1.0)              # by which part of itself the clock of the members goes too fast now
     machine.slept()                       # seconds for which the machine was suspended since its start
 """
 from __future__ import annotations
@@ -14,11 +15,14 @@ import subprocess
 import time
 from typing import Dict, List, NamedTuple, Optional
 
+from . import buses
+
 LASTING = {"btrfs", "ext2", "ext3", "ext4", "f2fs", "jffs2", "jfs", "reiserfs", "ubifs", "vfat", "xfs", "zfs"}
 IN_MEMORY = {"tmpfs", "ramfs", "devtmpfs", "rootfs"}
 OF_NETWORK = {"nfs", "nfs4", "cifs", "smb3", "9p", "ceph", "afs", "fuse.sshfs", "glusterfs", "virtiofs"}
 LAYERS = {"overlay", "aufs", "squashfs", "iso9660", "erofs"}
 UNSAFE_OPTIONS = {"nobarrier", "barrier=0"}
+BEFORE_IDS = {"node": 5, "can": 4}  # words before the node IDs, by mode
 SETTING = re.compile(r"\s*([A-Z_]+)=(.*)")
 
 
@@ -67,7 +71,8 @@ class Running(NamedTuple):
 
 
 def members_running(proc: str = "/proc") -> List[Running]:
-    """The processes `.. node <members> <base> <turns> <id>..` of this machine, as far as they may be seen."""
+    """The processes `.. node <members> <base> <turns> <id>..` and `.. can <members> <turns> <id>..` of this machine, as far
+    as they may be seen."""
     found = []
     for name in sorted(filter(str.isdigit, os.listdir(proc)), key=int):
         try:
@@ -76,17 +81,20 @@ def members_running(proc: str = "/proc") -> List[Running]:
             folder = os.readlink(os.path.join(proc, name, "cwd"))
         except OSError:
             continue
-        if len(words) < 6 or words[1] != "node" or "allocator" not in os.path.basename(words[0]):
+        if len(words) < 2 or words[1] not in BEFORE_IDS or "allocator" not in os.path.basename(words[0]):
             continue
-        ids = [int(word) for word in words[5:] if word.isascii() and word.isdigit()]
+        ids = [int(word) for word in words[BEFORE_IDS[words[1]]:] if word.isascii() and word.isdigit()]
+        if not ids:
+            continue
         found.append(Running(int(name), ids, folder))
     return found
 
 
 class Interface(NamedTuple):
-    """A CAN interface, as `ip` tells it; None where it does not."""
+    """A CAN interface, as `ip` tells it; None where it does not. `echo`: a frame comes back once it was on the bus."""
 
     up: bool
+    echo: bool
     kind: str
     queue: Optional[int]
     restart: Optional[int]
@@ -113,9 +121,11 @@ def interface(name: str) -> Optional[Interface]:
     flags = told.get("flags") if isinstance(told, dict) else None
     if not isinstance(flags, list):
         return None
+    kind = str(info.get("info_kind", told.get("link_type", "")))
     return Interface(
         "UP" in flags,
-        str(info.get("info_kind", told.get("link_type", ""))),
+        "ECHO" in flags or kind in buses.WITHOUT_A_WIRE,
+        kind,
         _number(told.get("txqlen")),
         _number(data.get("restart_ms")),
         _number(_part(data, "bittiming").get("bitrate")),
@@ -131,6 +141,16 @@ def _part(told: object, name: str) -> Dict[str, object]:
 
 def _number(value: object) -> Optional[int]:
     return value if isinstance(value, int) else None
+
+
+def clock_error(seconds: float) -> float:
+    """By how much the clock of the members goes faster than the hardware's, measured for so many seconds: 0.01 where it
+    goes 1 % too fast. A daemon that sets the time may slew it."""
+    clocks = time.CLOCK_MONOTONIC, time.CLOCK_MONOTONIC_RAW
+    before = [time.clock_gettime(clock) for clock in clocks]
+    time.sleep(seconds)
+    passed, truly = (time.clock_gettime(clock) - then for clock, then in zip(clocks, before))
+    return passed / truly - 1
 
 
 def slept() -> float:
