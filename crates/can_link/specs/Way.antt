@@ -1,8 +1,10 @@
 -- The frame of this process that is on its way to the bus: there is one, or none.
-use Rattle.std.specs.Prelude.{◌≡◌, ℕ, ◌+◌, ◌<◌, ◌⊎◌, Option, Some, None}
+use Rattle.std.specs.Prelude.{◌≡◌, ℕ, ◌+◌, ◌<◌, ◌⊎◌, ◌∷◌, [], ◌++◌, List, Option, Some, None}
 use Rattle.can_link.specs.Packet.{IsSameFrame}
 use Rattle.can_link.specs.declared.bus.Sent.{Sent}
 use Rattle.outside.specs.declared.received.RawFrame.{RawFrame}
+use Rattle.outside.specs.declared.received.Received.{Received}
+use Rattle.outside.specs.declared.received.Received.TheVariants.{Frame, Junk, Nothing}
 
 -- in milliseconds: an echo that is later than this ends the member
 abbrev pub late : ℕ
@@ -23,3 +25,24 @@ Echoes frame (Some sent) sender after =
 abbrev pub IsLate : ℕ → Option Sent → Type 0
 IsLate now None = ⊥
 IsLate now (Some sent) = sent.since + late < now
+
+-- what was on its way is so still, or nothing is
+abbrev pub StaysOrEnds : Option Sent → Option Sent → Type 0
+StaysOrEnds before after = (after ≡ before) ⊎ (after ≡ None)
+
+-- a frame is written: it is on its way then, and all that was taken before it stays
+abbrev pub IsWritten : Sent → Option Sent → List RawFrame → List RawFrame → Type 0
+IsWritten sent after old new = (after ≡ Some sent) × (new ≡ old ++ (sent.frame ∷ []))
+
+-- a member at this place hands in a frame, at this reading. It is written at most once, and nothing else is; what was on
+-- its way before is over then
+abbrev pub MayBeWritten : Sent → Option Sent → Option Sent → List RawFrame → List RawFrame → Type 0
+MayBeWritten sent before after old new =
+    (StaysOrEnds before after × (new ≡ old)) ⊎ IsWritten sent after old new
+
+-- what the socket gave, for the frame on its way
+abbrev pub Gone : Option Received → Option Sent → Option Sent → Type 0
+Gone None before after = after ≡ before
+Gone (Some (Frame frame)) before after = (sender : Option ℕ) × Echoes frame before sender after
+Gone (Some Junk) before after = after ≡ before
+Gone (Some Nothing) before after = after ≡ before

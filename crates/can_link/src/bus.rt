@@ -1,6 +1,9 @@
-ghost use Rattle.std.specs.Prelude.{◌≡◌, ◌↔◌, true};
+ghost use Rattle.std.specs.Prelude.{◌≡◌, ◌↔◌, ◌⊎◌, true, List, IsSome, IsNone};
 ghost use Rattle.can_link.specs.Packet.{IsSameFrame};
-ghost use Rattle.can_link.specs.Way.{Echoes, IsLate};
+ghost use Rattle.can_link.specs.Way.{Echoes, Gone, IsLate, MayBeWritten, StaysOrEnds};
+ghost use Rattle.outside.specs.Contents.{WhereTold};
+ghost use Rattle.outside.specs.declared.received.RawFrame.{RawFrame};
+ghost use Rattle.outside.specs.declared.received.Received.TheVariants.{Nothing};
 
 use crate::inboxes::Inboxes;
 use crate::socket::{Socket, Written};
@@ -47,7 +50,10 @@ pub struct CanBus<S, C> {
 
 impl<S: Socket, C: Clock> CanBus<S, C> {
     /// The bus behind this socket, whose echoes are waited for by this clock. Nothing is on its way.
-    pub fn new(socket: S, mut clock: C) -> CanBus<S, C> {
+    pub fn new(socket: S, mut clock: C) -> CanBus<S, C>
+        ensures socket { result.socket ≡ socket }
+        ensures way { result.on_its_way ≡ None }
+    {
         let last = clock.now();
         CanBus {
             socket,
@@ -70,7 +76,12 @@ impl<S: Socket, C: Clock> CanBus<S, C> {
 
     /// What has come for the member at a place. None where the socket failed, and where nothing came and the echo of a
     /// frame is late.
-    pub fn recv(&mut self, place: usize) -> Option<Received> {
+    pub fn recv(&mut self, place: usize) -> Option<Received>
+        ensures way { StaysOrEnds self.old.on_its_way self.new.on_its_way }
+        ensures taken { S.taken self.new.socket ≡ S.taken self.old.socket }
+        // Where nothing came, no echo is late.
+        ensures late { result ≡ Some Nothing → IsLate self.new.last self.new.on_its_way → ⊥ }
+    {
         self.last = self.clock.now();
         if let Some(frame) = self.inboxes.next(place) {
             return Some(Received::Frame(frame));
@@ -94,7 +105,11 @@ impl<S: Socket, C: Clock> CanBus<S, C> {
     /// Sends a frame of the member at a place, once the frame before it was on the bus. It is lost where the way is not
     /// clear in time, where the process was stopped meanwhile, and where the interface has no room. It tells whether the
     /// socket works.
-    pub fn send(&mut self, place: usize, frame: &RawFrame) -> bool {
+    pub fn send(&mut self, place: usize, frame: &RawFrame) -> bool
+        ensures taken { WhereTold {A = List RawFrame} (MayBeWritten
+            (record { frame = frame.now; place = place; since = self.new.last })
+            self.old.on_its_way self.new.on_its_way) (S.taken self.old.socket) (S.taken self.new.socket) }
+    {
         let before = self.last;
         if !self.clear_the_way() {
             return false;
@@ -118,7 +133,11 @@ impl<S: Socket, C: Clock> CanBus<S, C> {
     }
 
     /// Reads until nothing is on its way, and keeps what comes meanwhile. It tells whether the socket works.
-    fn clear_the_way(&mut self) -> bool {
+    fn clear_the_way(&mut self) -> bool
+        ensures way { StaysOrEnds self.old.on_its_way self.new.on_its_way }
+        ensures taken { S.taken self.new.socket ≡ S.taken self.old.socket }
+        ensures last { self.new.last ≡ self.old.last }
+    {
         for _ in 0..READS {
             if self.on_its_way.is_none() {
                 break;
@@ -133,7 +152,11 @@ impl<S: Socket, C: Clock> CanBus<S, C> {
     }
 
     /// Reads once. A frame waits for the members then: an echo for all but its sender.
-    fn read(&mut self) -> Option<Received> {
+    fn read(&mut self) -> Option<Received>
+        ensures way { Gone result self.old.on_its_way self.new.on_its_way }
+        ensures taken { S.taken self.new.socket ≡ S.taken self.old.socket }
+        ensures last { self.new.last ≡ self.old.last }
+    {
         let received = self.socket.read()?;
         if let Received::Frame(frame) = received {
             let sender = echo_of(&mut self.on_its_way, &frame);
