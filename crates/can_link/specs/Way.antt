@@ -46,3 +46,19 @@ Gone None before after = after ≡ before
 Gone (Some (Frame frame)) before after = (sender : Option ℕ) × Echoes frame before sender after
 Gone (Some Junk) before after = after ≡ before
 Gone (Some Nothing) before after = after ≡ before
+
+-- an item is the echo of this frame
+abbrev pub EchoIsIn : Sent → List Received → Type 0
+EchoIsIn sent [] = ⊥
+EchoIsIn sent (Frame frame ∷ rest) = IsSameFrame frame sent.frame ⊎ EchoIsIn sent rest
+EchoIsIn sent (Junk ∷ rest) = EchoIsIn sent rest
+EchoIsIn sent (Nothing ∷ rest) = EchoIsIn sent rest
+
+-- what a socket had left, once what it gives was read: what was on its way is over only where its echo was there
+pub record Clears (before after : Option Sent) (old new : List Received) : Type 0 where
+  pub left : (sent : Sent) → EchoIsIn sent new → EchoIsIn sent old
+  pub way : (after ≡ before) ⊎ ((after ≡ None) × ((sent : Sent) × (before ≡ Some sent) × EchoIsIn sent old))
+
+-- nothing was on its way, or its echo was there
+abbrev pub IsClear : Option Sent → List Received → List Received → Type 0
+IsClear before old new = (before ≡ None) ⊎ ((sent : Sent) × (before ≡ Some sent) × EchoIsIn sent old)

@@ -1,8 +1,10 @@
-ghost use Rattle.std.specs.Prelude.{◌≡◌, ◌↔◌, ◌⊎◌, true, List, IsSome, IsNone};
+ghost use Rattle.std.specs.Prelude.{◌≡◌, ◌↔◌, ◌⊎◌, ◌≤◌, ◌+◌, true, List};
 ghost use Rattle.can_link.specs.Packet.{IsSameFrame};
-ghost use Rattle.can_link.specs.Way.{Echoes, Gone, IsLate, MayBeWritten, StaysOrEnds};
+ghost use Rattle.can_link.specs.Way.{Clears, Echoes, Gone, IsClear, IsLate, MayBeWritten, StaysOrEnds, longest_pause};
+ghost use Rattle.can_link.specs.Socket.{Gives};
 ghost use Rattle.outside.specs.Contents.{WhereTold};
 ghost use Rattle.outside.specs.declared.received.RawFrame.{RawFrame};
+ghost use Rattle.outside.specs.declared.received.Received.{Received};
 ghost use Rattle.outside.specs.declared.received.Received.TheVariants.{Nothing};
 
 use crate::inboxes::Inboxes;
@@ -76,7 +78,10 @@ impl<S: Socket, C: Clock> CanBus<S, C> {
 
     /// What has come for the member at a place. None where the socket failed, and where nothing came and the echo of a
     /// frame is late.
+    #[tactic(auto, using(crate::proofs::Clearing::read_where_told, crate::proofs::Clearing::clears_at_first))]
     pub fn recv(&mut self, place: usize) -> Option<Received>
+        ensures clears { WhereTold {A = List Received} (Clears self.old.on_its_way self.new.on_its_way)
+            (S.coming self.old.socket) (S.coming self.new.socket) }
         ensures way { StaysOrEnds self.old.on_its_way self.new.on_its_way }
         ensures taken { S.taken self.new.socket ≡ S.taken self.old.socket }
         // Where nothing came, no echo is late.
@@ -105,10 +110,17 @@ impl<S: Socket, C: Clock> CanBus<S, C> {
     /// Sends a frame of the member at a place, once the frame before it was on the bus. It is lost where the way is not
     /// clear in time, where the process was stopped meanwhile, and where the interface has no room. It tells whether the
     /// socket works.
+    #[tactic(auto, using(crate::proofs::Clearing::is_clear))]
     pub fn send(&mut self, place: usize, frame: &RawFrame) -> bool
         ensures taken { WhereTold {A = List RawFrame} (MayBeWritten
             (record { frame = frame.now; place = place; since = self.new.last })
             self.old.on_its_way self.new.on_its_way) (S.taken self.old.socket) (S.taken self.new.socket) }
+        // Nothing is written where the process was stopped since the call before, nor while another frame is on its way.
+        ensures pause { (S.taken self.new.socket ≡ S.taken self.old.socket)
+            ⊎ (self.new.last ≤ self.old.last + longest_pause) }
+        ensures clear { (S.taken self.new.socket ≡ S.taken self.old.socket)
+            ⊎ WhereTold {A = List Received} (IsClear self.old.on_its_way)
+            (S.coming self.old.socket) (S.coming self.new.socket) }
     {
         let before = self.last;
         if !self.clear_the_way() {
@@ -133,8 +145,11 @@ impl<S: Socket, C: Clock> CanBus<S, C> {
     }
 
     /// Reads until nothing is on its way, and keeps what comes meanwhile. It tells whether the socket works.
+    #[tactic(auto, using(crate::proofs::Clearing::read_where_told, crate::proofs::Clearing::clears_at_first))]
     fn clear_the_way(&mut self) -> bool
         ensures way { StaysOrEnds self.old.on_its_way self.new.on_its_way }
+        ensures clears { WhereTold {A = List Received} (Clears self.old.on_its_way self.new.on_its_way)
+            (S.coming self.old.socket) (S.coming self.new.socket) }
         ensures taken { S.taken self.new.socket ≡ S.taken self.old.socket }
         ensures last { self.new.last ≡ self.old.last }
     {
@@ -153,6 +168,8 @@ impl<S: Socket, C: Clock> CanBus<S, C> {
 
     /// Reads once. A frame waits for the members then: an echo for all but its sender.
     fn read(&mut self) -> Option<Received>
+        ensures items { WhereTold {A = List Received} (Gives result)
+            (S.coming self.old.socket) (S.coming self.new.socket) }
         ensures way { Gone result self.old.on_its_way self.new.on_its_way }
         ensures taken { S.taken self.new.socket ≡ S.taken self.old.socket }
         ensures last { self.new.last ≡ self.old.last }
