@@ -1,6 +1,7 @@
 """Tests of tools/view: the facts of pages, beside the schedules and reports that they are of."""
 from __future__ import annotations
 
+import hashlib
 import json
 import pathlib
 import re
@@ -158,8 +159,16 @@ class Pages(ViewCase):
         self.assertLess(kilobytes(200_000) - kilobytes(20_000), 4096)
 
     def test_the_page_of_a_real_bus_is_the_one_that_is_stored(self) -> None:
-        stored = read_facts(read(EXAMPLES / "a_real_bus/page.html"))
-        self.assertEqual(self.view_example("a_real_bus", "--title", stored["title"]), stored)
+        folder = EXAMPLES / "a_real_bus"
+        stored = (folder / "page.html").read_text(encoding="utf-8")
+        title = read_facts(stored)["title"]
+        made = run_tool("view", folder / "schedule", folder / "report", "--title", title)
+        self.assertEqual((made.status, made.written), (0, stored))
+
+    def test_the_picture_of_the_readme_is_of_that_page(self) -> None:
+        """`bench/pages --picture` writes it, and the sum of the page that it is of."""
+        page = (EXAMPLES / "a_real_bus/page.html").read_bytes()
+        self.assertEqual(hashlib.sha256(page).hexdigest() + "\n", read(ROOT / "docs/a_real_bus.sum"))
 
 
 class Refusals(ViewCase):

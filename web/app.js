@@ -239,33 +239,18 @@ const editor = new Lines($("editor")), report = new Lines($("report_lines"));
 
 // --- what the answer means, in words
 
-const BAD_ROW = "it is no row, has more than 120 bytes, or has no line feed";
-const BAD_LINE = "it has not the form, has more than 120 bytes, or does not end";
-const CAUSES = {
-  ...Facts.CAUSES,
-  5: "its node or device has nothing to send",
-  6: "a frame from outside may not come from a member, nor be of a type that members send each other, nor be an Allocation with a source",
-  7: "its node or device would put together frames of different transfers",
-};
-
 /* The sentence on how a run ended, the row that it is about, and whether all went well. */
 function meaning(status, text) {
   const mode = state.mode, lines = text.split(/[\n\r]/).filter(line => line), last = (lines[lines.length - 1] ?? "").split(" "), row = Number(last[last.length - 1]);
-  const noun = MODES[mode].unit ?? "row", count = Number(last[1]);
+  const count = Number(last[1]);
+  const is_of_row = [3, 4, 8].includes(status), said = Facts.meaning(status, mode, last.join(" "));
   switch (status) {
     case 0: return {is_good: true, words: done(mode, lines, count)};
     case 2: return {words: `These are no words that the program reads. It takes ${MODES[mode].ranges}.`};
-    case 3: return {row, words: `${noun === "row" ? "Row" : "Line"} ${row.toLocaleString("en")} cannot be read: ${noun === "row" ? BAD_ROW : BAD_LINE}.`};
-    case 4: return {row: count, cause: row, words: `Row ${count.toLocaleString("en")}, \`${row_text(count)}\`, is refused: ${CAUSES[row]} (cause ${row}). All rows before it were taken.`};
+    case 4: return {row: count, cause: row, words: `Row ${count.toLocaleString("en")}, \`${row_text(count)}\`, is refused: ${Facts.refusal(row, row_text(count))} (cause ${row}). All rows before it were taken.`};
     case 7: return {words: "There is not enough memory for so many rows: lower their number."};
-    case 8: return {row, words: `${noun === "row" ? "Row" : "Line"} ${row.toLocaleString("en")} is one more than ${mode === "decode" ? "a text may have" : "the words allow"}.`};
-    case 10: return {words: `The store of node ${last[2]} could not be read.`};
-    case 11: return {words: `The store of node ${last[1]} is damaged, first at key ${last[2]}.`};
     case 12: return {words: missing_store()};
-    case 14: return {words: `Nodes ${last[2]} and ${last[3]} have committed different entries at place ${last[1]}; none before it differ.`};
-    case 15: return {words: "The text has no such type, or the type has no such part."};
-    case 16: return {words: "The bytes are no value of this part."};
-    default: return {words: "The program ended in another way than it should."};
+    default: return {row: is_of_row ? row : undefined, words: said ? `${said[0].toUpperCase()}${said.slice(1)}.` : "The program ended in another way than it should."};
   }
 }
 const row_text = row => text_of(state.bytes).split("\n")[row - 1];
@@ -282,7 +267,7 @@ function missing_store() {
   for (const id of field("ids").split(/\s+/)) {
     const name = `alloc-${id}.store`, bytes = state.files[name];
     if (!bytes) return `${name} is not here: open or drop it, or take ${id} out of the members.`;
-    if (bytes.length !== 8844) return `${name} has ${counted(bytes.length, "byte")} in place of 8,844.`;
+    if (bytes.length !== Facts.STORE_BYTES) return `${name} has ${counted(bytes.length, "byte")} in place of ${Facts.STORE_BYTES.toLocaleString("en")}.`;
   }
   return "A store was not opened.";
 }
@@ -300,7 +285,8 @@ function without_row(rows, row) {
     return [[word[0], word[1], frame - 1, ...word.slice(3)].join(" ")];
   });
 }
-const CANNOT_HAPPEN = [2, 3, 4, 5, 10, 11]; // causes of rows that follow from what went before
+/* Whether a row is refused for what went before it, so that it cannot happen once that is another. */
+const cannot_happen = cause => Facts.REFUSALS[cause]?.[1] === "before";
 
 /* Takes rows out until none is refused for such a cause. */
 async function leave_out() {
@@ -311,7 +297,7 @@ async function leave_out() {
   for (;;) {
     answer = await runner(module, given, bytes_of(left.join("\n") + "\n"), {});
     const [name, row, cause] = text_of(answer.output).trimEnd().split("\n").pop().split(" ");
-    if (answer.status !== 4 || name !== "unlawful" || !CANNOT_HAPPEN.includes(Number(cause))) break;
+    if (answer.status !== 4 || name !== "unlawful" || !cannot_happen(cause)) break;
     left = without_row(left, Number(row));
   }
   edit(left);
@@ -331,7 +317,7 @@ function say({words, row, cause, is_good}, code, front = "") {
   if (row && input_of(state.mode) && state.bytes.length <= MOST_SHOWN) {
     offers.push(element("button", {type: "button", textContent: `Go to ${MODES[state.mode].unit} ${row}`, onclick: () => { editor.mark("bad", row); editor.select(row); }}));
   }
-  if (CANNOT_HAPPEN.includes(cause)) {
+  if (cannot_happen(cause)) {
     offers.push(element("button", {type: "button", textContent: "Leave out what cannot happen any more", onclick: leave_out}));
   }
   $("offers").replaceChildren(...offers);
@@ -466,7 +452,7 @@ async function open_files(list) {
   let bytes = null;
   for (const file of list) {
     const content = new Uint8Array(await file.arrayBuffer());
-    if (/^alloc-\d+\.store$/.test(file.name) || content.length === 8844) files[file.name] = content;
+    if (/^alloc-\d+\.store$/.test(file.name) || content.length === Facts.STORE_BYTES) files[file.name] = content;
     else bytes = content;
   }
   if (Object.keys(files).length) {

@@ -1,6 +1,6 @@
 "use strict";
 /* What a run did, as facts to draw, out of a schedule and its report: what tools/view makes of them with Python, in the
-   page. tests/page compares the facts of both for each example. docs/SEEING.md lists them. Not proved. */
+   page. tests/page compares the facts of both for each example. tools/caldrouz/page.py says what they are. Not proved. */
 const Facts = (() => {
   const MESSAGES = {1: "alloc", 341: "stat", 390: "disc"};
   const SERVICES = {1: ["infoq", "info"], 30: ["appq", "app"], 31: ["voteq", "vote"]};
@@ -11,19 +11,67 @@ const Facts = (() => {
   };
   const START = 0x80, END = 0x40;
   const NO_UNIQUE_ID = "0".repeat(32);
-  const CAUSES = {
-    1: "its node is no member of the cluster",
-    2: "its node does not run",
-    3: "its node runs already",
-    4: "no frame on the bus has this number yet",
-    5: "its node has nothing to send",
-    6: "a frame from outside may not come from a member, nor be of a type that members send each other",
-    7: "its node would put together frames of different transfers",
-    8: "its node would take the response to an earlier call for that to a later one",
-    9: "a device has a number of 1 to 8",
-    10: "this device is not open",
-    11: "this device is open already",
+  /* Why a row is refused, and what that follows from; how a run ends: code, modes, last line, meaning. */
+  // make_texts: tables_of_page
+  const REFUSALS = {
+    1: ["its number is that of no member of the cluster", "words"],
+    2: ["its member does not run", "before"],
+    3: ["its member runs already", "before"],
+    4: ["no frame on the bus has this number yet, or it is 0", "before"],
+    5: ["nothing waits in the queue of its {subject}", "before"],
+    6: ["a frame from outside may not have a member as its source, nor, with a source, be of a type that only members send: Allocation, Discovery, AppendEntries, RequestVote", "words"],
+    7: ["its {subject} would put together a transfer of frames that were not made together", "bus"],
+    8: ["its member would take the response to an earlier call for that to a later one", "bus"],
+    9: ["no device has this number: they are 1 to 8", "words"],
+    10: ["its device is not on the bus", "before"],
+    11: ["its device is on the bus already", "before"],
   };
+  const EXITS = [
+    [0, ["node", "can"], "end <turns>", "its turns are over"],
+    [0, ["new"], "made <n>", "its stores are made"],
+    [0, ["audit"], "agree <n>", "the stores agree, on the entries that the report lists"],
+    [0, ["replay"], "end <rows>", "every row of the schedule was taken"],
+    [0, ["soak"], "end <rounds>", "its rounds are over"],
+    [0, ["watch"], "end <lines>", "every line of the log was read"],
+    [0, ["convert"], "-", "every line of the log was read"],
+    [0, ["decode"], "end <count>", "the report has the numbers of the payload"],
+    [2, ["node", "can"], "-", "the words are none that it reads; nothing was read or written"],
+    [2, ["new", "audit", "replay", "soak", "watch", "convert", "decode"], "-", "the words are none that it reads; nothing was read or written"],
+    [3, ["replay"], "bad row <r>", "{row <r>|the row in the last line} cannot be read: it is no row, has more than 120 bytes or a carriage return, or has no line feed"],
+    [3, ["watch", "convert"], "bad row <r>", "{line <r>|the line in the last line of the report} cannot be read: it is none of `candump -L` or `candump -l`, or of the adapter, has more than 120 bytes or the end of a DOS line, or does not end"],
+    [3, ["decode"], "bad row <r>", "{line <r>|the line in the last line} cannot be read: it has none of the forms of a definition, or does not end"],
+    [4, ["replay"], "unlawful <r> <cause>", "{row <r> is refused: <cause>|the row in the last line is refused, for the cause with the number behind it}"],
+    [5, ["replay", "watch", "convert", "decode"], "-", "standard input could not be read"],
+    [6, ["node", "can"], "-", "standard output could not be written"],
+    [6, ["new", "audit", "replay", "soak", "watch", "convert", "decode"], "-", "standard output could not be written"],
+    [7, ["node", "can"], "-", "there is not enough memory to begin with"],
+    [7, ["replay", "soak"], "-", "there is not enough memory to begin with"],
+    [8, ["replay"], "limit <r>", "{row <r>|the row in the last line} is one more than the words allow"],
+    [8, ["watch", "convert"], "limit <r>", "{line <r>|the line in the last line} is one more than the words allow"],
+    [8, ["decode"], "limit <r>", "{line <r>|the line in the last line} is one more than a text may have"],
+    [9, ["node", "can"], "link fault <id>", "the link of {member <id>|the member in the last line} failed: its socket took or gave no frame any more"],
+    [10, ["node", "can"], "disk fault <id>", "the disk of {member <id>|the member in the last line} failed: its store could not be written or synced"],
+    [10, ["new"], "disk fault <id>", "the disk of {member <id>|the member in the last line} failed, and no store was made"],
+    [10, ["audit"], "disk fault <id>", "the store of {node <id>|the member in the last line} could not be read, or somebody wrote to it meanwhile"],
+    [11, ["node", "can"], "damaged <id> <key>", "the store of {member <id> is damaged, first at key <key>|the member in the last line is damaged, first at the key there}; nothing was sent"],
+    [11, ["audit"], "damaged <id> <key>", "the store of {node <id> is damaged, first at key <key>|the member in the last line is damaged, first at the key there}"],
+    [14, ["audit"], "differ <i> <a> <b>", "{nodes <a> and <b> have committed different entries at index <i>|the two members in the last line have committed different entries at the index there}; none before it differ"],
+    [15, ["decode"], "-", "the text has no such type, or the type has no such part"],
+    [16, ["decode"], "-", "the bytes are no value of this part"],
+  ];
+  const STORE_BYTES = 8844;
+  // make_texts ends
+  /* Why this row, or one that is not known, is refused for this cause. */
+  const refusal = (cause, row = "") =>
+    (REFUSALS[cause]?.[0] ?? `cause ${cause}`).replace("{subject}", row ? (row[0] === "a" ? "device" : "member") : "member or device");
+  /* The meaning of an exit code of a mode, with what this last line names, where it has the form of the code. */
+  function meaning(code, mode, line) {
+    const exit = EXITS.find(one => one[0] === code && one[1].includes(mode));
+    if (!exit) return undefined;
+    const names = exit[2].split(" "), values = line.split(" "), is_known = names.length === values.length;
+    const text = exit[3].replace(/\{([^|}]*)\|([^}]*)\}/g, (_, known, other) => is_known ? known : other);
+    return names.reduce((said, name, at) => name[0] === "<" ? said.replaceAll(name, name === "<cause>" ? refusal(values[at]) : values[at]) : said, text);
+  }
   const DROPS = {
     "drop:1": "it is not for it",
     "drop:2": "its start bit does not fit",
@@ -204,7 +252,7 @@ const Facts = (() => {
         return ["whole", `All ${thousands(count)} rows were taken.`];
       }
       if (last[0] === "unlawful" && last.length === 3) {
-        const cause = CAUSES[last[2]] ?? `cause ${last[2]}`;
+        const cause = refusal(last[2], rows[Number(last[1]) - 1]);
         return ["refused", `The run ends here: ${row(Number(last[1]))} is refused, since ${cause} (cause ${last[2]}).`];
       }
       if (last[0] === "bad" && last[1] === "row") {
@@ -657,7 +705,7 @@ const Facts = (() => {
     ].join(", ") + ".";
   }
 
-  return {CAUSES, Mismatch, Run, facts, is_schedule, summary};
+  return {Mismatch, REFUSALS, STORE_BYTES, meaning, refusal, Run, facts, is_schedule, summary};
 })();
 
 if (typeof module !== "undefined") module.exports = Facts;

@@ -2,6 +2,7 @@
 matters, the program is the judge.
 
     table     data types, timers and sizes of the program, made from its sources by tools/make_table
+    texts     what the tools say as other programs do, made from docs/tables by tools/make_texts
     wire      frames, identifiers, tails, transfers, and what transfers say
     logs      recorded logs: logs.read(path).frames, each a Record with line, stamp, interface and frame
     stores    stores of members: stores.read(path), a Store; Damaged where no member opens it

@@ -15,9 +15,9 @@ import struct
 import time
 from typing import Dict, List, Optional, Sequence, Tuple, Union
 
-from . import table, wire
+from . import table, texts, wire
 
-LEAST_BASE, GREATEST_BASE = 1024, 65410
+LEAST_BASE, GREATEST_BASE = texts.LEAST_BASE, texts.GREATEST_BASE
 # Tools listen at these ports, counted from the base: a member has none of them (1 to 117), nor the bridge (119).
 TOOL_PORTS = 118, 121, 122, 123, 124, 125
 BRIDGE_PORT = 119  # from here members that were told their list take frames of any node

@@ -1,4 +1,16 @@
-"""The page of a run: its facts as one JSON block, and what draws them. Not proved."""
+"""The page of a run: its facts as one JSON block, and what draws them. Not proved.
+
+The block is the element `facts` of the page; tests compare pages by it, and web/facts.js makes the same:
+
+    rows, lines, said, moments   one each row
+    lanes    of members and devices, with spans (row, role, term), logs (row, last, committed) and states (row, role,
+             term, last, committed, queued, moment, known), each from its row on
+    arrows   row of the frame, row of the receipt, from lane, to lane, kind, what came of it (changed, took, part, bad,
+             dropped, unwanted), frame
+    lost     row, from lane, to lane, kind, frame
+    marks    row, lane, what, text
+    events, frames, places       rows of events, frames in words, and the places of the committed logs
+"""
 from __future__ import annotations
 
 import html
@@ -14,7 +26,7 @@ FIELD = re.compile("@([A-Z]+)@")
 
 
 def facts(run: Run, title: str) -> Dict[str, Any]:
-    """All that the page has, in lists without names where there are many; docs/SEEING.md says what is what."""
+    """All that the page has, in lists without names where there are many."""
     index = {lane: at for at, lane in enumerate(run.lanes)}
     frames = {frame.number: run.words(frame) for frame in run.frames.values() if run.window.has(frame.row)}
     frames.update({arrow.frame.number: run.words(arrow.frame) for arrow in run.arrows})

@@ -1,6 +1,6 @@
 "use strict";
 /* Draws a run into the elements of picture.html: its lanes and frames, the state after a row and the rows around it, by the facts that
-   docs/SEEING.md lists. It is the picture of the pages of tools/view, and of the page that runs the program. Not proved. */
+   tools/caldrouz/page.py lists. It is the picture of the pages of tools/view, and of the page that runs the program. Not proved. */
 const Picture = (() => {
 const $ = id => document.getElementById(id);
 let facts, first, last, lanes, rows, lines, moments, count, outside_used;

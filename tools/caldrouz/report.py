@@ -12,19 +12,6 @@ from typing import Dict, List, NamedTuple, Optional, Tuple, Union
 
 from .wire import Frame
 
-CAUSES = {
-    1: "its node is no member of the cluster",
-    2: "its node does not run",
-    3: "its node runs already",
-    4: "no frame on the bus has this number yet",
-    5: "its node has nothing to send",
-    6: "a frame from outside may not come from a member, nor be of a type that members send each other",
-    7: "its node would put together frames of different transfers",
-    8: "its node would take the response to an earlier call for that to a later one",
-    9: "a device has a number of 1 to 8",
-    10: "this device is not open",
-    11: "this device is open already",
-}
 DROPS = {
     "drop:1": "it is not for it",
     "drop:2": "its start bit does not fit",

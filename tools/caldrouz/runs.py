@@ -4,7 +4,7 @@ from __future__ import annotations
 from dataclasses import dataclass, field
 from typing import Any, Dict, Iterable, Iterator, List, NamedTuple, Optional, Set, Tuple
 
-from . import report, wire
+from . import report, texts, wire
 from .report import Row
 
 
@@ -186,7 +186,7 @@ def _read_end(run: Run, unfinished: str, following: Optional[str]) -> Tuple[str,
     if last == ["end", str(count)]:
         return "whole", f"All {count:,} rows were taken."
     if last[:1] == ["unlawful"] and len(last) == 3 and last[2].isdigit():
-        cause = report.CAUSES.get(int(last[2][:9]), f"cause {last[2]}")
+        cause = texts.refusal(int(last[2][:9]), (following or "") if last[1] == str(count + 1) else "")
         return "refused", f"The run ends here: {row(last[1])} is refused, since {cause} (cause {last[2]})."
     if last[:2] == ["bad", "row"] and len(last) == 3:
         return "refused", (
