@@ -56,7 +56,7 @@ class RecordedCauses(unittest.TestCase):
         self.assertIn("Start the members that are missing", said.written)
 
     def test_each_cause_has_a_row_in_the_document(self) -> None:
-        rows = (TESTS.parent / "docs/ASKING.md").read_text(encoding="utf-8")
+        rows = (TESTS.parent / "docs/TROUBLE.md").read_text(encoding="utf-8")
         for name in (*NAMES, "deaf-member", "many-blanks", "log-nearly-full"):
             self.assertIn(f"| `{name}` |", rows)
 

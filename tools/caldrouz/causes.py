@@ -4,7 +4,7 @@
     found[0].name, .text, .remedy         # "missing-members", what is so, and what to do
     causes.well(scene)                    # what is so otherwise
 
-docs/ASKING.md has a row for each name.
+docs/TROUBLE.md has a row for each name.
 """
 from __future__ import annotations
 
