@@ -114,21 +114,23 @@ const MODES = {
     fields: [{name: "ids", about: "members", value: "1 2 3"}],
   },
 };
+// make_texts: rows_of_editor
 const ROWS = [
-  ["open n ms word", "member n starts; the word draws its wait for an election"],
-  ["copen n ms word", "the same, and it is told who the members are"],
-  ["tick n ms word", "member n reads its clock"],
-  ["send n", "member n puts its next frame on the bus"],
-  ["rx n k ms", "member n receives frame k"],
-  ["ext id data", "a frame from outside"],
-  ["crash n calls old|new|hex", "member n stops: now (0), or in place of a call of its disk"],
-  ["fault n call", "a call of the disk of member n fails"],
-  ["aopen a uid wish ms word", "device a comes to the bus"],
-  ["atick a ms word", "device a reads its clock"],
-  ["arx a k ms word", "device a receives frame k"],
-  ["asend a", "device a puts its next frame on the bus"],
+  ["open n ms word", "member n starts at a moment; the word draws its wait for an election"],
+  ["copen n ms word", "the same, and it is told who the members are: those of the words, in their order"],
+  ["tick n ms word", "member n reads its clock, with a random word"],
+  ["send n", "member n puts the next frame of its queue on the bus"],
+  ["rx n k ms", "member n receives frame k at a moment"],
+  ["ext id data", "a frame from outside is put on the bus"],
+  ["crash n calls pattern", "member n stops now (0 calls), or in place of the call with that number, counted from now, of its disk"],
+  ["fault n call", "the call with that number, counted from now, of the disk of member n fails once"],
+  ["aopen a uid pref ms word", "device a comes to the bus, with its unique ID, the node ID that it prefers, and a random word"],
+  ["atick a ms word", "device a reads its clock, with a random word"],
+  ["arx a k ms word", "device a receives frame k, with a random word"],
+  ["asend a", "device a puts the next frame of its queue on the bus"],
   ["aend a", "device a leaves the bus"],
 ];
+// make_texts ends
 
 // --- what is given: the mode, its words, the bytes of its input, the stores
 

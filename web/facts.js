@@ -11,7 +11,8 @@ const Facts = (() => {
   };
   const START = 0x80, END = 0x40;
   const NO_UNIQUE_ID = "0".repeat(32);
-  /* Why a row is refused, and what that follows from; how a run ends: code, modes, last line, meaning. */
+  /* Why a row is refused, and what that follows from; how a run ends: code, modes, last line, meaning; why a frame is
+     dropped; how many words a row has, and which of them is its moment. */
   // make_texts: tables_of_page
   const REFUSALS = {
     1: ["its number is that of no member of the cluster", "words"],
@@ -60,6 +61,33 @@ const Facts = (() => {
     [16, ["decode"], "-", "the bytes are no value of this part"],
   ];
   const STORE_BYTES = 8844;
+  const DROPS = {
+    "drop:1": "it is not for it",
+    "drop:2": "its start bit does not fit",
+    "drop:3": "its toggle is not the next one",
+    "drop:4": "its transfer ID is not the expected one",
+    "drop:5": "the CRC of its transfer is another",
+    "drop:6": "its length is none of a cutting",
+    "drop:7": "no block is free for it",
+    "drop:8": "no session is free for it",
+    "drop:9": "its identifier has no reading",
+  };
+  const ROW_LENGTHS = {
+    open: 4,
+    copen: 4,
+    tick: 4,
+    send: 2,
+    rx: 4,
+    ext: 3,
+    crash: 4,
+    fault: 3,
+    aopen: 6,
+    atick: 4,
+    arx: 5,
+    asend: 2,
+    aend: 2,
+  };
+  const MOMENTS = {open: 2, copen: 2, tick: 2, rx: 3, aopen: 4, atick: 2, arx: 3};
   // make_texts ends
   /* Why this row, or one that is not known, is refused for this cause. */
   const refusal = (cause, row = "") =>
@@ -72,22 +100,7 @@ const Facts = (() => {
     const text = exit[3].replace(/\{([^|}]*)\|([^}]*)\}/g, (_, known, other) => is_known ? known : other);
     return names.reduce((said, name, at) => name[0] === "<" ? said.replaceAll(name, name === "<cause>" ? refusal(values[at]) : values[at]) : said, text);
   }
-  const DROPS = {
-    "drop:1": "it is not for it",
-    "drop:2": "its start bit does not fit",
-    "drop:3": "its toggle is not the next one",
-    "drop:4": "its transfer ID is not the expected one",
-    "drop:5": "the CRC of its transfer is another",
-    "drop:6": "its length is none of a cutting",
-    "drop:7": "no block is free for it",
-    "drop:8": "no session is free for it",
-    "drop:9": "its identifier has no reading",
-  };
   const ROLES = {F: "follower", C: "candidate", L: "leader"};
-  const ROW_LENGTHS = {
-    open: 4, copen: 4, tick: 4, send: 2, rx: 4, ext: 3, crash: 4, fault: 3, aopen: 6, atick: 4, arx: 5, asend: 2, aend: 2,
-  };
-  const MOMENTS = {open: 2, copen: 2, tick: 2, rx: 3, aopen: 4, atick: 2, arx: 3};
   const OPENINGS = ["open", "copen"]; // of a member that is told how many there are, and of one that is told who they are
   const OF_MEMBERS = [...OPENINGS, "tick", "send", "rx", "crash", "fault"];
   const PUTS_A_FRAME = ["send", "ext", "asend"];

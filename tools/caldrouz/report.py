@@ -10,29 +10,14 @@ import re
 from dataclasses import dataclass, field
 from typing import Dict, List, NamedTuple, Optional, Tuple, Union
 
+from . import texts
 from .wire import Frame
 
-DROPS = {
-    "drop:1": "it is not for it",
-    "drop:2": "its start bit does not fit",
-    "drop:3": "its toggle is not the next one",
-    "drop:4": "its transfer ID is not the expected one",
-    "drop:5": "the CRC of its transfer is another",
-    "drop:6": "its length is none of a cutting",
-    "drop:7": "no block is free for it",
-    "drop:8": "no session is free for it",
-    "drop:9": "its identifier has no reading",
-}
 FOLLOWER, CANDIDATE, LEADER = "F", "C", "L"
 ROLES = {FOLLOWER: "follower", CANDIDATE: "candidate", LEADER: "leader"}
 
 OPENINGS = ("open", "copen")  # of a member that is told how many there are, and of one that is told who they are
-# By the name of a row: how many words it has, and which of them is its moment, if one is.
-ROWS: Dict[str, Tuple[int, Optional[int]]] = {
-    "open": (4, 2), "copen": (4, 2), "tick": (4, 2), "rx": (4, 3), "send": (2, None), "crash": (4, None),
-    "fault": (3, None), "aopen": (6, 4), "atick": (4, 2), "arx": (5, 3), "asend": (2, None), "aend": (2, None),
-    "ext": (3, None),
-}
+ROWS, DROPS = texts.ROWS, texts.DROPS
 _NUMBER = re.compile(r"0|[1-9][0-9]{0,18}", re.A)
 _DATA = re.compile(r"(?:[0-9a-fA-F]{2}){1,8}", re.A)
 _IDENTIFIER = re.compile(r"[01][0-9a-fA-F]{7}", re.A)

@@ -1,5 +1,5 @@
 """What several programs say alike. tools/make_texts makes this file from docs/tables."""
-from typing import Dict
+from typing import Dict, Optional, Tuple
 
 # why a row is refused, by the number of the cause
 _REFUSALS: Dict[int, str] = {
@@ -17,6 +17,34 @@ _REFUSALS: Dict[int, str] = {
 }
 LEAST_BASE, GREATEST_BASE = 1024, 65410
 MOST_ROWS = 1000000
+# By the name of a row: how many words it has, and which of them is its moment, if one is.
+ROWS: Dict[str, Tuple[int, Optional[int]]] = {
+    "open": (4, 2),
+    "copen": (4, 2),
+    "tick": (4, 2),
+    "send": (2, None),
+    "rx": (4, 3),
+    "ext": (3, None),
+    "crash": (4, None),
+    "fault": (3, None),
+    "aopen": (6, 4),
+    "atick": (4, 2),
+    "arx": (5, 3),
+    "asend": (2, None),
+    "aend": (2, None),
+}
+# what came of a frame that a receiver drops, as a line says it
+DROPS = {
+    "drop:1": "it is not for it",
+    "drop:2": "its start bit does not fit",
+    "drop:3": "its toggle is not the next one",
+    "drop:4": "its transfer ID is not the expected one",
+    "drop:5": "the CRC of its transfer is another",
+    "drop:6": "its length is none of a cutting",
+    "drop:7": "no block is free for it",
+    "drop:8": "no session is free for it",
+    "drop:9": "its identifier has no reading",
+}
 
 
 def refusal(cause: int, row: str) -> str:
