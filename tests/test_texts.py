@@ -27,7 +27,8 @@ def sayers() -> Iterator[pathlib.Path]:
     yield ROOT / "allocator"
     for folder in ("tools", "web", "packaging", "docs"):  # (CALLS is the comments of the sources)
         for path in sorted((ROOT / folder).rglob("*")):
-            if path.is_file() and path.suffix not in (".tsv", ".png", ".pyc") and path.name not in ("texts.py", "CALLS.md"):
+            made = path.name in ("texts.py", "CALLS.md")
+            if path.is_file() and path.suffix not in (".tsv", ".png", ".pyc") and not made:
                 yield path
 
 
@@ -37,7 +38,9 @@ class Tables(unittest.TestCase):
         self.assertEqual(made.status, 0, made.written + made.errors)
 
     def test_no_program_has_a_sentence_of_its_own(self) -> None:
-        said = [row["sentence"] for row in table("refusals")] + [row["meaning"] for row in table("exits") if row["code"] != "0"]
+        said = [row["sentence"] for row in table("refusals")]
+        said += [row["meaning"] for row in table("exits") if row["code"] != "0"]
+        said += [row["the frame is dropped since"] for row in table("drops")]
         parts = {part for text in said for part in re.split(r"[{}|<>]", text) if len(part) > 30}
         for path in sayers():
             text = BLOCK.sub("", path.read_text(encoding="utf-8", errors="replace"))
@@ -47,7 +50,8 @@ class Tables(unittest.TestCase):
     def test_causes_are_those_of_the_definition(self) -> None:
         """The number of each cause, and the kinds of rows that `cause` can refuse for it."""
         text = source("bus_spec/specs/Lawful.antt")
-        numbers = {name: int(number) for name, number in re.findall(r"^number_of (?:unlawful\.)?(\w+) = (\d+)", text, re.M)}
+        found = re.findall(r"^number_of (?:unlawful\.)?(\w+) = (\d+)", text, re.M)
+        numbers = {name: int(number) for name, number in found}
         self.assertEqual({row["name"]: int(row["cause"]) for row in table("refusals")}, numbers)
         bodies = re.findall(r"^(\w+) [^\n=]*= (.*?)(?=^\S|\Z)", text, re.M | re.S)
         of: Dict[str, Set[str]] = {}  # the causes that a definition can answer
@@ -82,8 +86,18 @@ class Tables(unittest.TestCase):
     def test_words_are_those_of_the_program(self) -> None:
         text = re.sub(r"\s*\n/// ", " ", source("allocator_app/src/words.rt"))
         for row in table("words"):
-            words = row["words"].replace("can <members>", "node <members> <base>")  # (main puts a base into those of can)
+            # (main puts a base into the words of can)
+            words = row["words"].replace("can <members>", "node <members> <base>")
             self.assertIn(f"`{words}`", text)
+
+    def test_rows_are_those_that_the_program_reads(self) -> None:
+        names = set(re.findall(r'b"([a-z]+)"', source("replay_text/src/schedule.rt"))) - {"old", "new"}
+        self.assertEqual({row["words"].split()[0] for row in table("rows")}, names)
+
+    def test_causes_of_drops_are_those_of_the_program(self) -> None:
+        found = re.search(r"pub enum Why \{(.*?)^\}", source("can_frame/src/step.rt"), re.M | re.S)
+        assert found is not None
+        self.assertEqual([row["cause"] for row in table("drops")], re.findall(r"= (\d+)", found[1]))
 
     def test_limits_are_those_of_the_sources(self) -> None:
         usage = (ROOT / "allocator").read_text(encoding="utf-8")

@@ -8,7 +8,10 @@ _REFUSALS: Dict[int, str] = {
     3: "its member runs already",
     4: "no frame on the bus has this number yet, or it is 0",
     5: "nothing waits in the queue of its {subject}",
-    6: "a frame from outside may not have a member as its source, nor, with a source, be of a type that only members send: Allocation, Discovery, AppendEntries, RequestVote",
+    6: (
+        "a frame from outside may not have a member as its source, nor, with a source, be of a type that only "
+        "members send: Allocation, Discovery, AppendEntries, RequestVote"
+    ),
     7: "its {subject} would put together a transfer of frames that were not made together",
     8: "its member would take the response to an earlier call for that to a later one",
     9: "no device has this number: they are 1 to 8",
@@ -45,9 +48,50 @@ DROPS = {
     "drop:8": "no session is free for it",
     "drop:9": "its identifier has no reading",
 }
+# the causes that `why` names, and what was heard
+CAUSES: Dict[str, str] = {
+    "silence": "nothing at all: \"Bring-up of a bus\"",
+    "no-members": "frames, none of a member. Where members do run: their terms are used up",
+    "missing-members": (
+        "members tell each second that they search for others, and who is missing. Where a majority is there, "
+        "they were told their number alone (examples/node)"
+    ),
+    "another-size": "Discovery with two sizes",
+    "strange-member": "a node does what members do, and is none; or there are more members than the size says",
+    "no-majority": "most members are away, or do not answer the leader",
+    "no-leader": (
+        "all are there, and nobody wins an election: frames between members are lost or late, or waits end "
+        "together (node IDs 15, 50 or 65 apart). Beside many calls a second: the leader has another log"
+    ),
+    "not-committed": "the leader has entries that the others do not get",
+    "unidentified-node": (
+        "a node that is there answers no query for its unique ID. No new device is served until it is gone or "
+        "set aside, which takes 6 s where it stays: then its ID is kept back. One NodeStatus each second is "
+        "standard"
+    ),
+    "second-server": "a node that is no member answers devices: \"Autopilots and tools\"",
+    "log-full": "no place is left; or none, and not all committed: \"A full log\"",
+    "ids-full": "no node ID is left (needs --store): the same",
+    "crossed-requests": (
+        "several devices ask, and begin each other's exchange anew. Those that keep the standard's times are "
+        "served one after the other. Look first for another name beside it"
+    ),
+    "never-goes-on": "a device asks, is answered, and never sends its second request: it does not hear, or is broken",
+    "unheard-answer": "a device was told its ID again and again, and asks on",
+    "wrong-address": "a node has an ID that the log gives to another unique ID (often needs --store and --ask)",
+    "one-id-twice": (
+        "the uptimes or transfer IDs of a node's NodeStatus are those of two; or it told two unique IDs. Of a "
+        "member: it is started twice. Audit the stores"
+    ),
+    "one-unique-id": "two nodes tell one unique ID: to the allocators clones are one device, with one ID",
+    "unanswered": "a device asks, and nobody answers, though all looks well. A unique ID of zeros gets nothing",
+    "deaf-member": "a warning: a member does not answer, and the cluster bears no further loss",
+    "many-blanks": "a warning: 16 blanks or more in the log. Each is a place for good",
+    "log-nearly-full": "a warning: 8 places or IDs are left: \"A full log\", before it is",
+}
 
 
 def refusal(cause: int, row: str) -> str:
-    """Why this row of a schedule, or a row that is not known where it is empty, is refused for this cause."""
+    """Why this row of a schedule is refused for this cause; where the row is not known it is empty."""
     subject = ("device" if row[0] == "a" else "member") if row else "member or device"
     return _REFUSALS.get(cause, f"cause {cause}").replace("{subject}", subject)
