@@ -56,7 +56,7 @@ const Facts = (() => {
     [10, ["audit"], "disk fault <id>", "the store of {node <id>|the member in the last line} could not be read, or somebody wrote to it meanwhile"],
     [11, ["node", "can"], "damaged <id> <key>", "the store of {member <id> is damaged, first at key <key>|the member in the last line is damaged, first at the key there}; nothing was sent"],
     [11, ["audit"], "damaged <id> <key>", "the store of {node <id> is damaged, first at key <key>|the member in the last line is damaged, first at the key there}"],
-    [14, ["audit"], "differ <i> <a> <b>", "{nodes <a> and <b> have committed different entries at index <i>|the two members in the last line have committed different entries at the index there}; none before it differ"],
+    [14, ["audit"], "differ <i> <a> <b>", "{nodes <a> and <b> have committed different entries at place <i>|the two members in the last line have committed different entries at the place there}; none before it differ"],
     [15, ["decode"], "-", "the text has no such type, or the type has no such part"],
     [16, ["decode"], "-", "the bytes are no value of this part"],
   ];
