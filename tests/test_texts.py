@@ -113,6 +113,26 @@ class Tables(unittest.TestCase):
                     assert said is not None
                     self.assertIn(f", {row['least']} to {row['most']}", said[0])
 
+    def test_others_say_the_same_limits(self) -> None:
+        most = {row["name"]: int(row["most"]) for row in table("limits")}
+        least = {row["name"]: int(row["least"]) for row in table("limits")}
+        page = read(ROOT / "web/app.js")
+        for name in ("rows", "lines", "rounds"):
+            self.assertIn(f"{least[name]} to {most[name]:,} {name}", page)
+        manual = read(ROOT / "packaging/allocator.1")
+        for said in (f"1 to {most['rows']:,}", f"at most {most['turns']:,}", f"at most {most['rounds']:,}"):
+            self.assertIn(said, manual)
+        self.assertIn(f"the store of a member, {most['store']:,} bytes", manual)
+        self.assertIn(f"#define CALDROUZ_STORE_BYTES {most['store']}\n", read(ROOT / "include/caldrouz.h"))
+        settings = read(ROOT / "packaging/caldrouz.default")
+        self.assertIn(f"{least['members']} to {most['members']} of them", settings)
+
+    def test_man_page_and_completion_have_each_mode(self) -> None:
+        for path in ("packaging/allocator.1", "packaging/allocator.completion"):
+            text = read(ROOT / path)
+            for row in table("words"):
+                self.assertRegex(text, rf"\b{row['words'].split()[0]}\b", path)
+
 
 class Refusals(unittest.TestCase):
     def test_each_example_is_explained_by_its_own_row(self) -> None:
