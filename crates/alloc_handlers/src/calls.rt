@@ -25,6 +25,9 @@ impl<D: Disk> Member<D> {
     ghost use Rattle.alloc_handlers.specs.Stands.{GoesOn, GoesUpTo, IsReady, IsReadyFor, Leaves, LeavesUpTo, StandsFor};
 
     /// A pair is told, and each other member called: at most so many transfers and pairs more are listed.
+    ///
+    /// In order: a leader commits; one place is told, where what tells it fits; the calls that are owed are sent, in
+    /// the order of the list, where they fit.
     pub fn end(&mut self) -> Result<(), Fault>
         requires ready { IsReadyFor (most_members + 1) 1 self.old }
         ensures goes { GoesUpTo self.old self.new (end_phase self.old.offered.step)

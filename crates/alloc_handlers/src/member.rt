@@ -38,6 +38,11 @@ const NOBODY: u8 = 0;
 
 /// A member of the cluster, without its receiver: what is done with whole transfers and with time.
 /// Moments are milliseconds.
+///
+/// A member is ready (`ready`) where its numbers are in their ranges, its parts are of this member, no moment has
+/// fallen, and what it keeps in memory fits what is stored. Each call is a phase of the definition of a step, with its
+/// puts. After `Ok` the member is ready again. `Err` comes only where a call on the stored state answered it. `room`
+/// and `pairs` owe how many transfers and pairs the call may list yet; `leaves` says how many it lists at most.
 #[derive(Drop)]
 pub struct Member<D: Disk> {
     pub me: u8,

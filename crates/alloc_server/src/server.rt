@@ -43,6 +43,10 @@ use transfer_rx::{AcceptRow, Receiver};
 use transfer_tx::Marked;
 
 /// One allocator of a cluster, with its disk.
+///
+/// From its opening on a server stands for an allocator of the definition (`StandsFor`). Its receiver has 160 sessions
+/// and 128 blocks; `memory` owes that it fits in memory. `callable` and `answers` owe that the closure may be called,
+/// and that it answers as the rows.
 #[derive(Drop)]
 pub struct Server<D: Disk, F> {
     pub(crate) member: Member<D>,
@@ -64,6 +68,8 @@ impl<D: Disk, F: Fn(Kind, u16) -> Option<u64> + Copy> Server<D, F> {
     /// A server of the node `me`, in a cluster of `size` members, with what its disk has stored, which
     /// is brought to version 2 of the store. `word` is random: it sets how long the server waits before it
     /// stands for election.
+    ///
+    /// The disk comes back with a refusal.
     #[inline(never)]
     pub fn open(
         me: u8,
@@ -366,6 +372,8 @@ impl<F: Fn(Kind, u16) -> Option<u64> + Copy> Server<MemoryDisk, F> {
 
     /// The process stops, and its disk starts again after it (`MemoryDisk::restart`). The server is closed
     /// then: what waited for the bus is lost, and its steps answer a fault until it is opened again.
+    ///
+    /// `IsUsable` owes that a pattern of bytes has one byte at least.
     pub fn restart(&mut self, pattern: Pattern)
         requires { IsUsable pattern }
         ensures disk { Restarts pattern (disk_in self.old) (disk_in self.new) }

@@ -23,6 +23,9 @@ use transfer_rx::{AcceptRow, Heard, Receiver, Transfer};
 use transfer_tx::Marked;
 
 /// A device that asks for a node ID.
+///
+/// The receiver of an allocatee has 8 sessions and 8 blocks; `memory` owes that it fits in memory. `callable` and
+/// `answers` owe that the closure may be called, and that it answers as the rows.
 #[derive(Drop)]
 pub struct Allocatee<G> {
     pub(crate) applicant: Applicant,

@@ -7,6 +7,8 @@ use can_frame::{ALLOCATION, Kind};
 use transfer_rx::AcceptRow;
 
 /// The kinds and numbers of transfers that an allocatee receives, with the signature of their type.
+///
+/// The rows are those of Allocations, anonymous and not.
 #[tactic(auto, unfolding(crate::specs::Accepted::rows))]
 pub fn allocatee_rows() -> ArrayVec<AcceptRow, 16>
     ensures { result.items ≡ accepted.rows }

@@ -97,6 +97,19 @@ use store_audit::audit_stores;
 /// rule is a pair of that list, so two with different unique IDs never have one node ID, and one unique ID never has
 /// two. Along the rows of a report each allocator by itself keeps its word, too (`KeepsItsWord` of `bus_spec`):
 /// its whole log gives nothing twice, and whatever pair it offers is one of its own committed log.
+///
+/// `Memory` is free: no clause ties it to a cause. It can come from the start of a run of `replay`, `soak` or `node`
+/// alone. `LinkFault`, `DiskFault` and `Damaged` do not come of `replay` or `soak`.
+///
+/// When a schedule comes to `Done`, `BadRow`, `Unlawful` or `Limit` is said by `Says` (in words: docs/FORMATS.md, "Exit
+/// codes"), and that its bytes are exactly the report by `IsReport`. With `ReadFault` the read was needed: the next
+/// line was not read whole (`IsReadInPart`). With `WriteFault` the source was read at most 4,096 bytes past the rows
+/// whose lines are all written (`IsWrittenInPart`).
+///
+/// The other modes do what their calls say: `soak` of `cmd_soak`, `make_stores` of `cmd_new`, `node` of `cmd_node`,
+/// `audit_stores` of `store_audit`, `watch` and `convert` of `cmd_logs`, and `decode` of `cmd_decode`. What a run of
+/// `node` is in each trace of processes in which it stands (`RunsInTraces`: `done`, `cut`, `output_failed`), is in
+/// words in docs/PROOFS.md, "Processes".
 pub fn run<S: Source, K: Sink, L: Link, D: Disk, C: Clock>(
     alloc: Global,
     words: &[String],

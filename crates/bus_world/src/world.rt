@@ -39,6 +39,10 @@ use transfer_rx::AcceptRow;
 const SEATS: usize = 8;
 
 /// A cluster of 1 to 5 members, and up to 8 allocatees, on one bus.
+///
+/// A world stands for a cluster: its members, its allocatees, its bus and the rows that were taken. `members` owes of
+/// the members' receivers and their closure what a server's calls owe: that a receiver fits in memory, and that the
+/// closure may be called and answers as the rows. `allocatees` owes it of the allocatees'.
 #[derive(Drop)]
 pub struct World<F, G> {
     pub(crate) members: Members<F>,
@@ -113,6 +117,8 @@ impl<F: Fn(Kind, u16) -> Option<u64> + Copy, G: Fn(Kind, u16) -> Option<u64> + C
     /// the node ID of a node that is heard is not given (`AreDutiful`).
     /// What a device has that takes a node ID by the standard's rule is a pair of that list from then on, so
     /// two with different unique IDs never have the same node ID (`HasAllocatees`).
+    ///
+    /// `IsUsable` owes that a pattern of bytes has one byte at least.
     pub fn row(&mut self, row: &Row) -> Result<Told, Unlawful>
         requires members { MemberReceives F.row F.IsAlwaysCallable F.post (accepts self.old) }
         requires allocatees { AllocateeReceives G.row G.IsAlwaysCallable G.post (allocatees_accept self.old) }

@@ -40,6 +40,23 @@ const OUTSIDE: Mark = Mark {
 /// who its members are; `TICK` and `HEAR` one that stands for the step of it at that reading of the clock or on
 /// that frame; `TAKE` one without the frame that was taken. The others change nothing. What each answers, and
 /// when, is said in `Calls`.
+///
+/// `op` is one of these numbers; the answer is as in the last column, and a status is 0 where the call was done. Any
+/// other number is answered by 5.
+///
+/// | `op` | part of `Calls` | in C | answer |
+/// |---|---|---|---|
+/// | 1, `OPEN` | `Opens` | `caldrouz_open` | a status; of a damaged store 256 and the key, which `Server::reopen` says of a disk that tells its contents |
+/// | 2, `TICK` | `Steps` | `caldrouz_tick` | a status; each step has the number behind the last |
+/// | 3, `HEAR` | `Hears` | `caldrouz_hear` | a status; each step has the number behind the last |
+/// | 4, `TAKE` | `Takes` | `caldrouz_take` | 0 exactly where nothing waits, else the identifier and the number of bytes of what goes next |
+/// | 5, `DATA` | `tells` | `caldrouz_take` | the bytes of what was taken, the first one lowest |
+/// | 6, `VIEW` | `Views` | `caldrouz_look` | the part of what is shown; 0 beyond the parts, and where the node is not made |
+/// | 7, `ENTRY` | `Entries` | `caldrouz_entry_at` | the part of the entry at a place; 0 where there is none, beyond the parts, and where the node is not made |
+/// | 8, `LEARN` | `Learns` | `caldrouz_learn` | a status |
+///
+/// `caldrouz.h` has the numbers of the statuses, and docs/EMBEDDING.md, "What is proved, and for whom", what each part
+/// says.
 pub fn call(node: &mut Node, op: u32, now: u64, a: u64, b: u64) -> u64
     ensures calls { Calls node.old node.new op now a b result }
 {

@@ -32,6 +32,8 @@ const DAMAGED: u64 = 256;
 const SOME: u64 = 1 << 63;
 
 /// An allocator in one piece of memory.
+///
+/// A node that is open stands for an allocator of the definition (`IsAt`).
 #[derive(Drop)]
 pub struct Node {
     /// None where the node ID or the size of the cluster is not possible.

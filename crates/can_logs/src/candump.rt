@@ -196,6 +196,9 @@ fn is_bytes_word(word: &[u8]) -> bool
 
 /// The line of a frame, without its line feed: the seconds with ten digits, one space before the name,
 /// upper case, and nothing at the end.
+///
+/// `IsWritable` owes that the line is one of a frame: seconds of at most 10 digits, microseconds of at most 6, and a
+/// name of the form.
 pub fn write_candump(line: &LogLine) -> ArrayVec<u8, 80>
     requires { IsWritable line.now }
     ensures line { result.items ≡ candump_text line.now }

@@ -8,6 +8,8 @@ use can_frame::timing::DISCOVERY_INTERVAL;
 use dsdl_codec::Discovery;
 
 /// What a member knows of its cluster. Moments are milliseconds, and may fall.
+///
+/// A value stands for a start and the list of the messages that were heard and sent.
 #[derive(Drop)]
 pub struct Cluster {
     /// The member's own node ID.

@@ -45,6 +45,39 @@ use std::alloc::Global;
 /// `Damaged`; where the disks tell what they hold, a damaged one ends the run so, and without one it comes to
 /// `Done`. All memory is taken before anything else, that for the last steps at the end: with `Memory` nothing
 /// was touched.
+///
+/// The table has the fields of `RunsNodes`. What is left and written stands in `leaves`, by the answer; `written` is a
+/// field of its record `Leaves`. "Told" means: where links, disks and the clock tell what they have.
+///
+/// | answer | comes only where | what is left | what is written |
+/// |---|---|---|---|
+/// | `Done` | no disk was damaged | told: frames sent, items and readings left are exactly those of the abstract allocators, and whatever a stop leaves of each disk stands for what its allocator has stored, with the origin of each entry (`LeavesAll`) | told: exactly the report |
+/// | `LinkFault(id)` | the count of that link rose, and no disk was damaged | told: in which turn the run ended, what was sent, which items and readings are left, what is stored (`IsCutInTurn`) | one line |
+/// | `DiskFault(id)` | the count of that disk rose | told, where it was in a turn and no disk was damaged: as above (`IsCutInTurn`); at an opening: the links are as before, and readings and disks as `IsCutAtOpening` says | one line |
+/// | `Damaged(id, key)` | that disk, if it tells its bytes, is damaged first at that key, and those before it are not | the links are as before; readings and disks as `IsCutAtOpening` says | one line |
+/// | `WriteFault` | the count of the sink rose | as a run leaves it that ends with one of the others, but for `Memory` | a prefix of the one line of that run, or, told, of its report; of the one line also where nothing is told |
+/// | `Memory` | free: no clause ties it to a cause | all as it was | nothing |
+///
+/// Told, in a run that was cut off in a turn (`AreCutTurns`) all nodes had taken so many turns, fewer than the run was
+/// to take, and those before the node one more. Then:
+///
+/// - The readings left of the clock are those after that turn.
+/// - Each link was sent what the abstract allocators sent by then, and has the items left that they leave. From the
+///   node's own link one more item may be taken.
+/// - Whatever a stop leaves of the node's disk stands for what its allocator had stored, after some of the first puts
+///   of that turn, and of its first step alone where that item was not taken. Of each other disk that was opened it
+///   stands for what its allocator had stored.
+///
+/// In a run that was cut off at an opening no link was touched. The readings up to that opening are gone. Disks before
+/// it that stood for a state hold what an opening makes of it, and those after it are as they were. Of the disk itself
+/// a stop leaves with `Damaged` no image that it could not leave before; with `DiskFault` none, or what was handed in
+/// after some of the first puts of the opening.
+///
+/// Every disk is there again. But for `WriteFault`, no count of a link or a disk rises that the answer does not name,
+/// told or not (`quiet_links`, `quiet_disks`); with `WriteFault` none rises that the other answer does not name. Told,
+/// what each link was sent is a prefix of what it is sent in a run to its end (`begins`). Where no count rises, the
+/// answer is `Done`, `Damaged` or `Memory` (`finishes`); where the disks up to the first damaged one tell their bytes,
+/// it is `Damaged` with that one, or `Memory` (`refuses`).
 pub fn node<K: Sink, L: Link, D: Disk, C: Clock>(
     alloc: Global,
     size: u8,

@@ -31,6 +31,8 @@ const MEMBERS: [u8; 5] = [1, 2, 3, 4, 5];
 ///
 /// `Done` comes with exactly these lines. `WriteFault` comes exactly where the sink failed, and it then has
 /// a front of them. With `Memory` nothing is written: all memory is taken before the first row.
+///
+/// `Memory` is free: no clause ties it to a cause.
 pub fn soak<K: Sink>(
     alloc: Global,
     told: bool,

@@ -20,6 +20,9 @@ use std::rt::Files;
 ///
 /// From a sync that failed on, every call fails. The system tells of a write that did not reach the device once:
 /// what is read after it may be what the device does not have, and a sync after it may succeed.
+///
+/// The clause of an opening says that no fault is counted yet. What the comments say of a missing file, a lock, a
+/// length, a sync that fails in an opening and of reading twice is trusted, and shown by tests.
 #[derive(Drop)]
 pub struct FileDisk {
     file: File,

@@ -79,6 +79,8 @@ impl MemoryDisk {
 
     /// Starts the disk again after a stop that left what `pattern` says of the bytes that were written
     /// since the last sync that succeeded. Nothing is set to fail then.
+    ///
+    /// `IsUsable` owes that a pattern of bytes has one byte at least.
     pub fn restart(&mut self, pattern: Pattern)
         requires { IsUsable pattern }
         ensures { Restarts pattern self.old self.new }

@@ -15,6 +15,9 @@
 //!
 //! The types are those of the UAVCAN v0 specification, `uavcan.protocol.*`; a request of GetNodeInfo
 //! is the empty payload, and needs no type.
+//!
+//! The numbers of a value, which each `numbers` gives, are its fields in their order, with its length in front of a
+//! list.
 #![tactic(auto)]
 
 mod allocation;

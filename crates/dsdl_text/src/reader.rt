@@ -48,6 +48,9 @@ impl TextReader {
     }
 
     /// Takes the next line, without its line feed. A fault leaves the reader unchanged.
+    ///
+    /// Of several faults of a line the first one is told, in the order of docs/FORMATS.md. `Err(Form)` comes for a line
+    /// without a form (`unread`).
     pub fn line(&mut self, line: &[u8]) -> Result<(), LineFault>
         ensures reads { (value : LineValue) → Reads value line.now →
             Answers (text_of self.old) value result (text_of self.new) }

@@ -57,6 +57,8 @@ impl Texts {
     /// are at most 3,008 values, as many as a payload has bits. Any other value or array has a number in it, or
     /// the reading breaks off in it: there are at most 401 of each at each of 16 depths, since there is room for
     /// 400 numbers.
+    ///
+    /// That it ends soon is so by reading, and tried by `bench/fuzz`: no clause counts steps.
     pub fn decode(&self, at: usize, payload: &[u8]) -> Option<Numbers>
         requires at { IsSome (part_at (data_types self.now) at) }
         requires size { length payload.now ≤ longest_payload }

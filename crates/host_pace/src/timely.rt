@@ -69,6 +69,7 @@ impl<'a, L: Link, C: Clock> Link for TimelyLink<'a, L, C> {
 
     ghost faults = { λ l. L.faults l.link };
 
+    /// A frame that may have waited in the link below for more than 1,000 ms comes as junk (`hears`).
     fn recv(&mut self) -> Result<Received, Failed>
         ensures items { WhereTold {A = List Received} (Receives result) None None }
         ensures cause { HasCause (L.faults self.old.link) (L.faults self.new.link) result }
@@ -98,6 +99,7 @@ impl<'a, L: Link, C: Clock> Link for TimelyLink<'a, L, C> {
         Ok(handed)
     }
 
+    /// A frame that may have waited for more than 1,000 ms is not sent, and the answer is `Ok` (`goes`).
     fn send(&mut self, frame: &RawFrame) -> Result<(), Failed>
         ensures frames { WhereTold {A = List RawFrame} (Sends frame.now result) None None }
         ensures cause { HasCause (L.faults self.old.link) (L.faults self.new.link) result }

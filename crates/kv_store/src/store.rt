@@ -35,6 +35,8 @@ impl<D: Disk> Store<D> {
     ghost use Rattle.kv_store.specs.declared.fault.OpenFault.TheVariants.{Fault as DiskFault, Damaged};
 
     /// The store that the disk holds, found by a sync and one read.
+    ///
+    /// The disk comes back with a refusal.
     pub fn open(disk: D) -> Result<Store<D>, OpenRefused<D>>
         // The map is that of what reads give, and of whatever a stop may leave from now on.
         ensures map { IfOk result (λ store. D.tells disk ≡ true →
@@ -272,6 +274,8 @@ impl Store<MemoryDisk> {
 
     /// Calls `MemoryDisk::restart` of the disk, and closes the store: its values stay, and every put answers
     /// a fault until the store is opened again.
+    ///
+    /// `IsUsable` owes that a pattern of bytes has one byte at least.
     pub fn restart(&mut self, pattern: Pattern)
         requires { IsUsable pattern }
         ensures disk { Restarts pattern (store_disk self.old) (store_disk self.new) }

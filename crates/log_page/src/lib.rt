@@ -3,6 +3,10 @@
 //! Each takes its input as a slice, writes its report to a slice, and puts its exit code and the length of the
 //! report into an [`Answer`]. The report is exactly the defined one. Where the slice is too short for it, the slice
 //! stays as it was, and the length tells how much room is needed. No memory is taken.
+//!
+//! Each call puts the exit code and the length of the report into the `Answer`, and the report into the caller's slice.
+//! Where the slice is too short for it, the slice stays as it was, and the length tells how much room is needed. A
+//! report of more than 1,048,576 bytes ends with `WriteFault`, and a prefix of it stands. No memory is taken.
 #![tactic(auto)]
 
 mod sink;
@@ -33,6 +37,8 @@ pub struct Answer {
 }
 
 /// `watch <format> <lines> <id>..` over a log.
+///
+/// The exit code is 2 with more than 1,000,000 lines or more than 5 nodes.
 #[unsafe(no_mangle)]
 pub extern "C" fn log_page_watch(
     candump: bool,
@@ -58,6 +64,8 @@ pub extern "C" fn log_page_watch(
 }
 
 /// `convert <format> <format> <lines>` over a log.
+///
+/// The exit code is 2 with more than 1,000,000 lines.
 #[unsafe(no_mangle)]
 pub extern "C" fn log_page_convert(
     from_candump: bool,
@@ -84,6 +92,8 @@ pub extern "C" fn log_page_convert(
 }
 
 /// `decode <name> <part> <hex>` over a text; the payload comes as its bytes.
+///
+/// The exit code is 2 with a payload of more than 376 bytes.
 #[unsafe(no_mangle)]
 pub extern "C" fn log_page_decode(
     name: &[u8],

@@ -41,6 +41,8 @@ impl Sink for ArraySink {
 
     ghost faults = { λ s. s.faults };
 
+    /// The answer is how many bytes it took, as many as fit. `Failed` comes where it is full, at 1,048,576 bytes, and
+    /// the piece is not empty; each `Failed` is counted.
     fn write(&mut self, piece: &[u8]) -> Result<usize, Failed> {
         let room = MOST - self.bytes.len();
         let count = room.min(piece.len());

@@ -12,6 +12,8 @@ use can_frame::{NodeId, Uid};
 
 /// The nodes of the bus: who is online, who is to be asked for its unique ID, and who told which.
 /// Moments are milliseconds, and may go backwards.
+///
+/// A watch stands for the list of all that happened on the bus.
 #[derive(Drop)]
 pub struct Watch {
     /// By node ID.

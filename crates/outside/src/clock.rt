@@ -56,6 +56,8 @@ impl Clock for MemoryClock<'_> {
 
 /// The system's monotonic clock. Where it cannot be read, its last reading is given again, or 0 where
 /// there is none. It tells no readings.
+///
+/// The last reading is given again where the system cannot be read: that is trusted, and shown by a test.
 #[derive(Drop)]
 pub struct StdClock<C> {
     system: C,

@@ -59,6 +59,8 @@ impl MemorySink {
     /// The one with the number `fail_at` fails. The one with the number `zero_at`, if it is another,
     /// takes nothing, whether it fits or not, and counts as a fault. Any other that does not fit fails
     /// too, and takes nothing.
+    ///
+    /// `Err(AllocError)` comes where there is not enough memory. No clause says when.
     pub fn new(
         alloc: Global,
         capacity: usize,

@@ -85,6 +85,8 @@ impl Raft {
 
     /// An answer to an append request came from the node `from` under a transfer ID. Returns whether it was
     /// taken, which is so if the append call to that node waits under this transfer ID. Else nothing changes.
+    ///
+    /// Behind the move a blank is added where one is due.
     pub fn on_append_answer<D: Disk>(
         &mut self,
         d: &mut Durable<D>,

@@ -33,6 +33,8 @@ impl Raft {
     /// term is not the highest, once it knows all members: `peers` are the others that it knows, and
     /// `complete` says whether they are all. `word` is for the next wait. A member that begins no election
     /// counts the members of its last one, whatever list it is handed.
+    ///
+    /// Behind the move a blank is added where one is due.
     pub fn tick<D: Disk>(
         &mut self,
         d: &mut Durable<D>,

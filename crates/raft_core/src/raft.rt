@@ -20,6 +20,12 @@ use kv_store::Fault;
 use raft_log::Durable;
 
 /// What a member of the cluster keeps in memory. Moments are milliseconds, and may fall.
+///
+/// A `Raft` stands for a server of the Raft model and for the times that the model does not know: waits, and the
+/// moments and transfer IDs of calls. A call that makes moves says it for each of these (`moves`): the moves are those
+/// of the model, with exactly their puts, and where no put fails, what is left stands for the server and the times
+/// after them. `Err` comes only where a call on the stored state in this call answered it (`fault`). Then the puts
+/// before it are made, and the member is not to be used again.
 #[derive(Drop)]
 pub struct Raft {
     /// The member's own node ID.

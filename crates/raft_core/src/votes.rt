@@ -78,6 +78,8 @@ impl Raft {
 
     /// An answer to a vote request came from the node `from` under a transfer ID. Whether it was taken:
     /// where the vote call to that node waits under this transfer ID. Else nothing changes.
+    ///
+    /// Behind the move a blank is added where one is due.
     pub fn on_vote_answer<D: Disk>(
         &mut self,
         d: &mut Durable<D>,

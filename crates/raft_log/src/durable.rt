@@ -25,6 +25,9 @@ use kv_store::{Fault, OpenFault, OpenRefused, Store};
 use outside::Pattern;
 
 /// The stored state of a member, on a disk.
+///
+/// Of each call that changes the stored state, `Err` comes only where the count of faults of the disk rose in this
+/// call, or where the stored state had failed before. Then it is the same fault again, and nothing changes (`fault`).
 #[derive(Drop)]
 pub struct Durable<D: Disk> {
     store: Store<D>,
@@ -45,6 +48,8 @@ impl<D: Disk> Durable<D> {
     /// Opens the store of a disk: a sync and one read find its state. One that was stored before origins
     /// were is then brought to version 2: each entry that has no origin is put again with the origin 0, in
     /// order, and then the version.
+    ///
+    /// The disk comes back with a refusal. A key is damaged also where its value breaks a rule of the stored state.
     pub fn open(disk: D) -> Result<Durable<D>, OpenRefused<D>>
         // What reads give is found and its puts are made, and a stop leaves the state after them.
         ensures opens { IfOk result (λ durable. OpensTo disk durable) }
@@ -401,6 +406,8 @@ impl Durable<MemoryDisk> {
 
     /// Calls `MemoryDisk::restart` of the disk, and closes the stored state: it stays, and every change
     /// answers a fault until it is opened again.
+    ///
+    /// `IsUsable` owes that a pattern of bytes has one byte at least.
     pub fn restart(&mut self, pattern: Pattern)
         requires { IsUsable pattern }
         ensures disk { Restarts pattern (durable_disk self.old) (durable_disk self.new) }

@@ -33,6 +33,8 @@ impl Stored {
 
     /// The state that an image stands for, as an opening finds it. The error is the first key that is
     /// damaged.
+    ///
+    /// A key is damaged also where its value breaks a rule of the stored state.
     pub fn read(image: &[u8; IMAGE]) -> Result<Stored, u8>
         ensures state { IfOk result (λ stored. IsReadFrom image.now stored) }
         ensures damaged { IfErr result (λ key. IsDamagedAt image.now key) }

@@ -24,6 +24,21 @@ use raft_log::Stored;
 /// The disks are read in order, each by one call, and then read as a store, up to the first that is not read as
 /// one; nothing is done to those behind it. No disk is written. `DiskFault` comes only where the disk of that node failed, `WriteFault` only
 /// where the sink did, and it then has a front of what was to be written.
+///
+/// A store is what the image that was read of its disk stands for; where the disk tells what it holds, that image is
+/// what its reads give. The outcome is the status, or with `WriteFault` the one that the run would have come to; then a
+/// front of what that writes is written (`written` of `Audits`).
+///
+/// | outcome | comes where (`comes`) | what is written |
+/// |---|---|---|
+/// | `Done` | each disk is read as a store; the committed log of each is a prefix of one list, one store has committed all of it, and it is injective (`HasAgreement`: `agree`, `injective`, `lines`) | exactly a line for each place of that list, and its length (`agreed_report`) |
+/// | `Differ(i, a, b)` | each disk is read as a store; i is the first place at which two have committed different entries, a the first that has committed one there, b the first after it that has another (`HasDifference`) | one line |
+/// | `Damaged(id, key)` | the image of that disk is damaged first at that key, and the disks before it are read as stores (`AuditEndsAtDamage`) | one line |
+/// | `DiskFault(id)` | the count of that disk rose (`counts`), and the disks before it are read as stores | one line |
+///
+/// All disks are read for `Done` and `Differ`, else those up to the one that is named (`order`). No other count of a
+/// disk rises (`counts`). Every disk is there again; where it tells, what its reads give and what a stop may leave of
+/// it are as before (`stay`).
 pub fn audit_stores<K: Sink, D: Disk>(ids: &[u8], disks: &mut [Option<D>], sink: &mut K) -> Status
     requires some { 1 ≤ length ids.now }
     requires five { length ids.now ≤ most_members }

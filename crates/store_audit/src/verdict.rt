@@ -19,6 +19,10 @@ pub enum Verdict {
 }
 
 /// Compares what 1 to 5 stores have committed.
+///
+/// `Agree(n)` comes where no two stores have committed different entries at one place; n is the greatest commit index.
+/// Else `Differ(i, a, b)` comes: i is the first place at which two have committed different entries, a the first store
+/// that has committed one there, and b the first one after it that has another.
 pub fn audit(stores: &[Stored]) -> Verdict
     requires some { 1 ≤ length stores.now }
     requires five { length stores.now ≤ most_members }

@@ -22,6 +22,10 @@ use can_frame::{Frame, Ident, Kind, Mark, Why};
 
 /// Reassembles the transfers that its rows accept, in at most S sessions, whose frames use at most N
 /// blocks of 28 bytes.
+///
+/// A receiver stands for the list of its sessions (`HasSessions`). `callable` and `answers` owe that the closure may be
+/// called, and that it answers as the rows. The first cause of a drop (`Why`) that holds is told, in the order of
+/// docs/FORMATS.md, "Report".
 #[derive(Drop)]
 pub struct Receiver<F, const S: usize, const N: usize> {
     me: u8,

@@ -15,6 +15,8 @@ use std::marker::Model;
 pub struct NoRoom;
 
 /// A queue of at most Q frames that wait for the bus.
+///
+/// A sender stands for the list of its queued frames, in the order in which they were offered.
 #[derive(Drop)]
 pub struct Sender<const Q: usize> {
     /// In the reverse of the order of going out: the next one out is the last.

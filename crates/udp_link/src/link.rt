@@ -39,6 +39,9 @@ pub struct UdpLink {
 impl UdpLink {
     /// The link of the node with this ID, 1 to 125: it receives at port `base + id` of 127.0.0.1, and
     /// never waits. It fails where the socket cannot be made, as where the port is taken, or is none.
+    ///
+    /// The clause `port` is about a port that is none. When else a socket cannot be made is trusted, and shown by a
+    /// test.
     pub fn open<R: Net>(rt: &R, base: u16, id: u8) -> Result<UdpLink, Failed>
         ensures base { IfOk result (λ link. link.base ≡ base) }
         ensures id { IfOk result (λ link. link.id ≡ id) }
