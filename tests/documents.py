@@ -5,21 +5,52 @@ from __future__ import annotations
 import os
 import pathlib
 import re
+import runpy
 import sys
 import unittest
-from typing import Callable, Dict, Iterable, Iterator, List, Set, Tuple
+from typing import Callable, Dict, Iterable, Iterator, List, NamedTuple, Set, Tuple
 
 import support
 from support import ROOT, Ended
 
 from caldrouz import table
 
+# Limits, in words but for that of a row of a table, which is in characters.
 LONGEST_ROW = 500
-GENERATED = {"docs/HEADLINE.md", "docs/CLAIMS.md", "docs/CALLS.md"}
+README_WORDS = 1300
+PAGES_WORDS = 24000
+LONGEST_PARAGRAPH = 90
+LONGEST_SENTENCE = 35
+# The pages of docs/ that are written by hand, those of them that do not keep the limits yet, and those that go.
+PAGES = (
+    "ARCHITECTURE GLOSSARY PROOFS PREMISES OPERATING TROUBLE FORMATS PROTOCOL EMBEDDING AUDIT DECISIONS"
+).split()
+NOT_YET = "OPERATING TROUBLE FORMATS PROTOCOL EMBEDDING AUDIT".split()
+GOING = "ASKING INCIDENT SEEING QUALIFICATION RELEASING".split()
+# The pages that are made of the sources, for a release: what makes each.
+MADE = {"HEADLINE": ["make_headline"], "CALLS": ["make_calls"], "CLAIMS": ["make_claims"]}
+
+
+class Fact(NamedTuple):
+    """What stands in one page alone; the others link to it."""
+
+    name: str
+    pattern: str
+    page: str
+
+
+FACTS = [
+    Fact("the rest before a first turn", r"\b5[.,]5(00)? ?m?s\b", "PREMISES"),
+    Fact("the size of a store", r"\b8,?844\b", "FORMATS"),
+    Fact("the entries of a log", r"\b127 (entries|places)\b", "OPERATING"),
+    Fact("the days of turns", r"\b12 days\b", "OPERATING"),
+]
 WORD = re.compile(r"[A-Za-z_][A-Za-z0-9_']*")
 SPAN = re.compile(r"`([^`\n]+)`")
 LINK = re.compile(r"\[[^\]\n]*\]\(([^)\s]+)\)")
 ITEM = re.compile(r"\s*([-*]|\d+\.) ")
+PART = re.compile(r"<!-- (make_\w+): \w+ -->.*?<!-- \1 ends -->", re.S)
+ANCHOR = re.compile(r'<a id="([\w-]+)"></a>')
 
 # Words in back-ticks that stand in no source here: of the toolchain, of the standard, and those that stand for any.
 ELSEWHERE = set(
@@ -111,9 +142,11 @@ def slug(heading: str) -> str:
     return re.sub(r"[^\w\- ]", "", text).replace(" ", "-")
 
 
-def headings(path: pathlib.Path) -> Iterator[str]:
+def anchors(text: str) -> Iterator[str]:
+    """The headings of a page as links name them, and the anchors that stand in it by themselves."""
     slugs: Dict[str, int] = {}
-    for _, line in prose(text_of(path)):
+    for _, line in prose(text):
+        yield from ANCHOR.findall(line)
         match = re.match(r"#+ (.*)", line)
         if match:
             name = slug(match.group(1))
@@ -122,17 +155,54 @@ def headings(path: pathlib.Path) -> Iterator[str]:
             yield name if count == 0 else f"{name}-{count}"
 
 
-def broken_links(path: pathlib.Path) -> Iterator[str]:
-    for number, line in prose(text_of(path)):
+def broken_links(text: str, path: pathlib.Path) -> Iterator[str]:
+    """The links of a text that stands at this path, or would."""
+    for number, line in prose(text):
         for target in LINK.findall(line):
             if re.match(r"[a-z]+:", target):
                 continue
             name, _, anchor = target.partition("#")
             place = (path.parent / name).resolve() if name else path
-            if not place.exists():
+            if name and not place.exists():
                 yield f"line {number}: no file {name}"
-            elif anchor and place.suffix == ".md" and anchor not in set(headings(place)):
+            elif anchor and place.suffix == ".md" and anchor not in set(anchors(text_of(place) if name else text)):
                 yield f"line {number}: {place.name} has no heading #{anchor}"
+
+
+def words_of(text: str) -> int:
+    return sum(bool(re.search(r"[^\W_]", word)) for word in text.split())
+
+
+def by_hand(path: pathlib.Path) -> str:
+    """A page without the parts that a script makes."""
+    return PART.sub("", text_of(path))
+
+
+def paragraphs(text: str) -> Iterator[Tuple[int, str]]:
+    """Each paragraph and each item of a list, with its first line. Tables, headings and code are none."""
+    begin = 0
+    lines: List[str] = []
+    for number, line in [*prose(text), (0, "")]:
+        apart = not line.strip() or line.startswith(("|", "#", "<", "![")) or ITEM.match(line)
+        if apart and lines:
+            yield begin, " ".join(lines)
+            lines = []
+        if line.strip() and not line.startswith(("|", "#", "<", "![")):
+            begin = begin if lines else number
+            lines.append(ITEM.sub("", line, count=1).strip())
+
+
+def sentences(paragraph: str) -> List[str]:
+    return re.split(r"(?<=[^.][.!?])[)*\"]*\s+(?=[^a-z])", paragraph)
+
+
+def too_long(text: str) -> Iterator[str]:
+    for number, paragraph in paragraphs(text):
+        if words_of(paragraph) > LONGEST_PARAGRAPH:
+            yield f"line {number}: a paragraph of {words_of(paragraph)} words, above {LONGEST_PARAGRAPH}"
+        for sentence in sentences(paragraph):
+            if words_of(sentence) > LONGEST_SENTENCE:
+                yield f"line {number}: a sentence of {words_of(sentence)} words, above {LONGEST_SENTENCE}: {sentence}"
 
 
 def long_rows(path: pathlib.Path) -> Iterator[str]:
@@ -157,33 +227,71 @@ class Documents(Checked):
                     self.has_none(faults(path))
 
     def test_links_lead_somewhere(self) -> None:
-        self.each(broken_links)
+        self.each(lambda path: broken_links(text_of(path), path))
 
     def test_rows_of_tables_are_short(self) -> None:
         self.each(long_rows)
 
     def test_names_stand_in_the_sources(self) -> None:
         words = source_words()
-        self.each(lambda path: unknown_names(text_of(path), path.parent, words), GENERATED)
+        self.each(lambda path: unknown_names(text_of(path), path.parent, words))
 
-    def test_names_of_the_notes_on_calls_stand_in_the_sources(self) -> None:
-        notes = ROOT / "docs/call_notes"
-        self.has_none(unknown_names(text_of(notes).replace("\n    ", "\n"), notes.parent, source_words()))
+
+class Limits(Checked):
+    def pages(self) -> Iterator[pathlib.Path]:
+        for name in PAGES:
+            if name not in NOT_YET:
+                yield ROOT / f"docs/{name}.md"
+
+    def test_the_readme_is_one_page(self) -> None:
+        self.assertLessEqual(len(text_of(ROOT / "README.md").split()), README_WORDS)
+
+    def test_the_pages_together_are_no_longer_than_they_may_be(self) -> None:
+        counts = {path.stem: words_of(by_hand(path)) for path in self.pages()}
+        self.assertLessEqual(sum(counts.values()), PAGES_WORDS, counts)
+
+    def test_all_pages_are_listed(self) -> None:
+        there = {path.stem for path in (ROOT / "docs").glob("*.md")}
+        self.assertEqual(there - set(PAGES) - set(GOING), set())
+
+    def test_paragraphs_and_sentences_are_short(self) -> None:
+        for path in [ROOT / "README.md", *self.pages()]:
+            with self.subTest(document=path.name):
+                self.has_none(too_long(by_hand(path)))
+
+    def test_each_fact_stands_in_one_page(self) -> None:
+        for fact in FACTS:
+            for path in [ROOT / "README.md", *self.pages()]:
+                found = re.search(fact.pattern, by_hand(path))
+                with self.subTest(fact=fact.name, document=path.name):
+                    self.assertEqual(bool(found), path.stem == fact.page, f"it stands in docs/{fact.page}.md alone")
 
 
 class Pages(Checked):
-    def test_the_page_of_definitions_is_that_of_the_sources(self) -> None:
-        made = Ended([sys.executable, ROOT / "docs/make_headline", "--check"])
+    def made(self, words: List[str]) -> str:
+        made = Ended([sys.executable, ROOT / "docs" / words[0], *words[1:]])
+        self.assertEqual((made.status, made.errors), (0, ""))
+        return made.written
+
+    def test_the_pages_of_a_release_lead_somewhere(self) -> None:
+        for name, words in MADE.items():
+            with self.subTest(page=name):
+                self.has_none(broken_links(self.made(words), ROOT / f"docs/{name}.md"))
+
+    def test_the_claims_find_what_they_name(self) -> None:
+        page = self.made(MADE["CLAIMS"])
+        self.assertNotIn("**not found**", page)
+        self.assertIn("Named here and not in the sources: none.", page)
+
+    def test_the_architecture_is_that_of_the_sources(self) -> None:
+        made = Ended([sys.executable, ROOT / "docs/make_architecture", "--check"])
         self.assertEqual(made.status, 0, made.written + made.errors)
 
-    def test_each_crate_has_a_row_in_the_architecture(self) -> None:
-        listed = re.findall(r"^([a-z0-9_]+):", text_of(ROOT / "crates.txt"), re.M)
-        rows = set(re.findall(r"^\| `(\w+)`", text_of(ROOT / "docs/ARCHITECTURE.md"), re.M))
-        self.has_none(crate for crate in listed if crate not in rows)
-
-    def test_the_page_of_calls_is_that_of_the_sources(self) -> None:
-        made = Ended([sys.executable, ROOT / "docs/make_calls", "--check"])
-        self.assertEqual(made.status, 0, made.written + made.errors)
+    def test_each_crate_stands_on_its_own_group_or_lower_ones(self) -> None:
+        architecture = runpy.run_path(str(ROOT / "docs/make_architecture"))
+        groups = architecture["groups_of"](text_of(ROOT / "crates.txt"))
+        self.assertGreater(len(groups), 1)
+        self.has_none(architecture["edges_up"](groups))
 
     def test_the_text_of_the_example_is_the_one_that_the_laws_speak_of(self) -> None:
         profile = re.search(r'b"([^"]*)"', text_of(ROOT / "crates/dsdl_text_codec_laws/src/text.rt"))
