@@ -189,7 +189,8 @@ def paragraphs(text: str) -> Iterator[Tuple[int, str]]:
             lines = []
         if line.strip() and not line.startswith(("|", "#", "<", "![")):
             begin = begin if lines else number
-            lines.append(ITEM.sub("", line, count=1).strip())
+            item = ITEM.match(line)
+            lines.append(line[item.end() :] if item is not None else line.strip())
 
 
 def sentences(paragraph: str) -> List[str]:
