@@ -56,7 +56,7 @@ ANCHOR = re.compile(r'<a id="([\w-]+)"></a>')
 ELSEWHERE = set(
     """
     rattle kit logic uavcan protocol dynamic_node_id GetNodeInfo NAME caldrouz_VERSION_amd64 caldrouz_VERSION_ARCH
-    Name uintB voidB _9 ttyACM0
+    Name uintB voidB _9 ttyACM0 TYPE_bytes TYPE_of SpellsType
 """.split()
 )
 # Commands of the system and of the toolchain: what follows one is not looked at.
@@ -274,10 +274,13 @@ class Pages(Checked):
         self.assertEqual((made.status, made.errors), (0, ""))
         return made.written
 
-    def test_the_pages_of_a_release_lead_somewhere(self) -> None:
+    def test_the_pages_of_a_release_lead_somewhere_and_name_what_is_there(self) -> None:
+        known = source_words()
         for name, words in MADE.items():
+            page = self.made(words)
             with self.subTest(page=name):
-                self.has_none(broken_links(self.made(words), ROOT / f"docs/{name}.md"))
+                self.has_none(broken_links(page, ROOT / f"docs/{name}.md"))
+                self.has_none(unknown_names(page, ROOT / "docs", known))
 
     def test_the_claims_find_what_they_name(self) -> None:
         page = self.made(MADE["CLAIMS"])
