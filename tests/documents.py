@@ -21,12 +21,10 @@ README_WORDS = 1300
 PAGES_WORDS = 24000
 LONGEST_PARAGRAPH = 90
 LONGEST_SENTENCE = 35
-# The pages of docs/ that are written by hand, those of them that do not keep the limits yet, and those that go.
+# The pages of docs/ that are written by hand.
 PAGES = (
     "ARCHITECTURE GLOSSARY PROOFS PREMISES OPERATING TROUBLE FORMATS PROTOCOL EMBEDDING AUDIT DECISIONS"
 ).split()
-NOT_YET = "OPERATING TROUBLE FORMATS PROTOCOL EMBEDDING AUDIT".split()
-GOING = "ASKING INCIDENT SEEING QUALIFICATION RELEASING".split()
 # The pages that are made of the sources, for a release: what makes each.
 MADE = {"HEADLINE": ["make_headline"], "CALLS": ["make_calls"], "CLAIMS": ["make_claims"]}
 
@@ -241,8 +239,7 @@ class Documents(Checked):
 class Limits(Checked):
     def pages(self) -> Iterator[pathlib.Path]:
         for name in PAGES:
-            if name not in NOT_YET:
-                yield ROOT / f"docs/{name}.md"
+            yield ROOT / f"docs/{name}.md"
 
     def test_the_readme_is_one_page(self) -> None:
         self.assertLessEqual(len(text_of(ROOT / "README.md").split()), README_WORDS)
@@ -253,7 +250,7 @@ class Limits(Checked):
 
     def test_all_pages_are_listed(self) -> None:
         there = {path.stem for path in (ROOT / "docs").glob("*.md")}
-        self.assertEqual(there - set(PAGES) - set(GOING), set())
+        self.assertEqual(there - set(PAGES), set())
 
     def test_paragraphs_and_sentences_are_short(self) -> None:
         for path in [ROOT / "README.md", *self.pages()]:
