@@ -27,7 +27,7 @@ class Words(unittest.TestCase):
 
 
 class Echo(unittest.TestCase):
-    """What the kernel tells of interfaces: the flags are those of `ip link show`, <NOARP,UP,LOWER_UP,ECHO> and the like."""
+    """What the kernel tells of interfaces. The flags are those of `ip link show`, as <NOARP,UP,LOWER_UP,ECHO>."""
 
     def answer(self, flags: int, kind: bytes) -> bytes:
         def attribute(number: int, value: bytes) -> bytes:

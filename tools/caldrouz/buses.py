@@ -35,12 +35,13 @@ def is_base(word: str) -> bool:
 
 
 def tells_what_is_out(channel: str) -> Optional[bool]:
-    """Whether a frame comes back on this interface once it was on the bus, and no sooner; None where the system does not
-    tell. Where the driver has no echo of its own, the kernel gives a frame back before the driver has it."""
+    """Whether a frame comes back on this interface once it was on the bus, and no sooner; None where the system does
+    not tell. Where the driver has no echo of its own, the kernel gives a frame back before the driver has it."""
     try:
         with socket.socket(socket.AF_NETLINK, socket.SOCK_RAW, 0) as link:
             link.settimeout(1.0)
-            link.send(MESSAGE.pack(MESSAGE.size, GET_LINK, IS_REQUEST, 1, 0, 0, 0, socket.if_nametoindex(channel), 0, 0))
+            number = socket.if_nametoindex(channel)
+            link.send(MESSAGE.pack(MESSAGE.size, GET_LINK, IS_REQUEST, 1, 0, 0, 0, number, 0, 0))
             answer = link.recv(1 << 16)
     except OSError:
         return None

@@ -71,8 +71,8 @@ class Running(NamedTuple):
 
 
 def members_running(proc: str = "/proc") -> List[Running]:
-    """The processes `.. node <members> <base> <turns> <id>..` and `.. can <members> <turns> <id>..` of this machine, as far
-    as they may be seen."""
+    """The processes `.. node <members> <base> <turns> <id>..` and `.. can <members> <turns> <id>..` of this machine, as
+    far as they may be seen."""
     found = []
     for name in sorted(filter(str.isdigit, os.listdir(proc)), key=int):
         try:
