@@ -27,6 +27,7 @@ ghost use Rattle.raft_model.specs.Fit.{IsFit};
 ghost use Rattle.raft_model.specs.Duty.{BlankDuty, CommitDuty, TellDuty, TickDuty, WinDuty};
 ghost use Rattle.raft_model.specs.Duty.{blank_moves, commit_phase, is_heard, tell_phase, tick_phase};
 ghost use Rattle.raft_model.specs.Stops.{AllEnabled, LocalState, state_after_moves};
+ghost use Rattle.raft_model.specs.OneLog.{HasOneLog};
 ghost use Rattle.raft_model.specs.Runs.{Event, FromEachMoment, InEveryRun, Lawful, MayOccur, World, after};
 ghost use Rattle.raft_model.specs.Runs.{initial_world, run, local_state_after};
 ghost use Rattle.raft_model.specs.Runs.Event.{Steps, Stops, StopsWithin};
@@ -85,6 +86,16 @@ pub fn law_commit()
     ensures safe { InEveryRun IsSafe }
     ensures settled { FromEachMoment StaysSettled }
 {}
+
+/// What a member has committed is contradicted by no append request whose term is not below its own: one that has an
+/// entry for such a place has the entry that stands there. Whoever is sent another one is sent it from another log.
+pub fn law_one_log()
+    ensures { InEveryRun HasOneLog }
+{
+    law_stored();
+    law_matching();
+    law_commit();
+}
 
 /// What a reservation is for. Two pairs of the ledger have different node IDs and different unique IDs, and
 /// no pair has a reserved node ID. Whoever is told a node ID is told a pair of the ledger: a reservation is
