@@ -1,0 +1,50 @@
+-- Two majorities have a member in common.
+use Rattle.std.proofs.Common.{◌≡◌, inl, inr, ℕ, zero, suc, ◌+◌, ◌*◌, ◌<◌, ◌≤◌, List, length, slice_index, refl, sym, ◌∙◌, arith}
+use Rattle.std.specs.Prelude.{Bool, true, false, ◌==◌, ◌&&◌, not, ◌⊎◌, if◌then◌else◌}
+use Rattle.std.proofs.lemmas.Bool.Decides.{eqb_tells}
+use Rattle.raft_log.specs.declared.stored.Stored.{Stored}
+use Rattle.store_audit.specs.Stores.{store_at}
+use Rattle.cmd_replace.specs.Guard.{voted, votes}
+
+-- of a vote that is there
+both : (a b : Bool) → (a && b) ≡ true → (a ≡ true) × (b ≡ true)
+both true true e = (refl, refl)
+both true false e = absurd (cc e)
+both false b e = absurd (cc e)
+
+equal : (a b : ℕ) → (a == b) ≡ true → a ≡ b
+equal a b e = elim (eqb_tells a b) as (λ _. a ≡ b) [
+  | inl t ↦ t.1
+  | inr t ↦ absurd (cc (t.0, e))
+]
+
+module _ (ids : List ℕ) (lost : ℕ) (stores : List Stored) where
+  pub term_of : (term node place : ℕ) → voted ids lost stores term node place ≡ true → (store_at stores place).term ≡ term
+  term_of term node place e = equal (store_at stores place).term term
+      (both ((store_at stores place).term == term) ((store_at stores place).vote == node)
+      (both (not (slice_index ids place == lost)) ((store_at stores place).term == term && (store_at stores place).vote == node) e).1).0
+
+  pub vote_of : (term node place : ℕ) → voted ids lost stores term node place ≡ true → (store_at stores place).vote ≡ node
+  vote_of term node place e = equal (store_at stores place).vote node
+      (both ((store_at stores place).term == term) ((store_at stores place).vote == node)
+      (both (not (slice_index ids place == lost)) ((store_at stores place).term == term && (store_at stores place).vote == node) e).1).1
+
+  module _ (term node term' node' : ℕ) where
+    abbrev IsShared : Type 0
+    IsShared = (place : ℕ) × (voted ids lost stores term node place ≡ true) × (voted ids lost stores term' node' place ≡ true)
+
+    one_more : (place few few' : ℕ) (a b : Bool) → voted ids lost stores term node place ≡ a → voted ids lost stores term' node' place ≡ b → few + few' ≤ place
+        → IsShared ⊎ ((few + (if a then 1 else 0)) + (few' + (if b then 1 else 0)) ≤ suc place)
+    one_more place few few' true true is is' sum = inl (place, is, is')
+    one_more place few few' true false is is' sum = inr (omega (arith, sum))
+    one_more place few few' false true is is' sum = inr (omega (arith, sum))
+    one_more place few few' false false is is' sum = inr (omega (arith, sum))
+
+    -- a member voted for both, or their votes together are no more than the members
+    pub shared_or_few : (count : ℕ) → IsShared ⊎ (votes ids lost stores term node count + votes ids lost stores term' node' count ≤ count)
+    shared_or_few zero = inr (omega arith)
+    shared_or_few (suc place) = elim (shared_or_few place) as (λ _. IsShared ⊎ (votes ids lost stores term node (suc place) + votes ids lost stores term' node' (suc place) ≤ suc place)) [
+      | inl shared ↦ inl shared
+      | inr few ↦ one_more place (votes ids lost stores term node place) (votes ids lost stores term' node' place)
+          (voted ids lost stores term node place) (voted ids lost stores term' node' place) refl refl few
+    ]
