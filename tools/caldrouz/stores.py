@@ -45,7 +45,7 @@ class Store(NamedTuple):
         return len(self.entries) == table.LOG_LIMIT and self.commit < table.LOG_LIMIT
 
 
-NEW = Store(0, 0, 0, 0, [])
+NEW = Store(table.NEWEST, 0, 0, 0, [])  # as `new` makes it
 
 
 def read(path: str) -> Store:

@@ -4,13 +4,14 @@
 //! code is that of the status. For the words of `node` each member has its link over UDP, and its disk
 //! in the file `alloc-<id>.store`. The words of `can` are those of `node` without a base: standard
 //! input is a raw CAN socket then (`can_link`), and the links of all members are on it. Where the
-//! members are told a list of them, links are strict, a missing file is refused, and a process whose
-//! members ran before rests first ([`Told::rest`]); where they are told a number, a missing file is made,
-//! and nothing rests. The words of `new` have the disks alone, in files that are made for them: where one
-//! is there already, or `run` does not come to its end, none of those that were made stays. Those of
-//! `audit` have the disks alone, in files that are there, and only read them. Where one of these cannot be
-//! opened the exit code is 12. A standard stream that is closed stays so for `run`: its descriptor never
-//! becomes that of a link or a disk. A word that is not UTF-8 is none that the program reads.
+//! members are told a list of them, links are strict, a missing file is refused, and so is one without a
+//! version, as one of zeros ([`look_for_stores`]); and a process whose members ran before rests first
+//! ([`Told::rest`]). Where they are told a number, a missing file is made, and nothing rests. The words of
+//! `new` have the disks alone, in files that are made for them: where one is there already, or `run` does
+//! not come to its end, none of those that were made stays. Those of `audit` have the disks alone, in files
+//! that are there, and only read them. Where one of these cannot be opened the exit code is 12. A standard
+//! stream that is closed stays so for `run`: its descriptor never becomes that of a link or a disk. A word
+//! that is not UTF-8 is none that the program reads.
 #![tactic(auto)]
 
 ghost use Rattle.std.specs.Prelude.{◌≤◌, length};
@@ -23,7 +24,7 @@ use crate::opened::{held_streams, link_of, made_stores, old_stores, stores_of, t
 use crate::refusal::Refusal;
 use allocator_app::{Plan, Status, Told, plan, run};
 use can_link::{CanBus, CanLink, RawSocket};
-use cmd_new::any_has_run;
+use cmd_new::{look_for_stores, write_end};
 use disk_model::FileDisk;
 use host_pace::{PacedClock, TimelyLink};
 use outside::{Link, StdClock, StdSink, StdSource};
@@ -137,7 +138,8 @@ fn run_on_can(
     }
 }
 
-/// Runs these members over links that are open, once their stores are open and the process has rested.
+/// Runs these members over links that are open, once their stores are open and the process has rested. Those that are
+/// told who the members are do not run where one of them has no store on its disk: the one line of that is written.
 fn run_members<L: Link>(
     rt: &HostRuntime,
     words: &[String],
@@ -147,8 +149,15 @@ fn run_members<L: Link>(
     idle: &Cell<usize>,
 ) -> Result<Status, Refusal> {
     let mut stores = stores_of(rt, told, ids)?;
-    let rest = told.rest(any_has_run(&mut stores));
-    thread::sleep(rt, Duration::from_millis(rest));
+    let ran_before = match told {
+        // A missing store is made of zeros then, so zeros are a new one.
+        Told::Size(_) => false,
+        Told::Members(_) => match look_for_stores(ids, &mut stores) {
+            Ok(used) => used,
+            Err(status) => return Ok(write_end(status, &[], &mut StdSink::new(rt.stdout()))),
+        },
+    };
+    thread::sleep(rt, Duration::from_millis(told.rest(ran_before)));
     Ok(follow(rt, words, links, &mut stores, idle))
 }
 

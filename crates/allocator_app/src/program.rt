@@ -74,7 +74,7 @@ use store_audit::audit_stores;
 /// of the trace's rows says (`Traces` and `Stands` of `cmd_node_laws`).
 ///
 /// `new <id>..` makes a new store of each of the disks that are handed in, one for each of these members: an
-/// image of zeros, synced (`MakesStores` of `cmd_new`).
+/// image with its version alone, synced (`MakesStores` of `cmd_new`).
 ///
 /// `audit <id>..` compares the stores of these members, a disk for each, and changes none of them: the lines of
 /// what they agree on, or `Differ` with the line that names two that differ (`Audits` of `store_audit`).
@@ -176,7 +176,7 @@ pub fn run<S: Source, K: Sink, L: Link, D: Disk, C: Clock>(
         (result ≡ Status.Usage) ⊎ RunsInTraces L.coming L.sent L.faults D.Disk (told_rules told) turns ids
         links.old links.new disks.old disks.new (C.readings clock.old) (C.readings clock.new)
         (K.faults sink.old) (K.faults sink.new) (K.written sink.old) (K.written sink.new) result }
-    // Stores that are made: what is written, and that each disk has zeros then, all of them stable.
+    // Stores that are made: what is written, and that each disk has the image of a new store then, all of it stable.
     ensures new { (ids : List ℕ) → IsNew ids (map string_bytes words.now) →
         (result ≡ Status.Usage) ⊎ MakesStores D.Disk ids disks.old disks.new
         (K.written sink.old) (K.written sink.new) result }

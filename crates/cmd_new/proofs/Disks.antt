@@ -2,23 +2,27 @@
 use Rattle.std.proofs.Common.{◌≡◌, ◌<◌, ◌+◌, inl, inr, ℕ, List, length, slice_set, sym, ap, subst, ◌∙◌, arith}
 use Rattle.std.specs.Prelude.{Option, None, Some, IsSome, slice_index, slice_index_or}
 use Rattle.std.proofs.lemmas.Bool.Decides.{eqb_tells}
+use Rattle.std.proofs.lemmas.Grind.{same_number_lists}
 use Rattle.std.proofs.lemmas.List.{get_or-set_other, get_or-set_same}
 use Rattle.disk_model.specs.Contents.{Contents, HasBytes, IsSound, image_size}
 use Rattle.disk_model.specs.Device.{IsSynced}
 use Rattle.disk_model.specs.declared.disk.Disk.{Ghosts}
 use Rattle.outside.specs.Faults.{Rose}
-use Rattle.cmd_new.specs.Made.{FailsAt, IsBlank, IsMade, IsMadeAt}
+use Rattle.cmd_new.specs.Made.{FailsAt, IsMade, IsMadeAt, IsNewStore}
+use Rattle.cmd_new.specs.NewImage.{new_image}
 
--- zeros that were written over all of a disk and synced
-pub blank : (mid new : Contents) (bytes : List ℕ) → HasBytes mid.seen 0 bytes → length bytes ≡ image_size
-    → ((i : ℕ) → i < image_size → slice_index bytes i ≡ 0) → IsSynced mid new → IsSound new → IsBlank new
-blank mid new bytes has size zeros synced sound = record {
-  size = sound.current.size ∙ sound.size;
-  zeros = λ i low. let same : i ≡ 0 + i = omega arith in
-      ap (λ l. slice_index l i) synced.seen ∙ ap (slice_index mid.seen) same ∙ has i (rw size low) ∙ zeros i low;
-  stable = synced.stable ∙ sym synced.seen;
-  settled = synced.settled;
-}
+-- bytes that all of a disk has are what reads give
+pub whole_image : (disk : Contents) (bytes : List ℕ) → IsSound disk → length bytes ≡ image_size → HasBytes disk.seen 0 bytes → bytes ≡ disk.seen
+whole_image disk bytes sound size has =
+    let long : length bytes ≡ length disk.seen = size ∙ sym (sound.current.size ∙ sound.size) in
+    same_number_lists bytes disk.seen long (λ i low. let at : i ≡ 0 + i = omega arith in sym (ap (slice_index disk.seen) at ∙ has i low))
+
+-- the image of a new store, written over all of a disk and synced
+pub new_store : (mid new : Contents) (bytes : List ℕ) → HasBytes mid.seen 0 bytes → length bytes ≡ image_size → bytes ≡ new_image
+    → IsSynced mid new → IsSound new → IsNewStore new
+new_store mid new bytes has size is synced sound =
+    let all : bytes ≡ new.seen = whole_image new bytes sound size (λ i low. ap (λ l. slice_index l (0 + i)) synced.seen ∙ has i low) in
+    record { image = sym all ∙ is; stable = synced.stable ∙ sym synced.seen; settled = synced.settled }
 
 module _ {D : Type 0} (ghosts : Ghosts D) (old mid : List (Option D)) (p : ℕ) (place : Option D) (same : length mid ≡ length old) (within : p < length old)
     (made : (k : ℕ) → k < p → IsMadeAt ghosts old mid k) where

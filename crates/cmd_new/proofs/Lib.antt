@@ -1,2 +1,3 @@
 pub mod Disks
-pub mod Stores
+pub mod Looking
+pub mod NewImage

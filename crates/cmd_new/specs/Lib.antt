@@ -1,2 +1,4 @@
+pub mod Found
+pub mod Looks
 pub mod Made
-pub mod Ran
+pub mod NewImage

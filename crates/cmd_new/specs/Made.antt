@@ -3,15 +3,15 @@ use Rattle.std.specs.Prelude.{⊤, ◌≡◌, ◌⊎◌, ℕ, ◌<◌, true, Lis
 use Rattle.std.specs.Io.KnownBytes.{Appends}
 use Rattle.cmd_io.specs.Output.{WritesFront}
 use Rattle.cmd_io.specs.declared.status.Status.{Status}
-use Rattle.cmd_io.specs.declared.status.Status.TheVariants.{DiskFault, Done, WriteFault}
-use Rattle.disk_model.specs.Contents.{Contents, IsSettled, image_size}
+use Rattle.cmd_io.specs.declared.status.Status.TheVariants.{Damaged, DiskFault, Done, WriteFault}
+use Rattle.cmd_new.specs.NewImage.{new_image}
+use Rattle.disk_model.specs.Contents.{Contents, IsSettled}
 use Rattle.disk_model.specs.declared.disk.Disk.{Ghosts}
 use Rattle.outside.specs.Faults.{Rose}
 
--- zeros, all of them stable: the store of a member that has stored nothing
-pub record IsBlank (disk : Contents) : Type 0 where
-  pub size : length disk.seen ≡ image_size
-  pub zeros : (i : ℕ) → i < image_size → slice_index disk.seen i ≡ 0
+-- the image of a new store, all of it stable
+pub record IsNewStore (disk : Contents) : Type 0 where
+  pub image : disk.seen ≡ new_image
   pub stable : disk.stable ≡ disk.seen
   pub settled : IsSettled disk
 
@@ -19,11 +19,13 @@ pub record IsBlank (disk : Contents) : Type 0 where
 abbrev pub line_of : (ids : List ℕ) → Status → List ℕ
 line_of ids Done = codes "made " ++ decimal (length ids) ++ codes "\n"
 line_of ids (DiskFault id) = codes "disk fault " ++ decimal id ++ codes "\n"
+line_of ids (Damaged id key) = codes "damaged " ++ decimal id ++ codes " " ++ decimal key ++ codes "\n"
 line_of ids _ = []
 
 abbrev pub HasLine : Status → Type 0
 HasLine Done = ⊤
 HasLine (DiskFault id) = ⊤
+HasLine (Damaged id key) = ⊤
 HasLine _ = ⊥
 
 -- a run that came to this ends so: its line was written, or a front of it, where the sink failed. The lists at the end
@@ -38,7 +40,7 @@ module _ {D : Type 0} (ghosts : Ghosts D) where
     pub after : D
     pub is : place ≡ Some after
     pub tells : ghosts.tells after ≡ ghosts.tells before
-    pub blank : ghosts.tells before ≡ true → IsBlank (ghosts.contents after)
+    pub store : ghosts.tells before ≡ true → IsNewStore (ghosts.contents after)
     pub faults : ghosts.faults after ≡ ghosts.faults before
 
   module _ (old new : List (Option D)) where

@@ -1,12 +1,18 @@
-//! The mode `new`: it makes the stores of members that have stored nothing yet.
+//! Stores that are made: the mode `new`, and how members know such a store again.
 //!
-//! Such a store is an image of zeros. [`make_stores`] writes it to each of the disks that are handed in, and
-//! syncs it (`specs/Made.antt`). [`any_has_run`] tells whether a member ran on one of them since then
-//! (`specs/Ran.antt`).
+//! A new store says that it is one: its image has a version, and nothing else (`specs/NewImage.antt`). It is the image
+//! that an opening of zeros leaves, so nothing is put when its member first opens it. [`make_stores`] writes it to
+//! each of the disks that are handed in, and syncs it (`specs/Made.antt`). [`find_store`] tells a new store from one
+//! that was used, and from a disk without a store, as one of zeros: that is how a lost block reads
+//! (`specs/Found.antt`). [`look_for_stores`] asks it of all that a process runs (`specs/Looks.antt`).
 #![tactic(auto)]
 
+mod found;
+mod image;
+pub mod laws;
+mod look;
 mod make;
-mod ran;
 
-pub use make::make_stores;
-pub use ran::any_has_run;
+pub use found::{Found, find_store};
+pub use look::look_for_stores;
+pub use make::{make_stores, write_end};

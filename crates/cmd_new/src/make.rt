@@ -1,17 +1,17 @@
-ghost use Rattle.std.specs.Prelude.{◌≡◌, ◌≤◌, ◌<◌, ◌⊎◌, ℕ, length, IsSome, None, Some, true, OnOk, IfErr, slice_index, slice_index_or};
+ghost use Rattle.std.specs.Prelude.{◌≡◌, ◌≤◌, ◌<◌, ◌⊎◌, ℕ, length, IsSome, None, Some, true, OnOk, IfErr, slice_index_or};
 ghost use Rattle.can_frame.specs.Sizes.{most_members};
-ghost use Rattle.disk_model.specs.Contents.{image_size};
 ghost use Rattle.outside.specs.Faults.{Rose};
-ghost use Rattle.cmd_new.specs.Made.{FailsAt, HasLine, IsBlank, IsMade, IsMadeAt, IsWritten, MakesStores, line_of};
+ghost use Rattle.cmd_new.specs.Made.{FailsAt, HasLine, IsMade, IsMadeAt, IsNewStore, IsWritten, MakesStores, line_of};
 ghost use Rattle.cmd_io.specs.Counting.{CountsFaults};
 
-use cmd_io::{Output, Status, number_line};
-use disk_model::{Disk, IMAGE};
+use crate::image::new_image;
+use cmd_io::{Output, Status, number_line, numbers_line};
+use disk_model::Disk;
 use outside::{Failed, Sink};
 use replay_text::Line;
 
 /// Makes a new store of each of these disks, one for each of these nodes, in order, up to the first that fails:
-/// zeros are written over all of it, and synced. Then one line is written, with how many stores were made, or
+/// its image is written over all of the disk, and synced. Then one line is written, with how many stores were made, or
 /// with the node whose disk failed.
 ///
 /// With `Done` each disk has zeros, all of them stable, and counted no fault. With `DiskFault` so have those before the
@@ -37,8 +37,9 @@ pub fn make_stores<K: Sink, D: Disk>(ids: &[u8], disks: &mut [Option<D>], sink: 
     }
 }
 
-/// Writes the one line of a run over the disks of these nodes that ends so.
-fn write_end<K: Sink>(outcome: Status, ids: &[u8], sink: &mut K) -> Status
+/// Writes the one line of a run over the disks of these nodes that ends so: with `Done` how many they are, else the node
+/// whose disk failed, or has no store.
+pub fn write_end<K: Sink>(outcome: Status, ids: &[u8], sink: &mut K) -> Status
     requires line { HasLine outcome }
     requires five { length ids.now ≤ most_members }
     ensures written { IsWritten outcome (line_of ids.now outcome)
@@ -64,6 +65,7 @@ fn end_line(outcome: Status, ids: &[u8]) -> Line
     match outcome {
         Status::Done => number_line(b"made ", ids.len() as u64),
         Status::DiskFault(id) => number_line(b"disk fault ", u64::from(id)),
+        Status::Damaged(id, key) => numbers_line(b"damaged ", u64::from(id), u64::from(key)),
         _ => Line::new(),
     }
 }
@@ -101,18 +103,10 @@ fn make_place<D: Disk>(place: &mut Option<D>) -> Result<(), Failed>
 /// Makes a new store of a disk.
 fn make_store<D: Disk>(disk: &mut D) -> Result<(), Failed>
     ensures tells { D.tells disk.new ≡ D.tells disk.old }
-    ensures blank { OnOk result (D.tells disk.old ≡ true → IsBlank (D.contents disk.new)) }
+    ensures store { OnOk result (D.tells disk.old ≡ true → IsNewStore (D.contents disk.new)) }
     ensures faults { CountsFaults (D.faults disk.old) (D.faults disk.new) result }
 {
-    disk.write(0, &zeros())?;
+    disk.write(0, &new_image())?;
     disk.sync()?;
     Ok(())
-}
-
-/// The image of a member that has stored nothing.
-fn zeros() -> [u8; IMAGE]
-    ensures size { length result ≡ image_size }
-    ensures zeros { (i : ℕ) → i < image_size → slice_index result i ≡ 0 }
-{
-    [0; IMAGE]
 }
