@@ -14,9 +14,9 @@ use replay_text::Line;
 /// its image is written over all of the disk, and synced. Then one line is written, with how many stores were made, or
 /// with the node whose disk failed.
 ///
-/// With `Done` each disk has zeros, all of them stable, and counted no fault. With `DiskFault` so have those before the
-/// named one, which counted one fault; those behind it are as before. Where the sink failed, a front of the line is
-/// written.
+/// With `Done` each disk has the image of a new store, all of it stable, and counted no fault. With `DiskFault` so have
+/// those before the named one, which counted one fault; those behind it are as before. Where the sink failed, a front
+/// of the line is written.
 pub fn make_stores<K: Sink, D: Disk>(ids: &[u8], disks: &mut [Option<D>], sink: &mut K) -> Status
     requires five { length ids.now ≤ most_members }
     requires disks { length disks.old ≡ length ids.now }
