@@ -11,4 +11,5 @@ pub mod Rows
 pub mod Soaking
 pub mod Told
 pub mod Words
+pub mod Vehicle
 pub mod WorldReport

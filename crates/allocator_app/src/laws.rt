@@ -1,9 +1,13 @@
 //! What holds of every run, each the contract of a function that does nothing.
 
-ghost use Rattle.std.specs.Prelude.{◌≡◌, ℕ, List, Option};
+ghost use Rattle.std.specs.Prelude.{◌≡◌, ◌≢◌, [], ℕ, List, Option};
 ghost use Rattle.bus_spec.specs.Cluster.{Cluster};
 ghost use Rattle.allocator_app.specs.InPart.{IsWrittenInPart};
 ghost use Rattle.cmd_io.specs.Output.{WritesFront};
+ghost use Rattle.bus_physics.specs.Physics.{HoldsAreShort};
+ghost use Rattle.allocator_app.specs.Told.{list_of};
+ghost use Rattle.allocator_app.specs.Vehicle.{vehicle_limits};
+ghost use Rattle.allocator_app.specs.declared.told.Told.{Told};
 ghost use Rattle.allocator_app.specs.Report.{IsReport};
 ghost use Rattle.cmd_io.specs.declared.status.Status.{Status};
 
@@ -27,3 +31,9 @@ pub fn what_was_written_begins_the_report()
 {
     a_line_has_one_row();
 }
+
+/// The rest of a process that was told its members, the longest way of a frame and the most that clocks may be off, as
+/// they are stated for a vehicle, are such that no answer to an earlier call counts (`bus_physics`).
+pub fn the_numbers_of_a_vehicle_are_enough()
+    ensures { (told : Told) → list_of told ≢ [] → HoldsAreShort (vehicle_limits told) }
+{}

@@ -1,0 +1,18 @@
+-- The numbers that are stated for a vehicle, in milliseconds.
+use Rattle.std.specs.Prelude.{ℕ, ◌+◌, ◌*◌, true}
+use Rattle.host_pace.specs.Timely.{longest_wait}
+use Rattle.bus_physics.specs.Physics.{Limits}
+use Rattle.allocator_app.specs.declared.told.Told.{Told}
+use Rattle.allocator_app.specs.Told.{rest_of}
+
+-- for how long a frame is on its way at most: in the link of each process, in the bridge of each, and on the bus
+abbrev pub longest_hold : ℕ
+longest_hold = 2 * longest_wait + 2 * 500 + 500
+
+-- what a clock gains or loses within a minute at most
+abbrev pub most_drift : ℕ
+most_drift = 499
+
+-- what a bus, a clock and a process that was told this keep, where the process ran one of its members before
+abbrev pub vehicle_limits : Told → Limits
+vehicle_limits told = record { hold = longest_hold; drift = most_drift; rest = rest_of told true }
