@@ -21,6 +21,10 @@ README_WORDS = 1300
 PAGES_WORDS = 24000
 LONGEST_PARAGRAPH = 90
 LONGEST_SENTENCE = 35
+# So many names of definitions may stand in more than one crate: a goal that has one cannot be read without its imports.
+# `StandsFor`, the relation of a layer to its definition, is one on purpose. The count may only fall.
+NAMES_TWICE = 209
+DEFINITION = re.compile(r"(?:abbrev |unfoldable |opaque )?pub (?:abbrev |unfoldable )?(record |data )?([A-Za-z_][\w']*)")
 # The pages of docs/ that are written by hand.
 PAGES = (
     "ARCHITECTURE GLOSSARY PROOFS PREMISES OPERATING TROUBLE FORMATS PROTOCOL EMBEDDING AUDIT DECISIONS"
@@ -204,6 +208,18 @@ def too_long(text: str) -> Iterator[str]:
                 yield f"line {number}: a sentence of {words_of(sentence)} words, above {LONGEST_SENTENCE}: {sentence}"
 
 
+def names_twice() -> Dict[str, Set[str]]:
+    """The names of definitions that more than one crate has, each with these crates."""
+    crates: Dict[str, Set[str]] = {}
+    for path in sorted(ROOT.glob("crates/*/specs/**/*.antt")):
+        crate = path.relative_to(ROOT).parts[1]
+        for line in path.read_text(encoding="utf-8").splitlines():
+            found = DEFINITION.match(line)
+            if found and (found[1] or not line.startswith("pub ")):
+                crates.setdefault(found[2], set()).add(crate)
+    return {name: among for name, among in crates.items() if len(among) > 1 and name != "StandsFor"}
+
+
 def long_rows(path: pathlib.Path) -> Iterator[str]:
     for number, line in prose(text_of(path)):
         if line.startswith("|") and len(line) > LONGEST_ROW:
@@ -293,6 +309,10 @@ class Pages(Checked):
         groups = architecture["groups_of"](text_of(ROOT / "crates.txt"))
         self.assertGreater(len(groups), 1)
         self.has_none(architecture["edges_up"](groups))
+
+    def test_names_of_definitions_stand_in_one_crate(self) -> None:
+        twice = names_twice()
+        self.assertLessEqual(len(twice), NAMES_TWICE, "\n".join(f"{name}: {sorted(twice[name])}" for name in twice))
 
     def test_the_text_of_the_example_is_the_one_that_the_laws_speak_of(self) -> None:
         profile = re.search(r'b"([^"]*)"', text_of(ROOT / "crates/dsdl_text_codec_laws/src/text.rt"))
