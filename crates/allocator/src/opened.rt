@@ -1,10 +1,11 @@
-ghost use Rattle.std.specs.Prelude.{◌≡◌, ◌≤◌, [], length, IfOk, IfSome, IsSome};
+ghost use Rattle.std.specs.Prelude.{◌≡◌, ◌≤◌, [], length, IfOk, IfSome, IsSome, Ok};
 ghost use Rattle.can_frame.specs.Sizes.{most_members};
 ghost use Rattle.allocator_app.specs.Told.{list_of};
 
 use crate::refusal::Refusal;
 use allocator_app::Told;
 use disk_model::FileDisk;
+use outside::Failed;
 use std::alloc::{AllocError, Global};
 use std::fs;
 use std::fs::File;
@@ -42,13 +43,19 @@ pub fn link_of(
     ensures strict { (list_of told.now ≡ [] → ⊥) → IfOk result (λ link. IsSome link.here) }
     ensures here { IfOk result (λ link. IfSome link.here (λ nodes. nodes.items ≡ here.now)) }
 {
-    let opened = match told {
-        Told::Size(_) => UdpLink::open(rt, base, id),
-        Told::Members(_) => UdpLink::open_strict(rt, base, id, here),
-    };
+    match told {
+        Told::Size(_) => or_refusal(UdpLink::open(rt, base, id)),
+        Told::Members(_) => or_refusal(UdpLink::open_strict(rt, base, id, here)),
+    }
+}
+
+/// The link, where it was opened.
+fn or_refusal(opened: Result<UdpLink, Failed>) -> Result<UdpLink, Refusal>
+    ensures link { IfOk result (λ link. opened ≡ Ok link) }
+{
     match opened {
         Ok(link) => Ok(link),
-        Err(_) => Err(Refusal::NotOpened),
+        Err(Failed) => Err(Refusal::NotOpened),
     }
 }
 

@@ -46,6 +46,7 @@ impl UdpLink {
         ensures base { IfOk result (λ link. link.base ≡ base) }
         ensures id { IfOk result (λ link. link.id ≡ id) }
         ensures faults { IfOk result (λ link. link.faults ≡ 0) }
+        ensures here { IfOk result (λ link. link.here ≡ None) }
         ensures port { 65536 ≤ base + id → IsErr result }
     {
         let Some(port) = base.checked_add(u16::from(id)) else {

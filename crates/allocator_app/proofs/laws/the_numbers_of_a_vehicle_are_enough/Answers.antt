@@ -10,5 +10,5 @@ enough : (told : Told) → list_of told ≢ [] → HoldsAreShort (vehicle_limits
 enough (Size size) some = absurd (some refl)
 enough (Members members) some = record { round = omega arith; rested = omega arith; clock = omega arith }
 
-pub returns-clause : goal.returns-clause
-returns-clause c = enough
+pub returns : goal.returns
+returns c = enough
