@@ -20,11 +20,13 @@ ghost use Rattle.can_frame.specs.Sizes.{most_members};
 mod opened;
 mod refusal;
 
-use crate::opened::{held_streams, link_of, made_stores, old_stores, stores_of, take_away};
+use crate::opened::{
+    held_streams, known_stores, link_of, made_stores, old_stores, stores_of, take_away,
+};
 use crate::refusal::Refusal;
 use allocator_app::{Plan, Status, Told, plan, run};
 use can_link::{CanBus, CanLink, RawSocket};
-use cmd_new::{look_for_stores, write_end};
+use cmd_new::write_end;
 use disk_model::FileDisk;
 use host_pace::{PacedClock, TimelyLink};
 use outside::{Link, StdClock, StdSink, StdSource};
@@ -152,7 +154,7 @@ fn run_members<L: Link>(
     let ran_before = match told {
         // A missing store is made of zeros then, so zeros are a new one.
         Told::Size(_) => false,
-        Told::Members(_) => match look_for_stores(ids, &mut stores) {
+        Told::Members(_) => match known_stores(ids, &mut stores) {
             Ok(used) => used,
             Err(status) => return Ok(write_end(status, &[], &mut StdSink::new(rt.stdout()))),
         },

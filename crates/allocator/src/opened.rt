@@ -1,9 +1,11 @@
-ghost use Rattle.std.specs.Prelude.{◌≡◌, ◌≤◌, [], length, IfOk, IfSome, IsSome, Ok};
+ghost use Rattle.std.specs.Prelude.{◌≡◌, ◌≤◌, [], length, IfErr, IfOk, IfSome, IsSome, Ok};
 ghost use Rattle.can_frame.specs.Sizes.{most_members};
 ghost use Rattle.allocator_app.specs.Told.{list_of};
+ghost use Rattle.cmd_new.specs.Made.{HasLine};
 
 use crate::refusal::Refusal;
-use allocator_app::Told;
+use allocator_app::{Status, Told};
+use cmd_new::{look_for_stores, mark_new_stores};
 use disk_model::FileDisk;
 use outside::Failed;
 use std::alloc::{AllocError, Global};
@@ -79,6 +81,16 @@ pub fn stores_of(
         }
     }
     Ok(stores)
+}
+
+/// Whether one of these stores, of members that are told a list of them, was used before; those that are new are marked
+/// as used. Where one is none, or a disk fails, it is the status that says so.
+pub fn known_stores(ids: &[u8], stores: &mut Vec<Option<FileDisk>>) -> Result<bool, Status>
+    ensures line { IfErr result (λ status. HasLine status) }
+{
+    let used = look_for_stores(ids, stores)?;
+    mark_new_stores(ids, stores)?;
+    Ok(used)
 }
 
 /// The stores of these members, in files that are there already, to be read.

@@ -1,4 +1,5 @@
 pub mod Found
 pub mod Looks
 pub mod Made
+pub mod Marked
 pub mod NewImage
