@@ -54,7 +54,7 @@ const Facts = (() => {
     [10, ["node", "can"], "disk fault <id>", "the disk of {member <id>|the member in the last line} failed: its store could not be written or synced"],
     [10, ["new"], "disk fault <id>", "the disk of {member <id>|the member in the last line} failed, and no store was made"],
     [10, ["audit"], "disk fault <id>", "the store of {node <id>|the member in the last line} could not be read, or somebody wrote to it meanwhile"],
-    [11, ["node", "can"], "damaged <id> <key>", "the store of {member <id> is damaged, first at key <key>|the member in the last line is damaged, first at the key there}; nothing was sent"],
+    [11, ["node", "can"], "damaged <id> <key>", "the store of {member <id> is damaged, first at key <key>|the member in the last line is damaged, first at the key there}; nothing was sent. Key 0 also stands for a store without a version, as zeros"],
     [11, ["audit"], "damaged <id> <key>", "the store of {node <id> is damaged, first at key <key>|the member in the last line is damaged, first at the key there}"],
     [14, ["audit"], "differ <i> <a> <b>", "{nodes <a> and <b> have committed different entries at place <i>|the two members in the last line have committed different entries at the place there}; none before it differ"],
     [15, ["decode"], "-", "the text has no such type, or the type has no such part"],
