@@ -26,6 +26,8 @@ STORE = re.compile(r'openat\(AT_FDCWD, "alloc-(\d+)\.store", .*\) = (\d+)$')
 SOCKET = re.compile(r"bind\((\d+), .*sin_port=htons\((\d+)\).*\) = 0$")
 CALL = re.compile(r"(pwrite64|fdatasync|sendto)\((\d+)[,)]")
 PLACE = re.compile(r", (\d+), (\d+)\) += ")
+# A new store is marked by these two bytes, before its member runs.
+MARK = (1, 2)
 
 
 def strace(log: str, *words: str) -> List[str]:
@@ -56,6 +58,8 @@ class Member:
             self.unsynced = True
         elif call == "fdatasync":
             self.unsynced = False
+            if self.writes == [MARK] and not self.datagrams:
+                self.writes = []
             if len(self.writes) == 2:
                 self.end_put()
         else:
