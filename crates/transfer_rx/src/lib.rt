@@ -1,12 +1,13 @@
 //! Reassembly: from frames in any order, of any senders, to whole transfers.
 //!
-//! There are four ways to give a frame to a receiver:
+//! There are five ways to give a frame to a receiver:
 //!
 //! | call | changes the receiver | the transfer |
 //! |---|---|---|
 //! | [`Receiver::take`] | yes | comes as a copy |
 //! | [`Receiver::hear`] | yes | stays in the receiver, and [`Receiver::delivered`] lends it |
 //! | [`Receiver::hear_by`] | yes, as `hear`, with a closure that is handed in | the same |
+//! | [`Receiver::peek`] | no | that `take` would deliver, as a copy |
 //! | [`Receiver::foretell`] | no | that `hear` would deliver, its heading alone |
 //!
 //! A [`Receiver`] keeps sessions, one for each kind, number and source that it hears. Contracts see

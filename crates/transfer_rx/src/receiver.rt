@@ -9,7 +9,7 @@ ghost use Rattle.transfer_rx.specs.Keys.{key_of};
 ghost use Rattle.transfer_rx.specs.Ranges.{IfDelivered, IsInRange};
 ghost use Rattle.transfer_rx.specs.Reassembly.{answer, arrival_of, delivered, next};
 ghost use Rattle.transfer_rx.specs.Sessions.{Session};
-ghost use Rattle.transfer_rx.specs.Told.{delivered_after, told};
+ghost use Rattle.transfer_rx.specs.Told.{delivered_after, delivery_of, told};
 
 use crate::accept::{AcceptRow, Wanted};
 use crate::key::Key;
@@ -82,6 +82,21 @@ impl<F: Fn(Kind, u16) -> Option<u64> + Copy, const S: usize, const N: usize> Rec
     {
         let accept = self.accept;
         self.hear_by(accept, frame, mark, now)
+    }
+
+    /// The transfer that `take` would deliver, if any. Nothing changes.
+    pub fn peek(&self, frame: &Frame, mark: Mark, now: u64) -> Option<Transfer>
+        requires callable { F.IsAlwaysCallable (accept_of self.now) }
+        requires answers { AnswersByRows (F.post (accept_of self.now)) (setting_of self.now).rows }
+        ensures answer { (sessions : List Session) → HasSessions self.now sessions →
+            option_map delivery_of result ≡
+            delivered (answer (setting_of self.now) sessions (arrival_of frame.now mark now)) }
+        ensures ranges { IfSome result IsInRange }
+    {
+        let coming = self.coming(frame, mark, now)?;
+        let mut transfer = Transfer::blank();
+        self.sessions.fill(coming, frame.data(), &mut transfer);
+        Some(transfer)
     }
 
     /// The transfer that `hear` would deliver, if any, without its payload. Nothing changes.
