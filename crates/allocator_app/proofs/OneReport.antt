@@ -15,7 +15,7 @@ use Rattle.allocator_app.specs.InPart.IsText.{OfRows, OfAll}
 use Rattle.cmd_io.specs.Output.{WritesFront}
 use Rattle.allocator_app.specs.Report.{IsBadRow, IsBeyond, IsRefused, IsReport, Says, bad_row_line, limit_line, unlawful_line}
 use Rattle.cmd_io.specs.declared.status.Status.{Status}
-use Rattle.cmd_io.specs.declared.status.Status.TheVariants.{Done, Usage, BadRow, Unlawful as IsUnlawful, ReadFault, WriteFault, Memory, Limit, LinkFault, DiskFault, Damaged, Differ, NoPart, NoValue}
+use Rattle.cmd_io.specs.declared.status.Status.TheVariants.{Done, Usage, BadRow, Unlawful as IsUnlawful, ReadFault, WriteFault, Memory, Limit, LinkFault, DiskFault, Damaged, NoLeader, Uncommitted, Differ, AnotherLog, NoPart, NoValue}
 use Rattle.cmd_io.proofs.Written.{front-of_more}
 
 -- ---- rows are taken up to where none can be
@@ -79,6 +79,9 @@ module _ (one_row : (a b : Row) (line : List ℕ) → Reads a line → Reads b l
   stuck-at_end end rest last (Damaged id key) says row behind begins low takes = absurd says
   stuck-at_end end rest last (Differ index a b) says row behind begins low takes = absurd says
   stuck-at_end end rest last NoPart says row behind begins low takes = absurd says
+  stuck-at_end end rest last NoLeader says row behind begins low takes = absurd says
+  stuck-at_end end rest last (Uncommitted id) says row behind begins low takes = absurd says
+  stuck-at_end end rest last (AnotherLog id node) says row behind begins low takes = absurd says
   stuck-at_end end rest last NoValue says row behind begins low takes = absurd says
 
   -- ---- a schedule ends in one way
@@ -137,6 +140,9 @@ module _ (one_row : (a b : Row) (line : List ℕ) → Reads a line → Reads b l
   one_end end rest last other status (Damaged id key) p q = absurd q
   one_end end rest last other status (Differ index a b) p q = absurd q
   one_end end rest last other status NoPart p q = absurd q
+  one_end end rest last other status NoLeader p q = absurd q
+  one_end end rest last other status (Uncommitted id) p q = absurd q
+  one_end end rest last other status (AnotherLog id node) p q = absurd q
   one_end end rest last other status NoValue p q = absurd q
   one_end end rest last other Usage ending p q = absurd p
   one_end end rest last other ReadFault ending p q = absurd p
@@ -147,6 +153,9 @@ module _ (one_row : (a b : Row) (line : List ℕ) → Reads a line → Reads b l
   one_end end rest last other (Damaged id key) ending p q = absurd p
   one_end end rest last other (Differ index a b) ending p q = absurd p
   one_end end rest last other NoPart ending p q = absurd p
+  one_end end rest last other NoLeader ending p q = absurd p
+  one_end end rest last other (Uncommitted id) ending p q = absurd p
+  one_end end rest last other (AnotherLog id node) ending p q = absurd p
   one_end end rest last other NoValue ending p q = absurd p
 
   -- where none can be taken, none more is

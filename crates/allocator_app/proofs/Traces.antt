@@ -8,7 +8,7 @@ use Rattle.alloc_spec.specs.Rules.{Rules}
 use Rattle.bus_physics.specs.Runs.{StandOnBus}
 use Rattle.alloc_spec.specs.ClusterMembers.{AreMembers}
 use Rattle.bus_spec.specs.Cluster.{cluster}
-use Rattle.cmd_io.specs.declared.status.Status.TheVariants.{Done, Usage, BadRow, Unlawful, ReadFault, WriteFault, Memory, Limit, LinkFault, DiskFault, Damaged, Differ, NoPart, NoValue}
+use Rattle.cmd_io.specs.declared.status.Status.TheVariants.{Done, Usage, BadRow, Unlawful, ReadFault, WriteFault, Memory, Limit, LinkFault, DiskFault, Damaged, NoLeader, Uncommitted, Differ, AnotherLog, NoPart, NoValue}
 use Rattle.cmd_node.specs.CutRun.{IsCutAtOpening, IsCutAtTurn, KeepsImages, KeepsOrOpens}
 use Rattle.cmd_node.specs.Nodes.{IsCutInTurn, IsDone, IsEnd, LeavesWith, RunsNodes}
 use Rattle.cmd_node.specs.Opening.{RunInput}
@@ -105,6 +105,9 @@ module _ {L D : Type 0} (coming : L → Option (List Received)) (sent : L → Op
     by_end given tell (Limit row) end = absurd end
     by_end given tell (Differ index a b) end = absurd end
     by_end given tell NoPart end = absurd end
+    by_end given tell NoLeader end = absurd end
+    by_end given tell (Uncommitted id) end = absurd end
+    by_end given tell (AnotherLog id node) end = absurd end
     by_end given tell NoValue end = absurd end
 
     pub in_traces : RunsNodes coming sent link_faults disk rules turns mine links_old links disks_old disks readings_old readings faults_old faults before now status →

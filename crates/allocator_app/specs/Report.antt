@@ -8,7 +8,7 @@ use Rattle.bus_spec.specs.OwnLogs.{KeepsItsWord}
 use Rattle.allocator_app.specs.WorldReport.{end_lines, row_lines}
 use Rattle.bus_spec.specs.declared.unlawful.Unlawful.{Unlawful}
 use Rattle.cmd_io.specs.declared.status.Status.{Status}
-use Rattle.cmd_io.specs.declared.status.Status.TheVariants.{Done, Usage, BadRow, Unlawful as IsUnlawful, Limit, LinkFault, DiskFault, Damaged, Differ, NoPart, NoValue}
+use Rattle.cmd_io.specs.declared.status.Status.TheVariants.{Done, Usage, BadRow, Unlawful as IsUnlawful, Limit, LinkFault, DiskFault, Damaged, NoLeader, Uncommitted, Differ, AnotherLog, NoPart, NoValue}
 
 -- lawful rows were taken from the front of the bytes, up to a world and the rest of the bytes, and these lines tell
 -- of them
@@ -83,6 +83,9 @@ IsOfSchedule (DiskFault id) = ⊥
 IsOfSchedule (Damaged id key) = ⊥
 IsOfSchedule (Differ index a b) = ⊥
 IsOfSchedule NoPart = ⊥
+IsOfSchedule NoLeader = ⊥
+IsOfSchedule (Uncommitted id) = ⊥
+IsOfSchedule (AnotherLog id node) = ⊥
 IsOfSchedule NoValue = ⊥
 IsOfSchedule _ = Unit {0}
 

@@ -38,8 +38,17 @@ pub enum Status {
     /// The store of this node is damaged, first at this key.
     Damaged(u8, u8),
 
+    /// A member is to be replaced, and no other one is the leader by what they stored.
+    NoLeader,
+
+    /// A member is to be replaced, and this one, the leader, has not committed all of its log.
+    Uncommitted(u8),
+
     /// At this index, the least such, the committed logs of these two nodes differ.
     Differ(u8, u8, u8),
+
+    /// This node has committed another entry than the one that the second node sent it.
+    AnotherLog(u8, u8),
 
     /// The text has no such part.
     NoPart,
@@ -65,9 +74,11 @@ impl Status {
             Status::LinkFault(_) => 9,
             Status::DiskFault(_) => 10,
             Status::Damaged(..) => 11,
+            Status::NoLeader | Status::Uncommitted(_) => 13,
             Status::Differ(..) => 14,
             Status::NoPart => 15,
             Status::NoValue => 16,
+            Status::AnotherLog(..) => 19,
         }
     }
 }

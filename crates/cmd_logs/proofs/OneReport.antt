@@ -3,7 +3,7 @@ use Rattle.std.proofs.Common.{◌≡◌, ◌∙◌, ◌<◌, ◌≤◌, ◌+◌,
 use Rattle.std.specs.declared.option.Option.{Option}
 use Rattle.outside.specs.Faults.{Rose}
 use Rattle.cmd_io.specs.declared.status.Status.{Status}
-use Rattle.cmd_io.specs.declared.status.Status.TheVariants.{Done, Usage, BadRow, Unlawful, ReadFault, WriteFault, Memory, Limit, LinkFault, DiskFault, Damaged, Differ, NoPart, NoValue}
+use Rattle.cmd_io.specs.declared.status.Status.TheVariants.{Done, Usage, BadRow, Unlawful, ReadFault, WriteFault, Memory, Limit, LinkFault, DiskFault, Damaged, NoLeader, Uncommitted, Differ, AnotherLog, NoPart, NoValue}
 use Rattle.can_logs.proofs.Splits.{one_cut}
 use Rattle.can_logs.specs.declared.form.Form.{Form}
 use Rattle.can_logs.specs.declared.form.Line.{Line}
@@ -32,6 +32,9 @@ module _ (form : Form) (limit : ℕ) where
   ends_there taken rest (Damaged id key) said more ends begins low = absurd ends
   ends_there taken rest (Differ index first second) said more ends begins low = absurd ends
   ends_there taken rest NoPart said more ends begins low = absurd ends
+  ends_there taken rest NoLeader said more ends begins low = absurd ends
+  ends_there taken rest (Uncommitted id) said more ends begins low = absurd ends
+  ends_there taken rest (AnotherLog id node) said more ends begins low = absurd ends
   ends_there taken rest NoValue said more ends begins low = absurd ends
 
   -- the lines end there in one way
@@ -55,6 +58,9 @@ module _ (form : Form) (limit : ℕ) where
   one_end taken rest status (Damaged id key) p q = absurd q
   one_end taken rest status (Differ index first second) p q = absurd q
   one_end taken rest status NoPart p q = absurd q
+  one_end taken rest status NoLeader p q = absurd q
+  one_end taken rest status (Uncommitted id) p q = absurd q
+  one_end taken rest status (AnotherLog id node) p q = absurd q
   one_end taken rest status NoValue p q = absurd q
   one_end taken rest Usage other p q = absurd p
   one_end taken rest (Unlawful row cause) other p q = absurd p
@@ -66,6 +72,9 @@ module _ (form : Form) (limit : ℕ) where
   one_end taken rest (Damaged id key) other p q = absurd p
   one_end taken rest (Differ index first second) other p q = absurd p
   one_end taken rest NoPart other p q = absurd p
+  one_end taken rest NoLeader other p q = absurd p
+  one_end taken rest (Uncommitted id) other p q = absurd p
+  one_end taken rest (AnotherLog id node) other p q = absurd p
   one_end taken rest NoValue other p q = absurd p
 
   -- the text of a line, without its bells
@@ -178,6 +187,9 @@ module _ (one : SaysOne) (listing : List Line → List ℕ) (end : ℕ → List 
   come (Damaged id key) bytes report ending left sink sink_now ends is read write = absurd ends
   come (Differ index first second) bytes report ending left sink sink_now ends is read write = absurd ends
   come NoPart bytes report ending left sink sink_now ends is read write = absurd ends
+  come NoLeader bytes report ending left sink sink_now ends is read write = absurd ends
+  come (Uncommitted id) bytes report ending left sink sink_now ends is read write = absurd ends
+  come (AnotherLog id node) bytes report ending left sink sink_now ends is read write = absurd ends
   come NoValue bytes report ending left sink sink_now ends is read write = absurd ends
 
   -- lines that all read, as many as may come, have a report that ends with `Done`
