@@ -62,8 +62,7 @@ impl<D: Disk> Member<D> {
         Seen::Took
     }
 
-    /// The call is the phase of a whole transfer of this type. It answers `Ok(Bad)` where the payload is no value of
-    /// it.
+    /// Takes a vote request, a whole transfer: `Ok(Bad)` where the payload is no value of it.
     pub fn take_vote_request(&mut self, transfer: &Transfer) -> Result<Seen, Fault>
         requires ready { IsReadyFor 1 0 self.old }
         requires id { transfer.now.id < 32 }
@@ -102,8 +101,7 @@ impl<D: Disk> Member<D> {
         Ok(())
     }
 
-    /// The call is the phase of a whole transfer of this type. It answers `Ok(Bad)` where the payload is no value of
-    /// it.
+    /// Takes an append request, a whole transfer: `Ok(Bad)` where the payload is no value of it.
     pub fn take_append_request(&mut self, transfer: &Transfer) -> Result<Seen, Fault>
         requires ready { IsReadyFor 1 0 self.old }
         requires id { transfer.now.id < 32 }
@@ -142,8 +140,7 @@ impl<D: Disk> Member<D> {
         Ok(())
     }
 
-    /// The call is the phase of a whole transfer of this type. It answers `Ok(Bad)` where the payload is no value of
-    /// it.
+    /// Takes the answer to a vote request, a whole transfer: `Ok(Bad)` where the payload is no value of it.
     pub fn take_vote_answer(&mut self, transfer: &Transfer) -> Result<Seen, Fault>
         requires { IsReady self.old }
         ensures sees { (step : ℕ) → SeesUpTo self.old self.new
@@ -177,8 +174,7 @@ impl<D: Disk> Member<D> {
         Ok(())
     }
 
-    /// The call is the phase of a whole transfer of this type. It answers `Ok(Bad)` where the payload is no value of
-    /// it.
+    /// Takes the answer to an append request, a whole transfer: `Ok(Bad)` where the payload is no value of it.
     pub fn take_append_answer(&mut self, transfer: &Transfer) -> Result<Seen, Fault>
         requires { IsReady self.old }
         ensures sees { (step : ℕ) → SeesUpTo self.old self.new
