@@ -4,7 +4,7 @@ use Rattle.std.specs.Io.KnownBytes.{Appends}
 use Rattle.outside.specs.Faults.{Rose}
 use Rattle.cmd_io.specs.Output.{WritesFront}
 use Rattle.cmd_io.specs.declared.status.Status.{Status}
-use Rattle.cmd_io.specs.declared.status.Status.TheVariants.{Done, Usage, BadRow, Unlawful, ReadFault, WriteFault, Memory, Limit, LinkFault, DiskFault, Damaged, Differ, NoPart, NoValue}
+use Rattle.cmd_io.specs.declared.status.Status.TheVariants.{Done, Usage, BadRow, Unlawful, ReadFault, WriteFault, Memory, Limit, LinkFault, DiskFault, Damaged, NoLeader, Uncommitted, Differ, AnotherLog, NoPart, NoValue}
 use Rattle.replay_text.specs.Lines.{after_line}
 use Rattle.dsdl_text.specs.Text.{Text}
 use Rattle.cmd_decode.specs.Lines.{Comes}
@@ -66,7 +66,10 @@ Ends Memory name part payload bytes left before now = ⊥
 Ends (LinkFault id) name part payload bytes left before now = ⊥
 Ends (DiskFault id) name part payload bytes left before now = ⊥
 Ends (Damaged id key) name part payload bytes left before now = ⊥
+Ends NoLeader name part payload bytes left before now = ⊥
+Ends (Uncommitted id) name part payload bytes left before now = ⊥
 Ends (Differ first second index) name part payload bytes left before now = ⊥
+Ends (AnotherLog first second) name part payload bytes left before now = ⊥
 
 -- the status of a run that decodes
 abbrev pub IsOfDecode : Status → Type 0
@@ -76,7 +79,10 @@ IsOfDecode Memory = ⊥
 IsOfDecode (LinkFault id) = ⊥
 IsOfDecode (DiskFault id) = ⊥
 IsOfDecode (Damaged id key) = ⊥
+IsOfDecode NoLeader = ⊥
+IsOfDecode (Uncommitted id) = ⊥
 IsOfDecode (Differ first second index) = ⊥
+IsOfDecode (AnotherLog first second) = ⊥
 IsOfDecode _ = ⊤
 
 -- a run that decodes the payload under that part of a text. The numbers are the faults that the source and the sink
