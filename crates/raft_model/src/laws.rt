@@ -27,7 +27,7 @@ ghost use Rattle.raft_model.specs.Fit.{IsFit};
 ghost use Rattle.raft_model.specs.Duty.{BlankDuty, CommitDuty, TellDuty, TickDuty, WinDuty};
 ghost use Rattle.raft_model.specs.Duty.{blank_moves, commit_phase, is_heard, tell_phase, tick_phase};
 ghost use Rattle.raft_model.specs.Stops.{AllEnabled, LocalState, state_after_moves};
-ghost use Rattle.raft_model.specs.OneLog.{HasOneLog};
+ghost use Rattle.raft_model.specs.OneLog.{HasOneLog, HasOnePast};
 ghost use Rattle.raft_model.specs.Runs.{Event, FromEachMoment, InEveryRun, Lawful, MayOccur, World, after};
 ghost use Rattle.raft_model.specs.Runs.{initial_world, run, local_state_after};
 ghost use Rattle.raft_model.specs.Runs.Event.{Steps, Stops, StopsWithin};
@@ -88,9 +88,11 @@ pub fn law_commit()
 {}
 
 /// What a member has committed is contradicted by no append request whose term is not below its own: one that has an
-/// entry for such a place has the entry that stands there. Whoever is sent another one is sent it from another log.
+/// entry for such a place has the entry that stands there, and of a committed place before its entry it names the
+/// term that stands there. Whoever is sent another one is sent it from another log.
 pub fn law_one_log()
-    ensures { InEveryRun HasOneLog }
+    ensures log { InEveryRun HasOneLog }
+    ensures past { InEveryRun HasOnePast }
 {
     law_stored();
     law_matching();
