@@ -1,3 +1,4 @@
+pub mod AnotherLog
 pub mod Outside
 pub mod Unchanged
 pub mod Unlisted

@@ -1,1 +1,2 @@
+pub mod AnotherLog
 pub mod Server

@@ -9,9 +9,11 @@
 //! changes nothing. What a step does in the Raft model of a cluster is said of the definition,
 //! in `alloc_spec_laws`.
 //!
+//! [`Server::another_log`] says whether an event brings a call that contradicts what the member has committed.
 //! [`Server::judge`] says whether a frame may be given to a server under test.
 #![tactic(auto)]
 
+mod another_log;
 mod judge;
 mod server;
 mod take;
