@@ -11,7 +11,7 @@ use Rattle.raft_log.specs.DurableViews.{durable_state}
 use Rattle.raft_log.specs.Rules.{StandsForState}
 use Rattle.raft_log.specs.Stored.{AfterSome}
 use Rattle.alloc_server.specs.Server.{LeavesSome, StandsFor, durable_of}
-use Rattle.cmd_node.specs.Cut.{PutsAt, StandsAt}
+use Rattle.cmd_node.specs.Cut.{CalledBy, PutsAt, StandsAt}
 use Rattle.cmd_node.specs.Ends.{fault_id}
 use Rattle.cmd_node.specs.CutRun.{HoldsStateInPart, IsCutAt}
 use Rattle.cmd_node.specs.Puts.{IsCutIn}
@@ -19,7 +19,7 @@ use Rattle.cmd_node.specs.Stands.{Stand, runner_disk}
 use Rattle.cmd_node.specs.Taking.{HasCause}
 use Rattle.cmd_node.specs.Turns.{Together, turning_at}
 use Rattle.cmd_node.specs.declared.fault.Fault.{Fault}
-use Rattle.cmd_node.specs.declared.fault.Fault.TheVariants.{Link, Disk, Damaged}
+use Rattle.cmd_node.specs.declared.fault.Fault.TheVariants.{Link, Disk, Damaged, AnotherLog}
 use Rattle.cmd_node.specs.declared.runner.Runner.{Runner}
 use Rattle.cmd_node.specs.declared.steps.LastSteps.{LastSteps}
 use Rattle.cmd_node.proofs.Parts.{cut_as}
@@ -71,13 +71,21 @@ module _ {D F : Type 0} {disk : Ghosts D} {L : Type 0} (runners : List (Runner D
   }
 
 pub at_node : (fault : Fault) (id : ℕ) → ((node : ℕ) → fault ≡ Link node → node ≡ id) → ((node : ℕ) → fault ≡ Disk node → node ≡ id) →
-    ((node key : ℕ) → fault ≡ Damaged node key → ⊥) → fault_id fault ≡ id
-at_node (Link node) id link disk none = link node refl
-at_node (Disk node) id link disk none = disk node refl
-at_node (Damaged node key) id link disk none = absurd (none node key refl)
+    ((node key : ℕ) → fault ≡ Damaged node key → ⊥) → ((node caller : ℕ) → fault ≡ AnotherLog node caller → node ≡ id) → fault_id fault ≡ id
+at_node (Link node) id link disk none called = link node refl
+at_node (Disk node) id link disk none called = disk node refl
+at_node (Damaged node key) id link disk none called = absurd (none node key refl)
+at_node (AnotherLog node caller) id link disk none called = called node caller refl
+
+pub called_by : (fault : Fault) (caller : Option ℕ) → ((node from : ℕ) → fault ≡ AnotherLog node from → caller ≡ Some from) → CalledBy fault caller
+called_by (Link node) caller called = tt
+called_by (Disk node) caller called = tt
+called_by (Damaged node key) caller called = tt
+called_by (AnotherLog node from) caller called = called node from refl
 
 -- the node of a disk that was refused
 pub of_refused : {D : Type 0} (disk : Ghosts D) (before after : D) (id : ℕ) (fault : Fault) → HasCause disk before after id fault → id ≡ fault_id fault
 of_refused disk before after id (Link node) why = absurd why
 of_refused disk before after id (Disk node) why = sym why.0
 of_refused disk before after id (Damaged node key) why = sym why.0
+of_refused disk before after id (AnotherLog node caller) why = absurd why

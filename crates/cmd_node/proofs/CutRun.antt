@@ -13,14 +13,15 @@ use Rattle.raft_log.specs.Rules.{AlwaysStandsForState, StandsForState}
 use Rattle.raft_log.specs.Stored.{Stored, after_puts, opening_puts}
 use Rattle.alloc_server.specs.Server.{durable_of, fault_of}
 use Rattle.alloc_spec.specs.Rules.{Rules}
-use Rattle.cmd_node.specs.Cut.{IsCut, IsCutOpening, IsCutTurning, PutsAt}
+use Rattle.cmd_node.specs.Another.{caller_at}
+use Rattle.cmd_node.specs.Cut.{CalledBy, IsCut, IsCutOpening, IsCutTurning, PutsAt}
 use Rattle.cmd_node.specs.CutRun.{AreCutTurns, HoldsAt, HoldsPartAt, HoldsStateInPart, IsCutAtOpening, KeepsOrOpens}
 use Rattle.cmd_node.specs.Ends.{fault_id}
 use Rattle.cmd_node.specs.Opening.{RunInput, together_at_opening}
 use Rattle.cmd_node.specs.Run.{AreStopped}
 use Rattle.cmd_node.specs.Stands.{AreOpened, runner_disk}
 use Rattle.cmd_node.specs.Taking.{HasCause}
-use Rattle.cmd_node.specs.Turns.{all_turns, first_turns, turning_at}
+use Rattle.cmd_node.specs.Turns.{Together, all_turns, first_turns, turning_at}
 use Rattle.cmd_node.specs.WholeRun.{HoldsState, Tell, TellsState, after_turns}
 use Rattle.cmd_node.specs.declared.fault.Fault.{Fault}
 use Rattle.cmd_node.specs.declared.runner.Runner.{Runner}
@@ -79,10 +80,12 @@ module _ {D F : Type 0} {disk : Ghosts D}
       others = λ i high. stopped.others i (omega (arith, high)) ∙ cut.behind i high;
     }
 
-    pub in_turns : (cut : IsCutTurning coming sent rules turns ids runners links_old links disks_old disks readings_old readings fault) (given : RunInput) →
+    pub in_turns : (Named : ℕ → Together → Type 0) →
+        ((place : ℕ) (before : Together) → slice_index ids place ≡ fault_id fault → CalledBy fault (caller_at place before) → Named place before) →
+        (cut : IsCutTurning coming sent rules turns ids runners links_old links disks_old disks readings_old readings fault) (given : RunInput) →
         Tell coming sent disk links_old disks_old readings_old given →
-        AreCutTurns coming sent links readings (length ids) (HoldsAt disk last) (HoldsPartAt disk last) (λ place. slice_index ids place ≡ fault_id fault) turns (together_at_opening rules ids given)
-    in_turns cut given tell =
+        AreCutTurns coming sent links readings (length ids) (HoldsAt disk last) (HoldsPartAt disk last) Named turns (together_at_opening rules ids given)
+    in_turns Named named cut given tell =
         let telling = cut.telling given tell in
         let turning = cut.cut given tell in
         let turn = turning.turn in
@@ -90,13 +93,15 @@ module _ {D F : Type 0} {disk : Ghosts D}
         let before = first_turns place (all_turns (length runners) turning.taken (together_at_opening rules ids given)) in
         let state = (before.running place).stored in
         let here = an_item runners place turn.within in
-        subst (λ n. AreCutTurns coming sent links readings n (HoldsAt disk last) (HoldsPartAt disk last) (λ k. slice_index ids k ≡ fault_id fault) turns (together_at_opening rules ids given)) cut.all (record {
+        subst (λ n. AreCutTurns coming sent links readings n (HoldsAt disk last) (HoldsPartAt disk last) Named turns (together_at_opening rules ids given)) cut.all (record {
           taken = turning.taken;
           fewer = turning.fewer;
+          uncalled = turning.uncalled;
           turn = record {
             place = place;
             within = turn.within;
-            named = sym (cut.ids_are place here turn.within) ∙ turn.named here;
+            named = named place before (sym (cut.ids_are place here turn.within) ∙ turn.named.0 here) turn.named.1;
+            uncalled = turn.uncalled;
             cut = record {
               readings_are = turn.cut.readings_are;
               coming_is = turn.cut.coming_is;
@@ -120,7 +125,7 @@ module _ {D F : Type 0} {disk : Ghosts D}
     cut_begins_so given tell each (inl opening) i link low =
         (given.sent i, ap (λ l. sent (slice_index_or l i link)) opening.untouched ∙ tell.sent_is i link (omega (arith, each, low)), all_begin (length ids) turns (together_at_opening rules ids given) i)
     cut_begins_so given tell each (inr turning) i link low =
-        let cut = in_turns turning given tell in
+        let cut = in_turns (λ place before. slice_index ids place ≡ fault_id fault) (λ place before here called. here) turning given tell in
         let turn = cut.turn in
         let before = first_turns turn.place (all_turns (length ids) cut.taken (together_at_opening rules ids given)) in
         ((before.running i).sent, turn.cut.sent_is i link low, cut_begins (length ids) cut.taken turns turn.place (together_at_opening rules ids given) i turn.within cut.fewer)

@@ -10,8 +10,10 @@ use Rattle.cmd_node.specs.Stands.{AreOpened, runner_disk}
 use Rattle.cmd_node.specs.Status.{IsWhole}
 use Rattle.cmd_node.specs.Taking.{EndsTurn, WasRefused}
 use Rattle.cmd_node.specs.declared.fault.Fault.{Fault}
-use Rattle.cmd_node.specs.declared.fault.Fault.TheVariants.{Link, Disk, Damaged}
+use Rattle.cmd_node.specs.declared.fault.Fault.TheVariants.{Link, Disk, Damaged, AnotherLog}
 use Rattle.cmd_node.specs.declared.runner.Runner.{Runner}
+use Rattle.raft_model.specs.Lists.{In}
+use Rattle.cmd_node.proofs.Lists.{in_at}
 use Rattle.cmd_node.proofs.Together.{rose_before}
 
 pub some_value : {A : Type 0} (o : Option A) → IsSome o → (x : A) × (o ≡ Some x)
@@ -61,6 +63,10 @@ module _ {D F : Type 0} {disk : Ghosts D} {L : Type 0} (faults : L → ℕ) (ids
         },
         why.within,
       )
+  refused_ends (AnotherLog id node) opened was why =
+      let old = some_value (slice_index_or disks_old (length runners) None) was in
+      let new = some_value (slice_index_or disks_new (length runners) None) why.there in
+      absurd (why.refused.cause old.0 new.0 old.1 new.1)
 
   -- from the allocators as they were opened, to what a turn made of them
   pub turn_ends : (opened : List (Runner D F disk)) (fault : Fault) → AreOpened opened disks_old ids → length opened ≡ length ids → length runners ≡ length opened →
@@ -89,6 +95,10 @@ module _ {D F : Type 0} {disk : Ghosts D} {L : Type 0} (faults : L → ℕ) (ids
             ((are place some within).later before is) (rose some some));
       }
   turn_ends opened (Damaged id key) are all count why = absurd why
+  turn_ends opened (AnotherLog id node) are all count (place, within, own) =
+      let some = an_item opened place within in
+      let named = sym (are place some within).id_is ∙ own some in
+      (subst (λ n. In n ids) named (in_at ids place (omega (arith, all, within))), count ∙ all)
 
 pub if_err : {T E : Type 0} {A B : E → Type 0} (result : Result T E) → ((error : E) → A error → B error) → IfErr result A → IfErr result B
 if_err (Ok value) goes holds = tt

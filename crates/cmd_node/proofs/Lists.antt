@@ -1,7 +1,7 @@
 -- Facts of each place of a list, where one place changes or one is added.
-use Rattle.std.proofs.Common.{◌≡◌, ℕ, zero, suc, ◌<◌, List, [], ◌∷◌, ◌++◌, length, inl, inr, refl, arith}
+use Rattle.std.proofs.Common.{◌≡◌, ℕ, zero, suc, ◌<◌, List, [], ◌∷◌, ◌++◌, length, inl, inr, refl, sym, ap, ◌∙◌, arith}
 use Rattle.raft_model.specs.Lists.{In}
-use Rattle.std.specs.Prelude.{Result, Ok, Err, OnErr, OnOk, slice_index_or, slice_set}
+use Rattle.std.specs.Prelude.{IsErrAnd, Result, Ok, Err, OnErr, OnOk, slice_index_or, slice_set}
 
 pub all_pushed : {A : Type 0} (P : ℕ → A → Type 0) (xs : List A) (x : A) → ((i : ℕ) (d : A) → i < length xs → P i (slice_index_or xs i d)) → P (length xs) x →
     (i : ℕ) (d : A) → i < length (xs ++ x ∷ []) → P i (slice_index_or (xs ++ x ∷ []) i d)
@@ -34,6 +34,11 @@ module _ {T E : Type 0} where
   pub on_err : {A B : Type 0} (result : Result T E) → (A → B) → OnErr result A → OnErr result B
   on_err (Ok value) goes holds = tt
   on_err (Err error) goes holds = goes holds
+
+-- an error that is handed on is the same error
+pub same_error : {T E : Type 0} (a b : Result T E) (x y : E) → a ≡ Err x → IsErrAnd b (λ z. z ≡ x) → b ≡ Err y → a ≡ Err y
+same_error a (Ok value) x y is gives e = absurd gives
+same_error a (Err z) x y is gives e = is ∙ ap Err (sym gives) ∙ e
 
 -- ---- numbers of a list
 

@@ -14,7 +14,7 @@ use Rattle.cmd_node.specs.Run.{AreStopped}
 use Rattle.cmd_node.specs.Stands.{AreOpened, runner_disk}
 use Rattle.cmd_node.specs.Taking.{HasCause, KeepsNodes, WasRefused}
 use Rattle.cmd_node.specs.declared.fault.Fault.{Fault}
-use Rattle.cmd_node.specs.declared.fault.Fault.TheVariants.{Link, Disk, Damaged}
+use Rattle.cmd_node.specs.declared.fault.Fault.TheVariants.{Link, Disk, Damaged, AnotherLog}
 use Rattle.cmd_node.specs.declared.runner.Runner.{Runner}
 use Rattle.cmd_node.proofs.Ending.{an_item}
 use Rattle.cmd_node.proofs.Together.{one_item, set_elsewhere, set_here}
@@ -84,6 +84,7 @@ module _ {D L : Type 0} (disk : Ghosts D) (faults : L → ℕ)
   refused_quiet place (Link node) before after why other = absurd why
   refused_quiet place (Disk node) before after why other = absurd (other (ap (λ n. Err (Disk n)) why.0))
   refused_quiet place (Damaged node key) before after why other = quiet open_calls before after why.3
+  refused_quiet place (AnotherLog node caller) before after why other = absurd why
 
   module _ {F : Type 0} (runners : List (Runner D F disk)) (opened : AreOpened runners disks_old ids) where
     opened_quiet : (i : ℕ) (before : D) (runner : Runner D F disk) → i < length runners → slice_index_or disks_old i None ≡ Some before →

@@ -10,7 +10,7 @@ use Rattle.cmd_node.specs.Ends.{end_status}
 use Rattle.cmd_node.specs.Run.{AreStopped, EndsRun, HasRun}
 use Rattle.cmd_node.specs.Status.{DisksTell, IsDamagedDisk, IsFaultless, IsWhole, NoneRose, OfDisk, OfLink}
 use Rattle.cmd_node.specs.declared.fault.Fault.{Fault}
-use Rattle.cmd_node.specs.declared.fault.Fault.TheVariants.{Link, Disk, Damaged}
+use Rattle.cmd_node.specs.declared.fault.Fault.TheVariants.{Link, Disk, Damaged, AnotherLog}
 use Rattle.cmd_node.specs.declared.runner.Runner.{Runner}
 use Rattle.cmd_node.proofs.Ending.{some_value}
 
@@ -49,6 +49,7 @@ module _ {D F L : Type 0} {disk : Ghosts D} (faults : L → ℕ) (ids : List ℕ
   faultless (Err (Link id)) failed no_link = absurd (no_link id failed.0)
   faultless (Err (Disk id)) failed no_link = absurd (no_disk id (failed last stopped))
   faultless (Err (Damaged id key)) failed no_link = tt
+  faultless (Err (AnotherLog id node)) failed no_link = tt
 
   module _ (there : (i : ℕ) → i < length ids → IsSome (slice_index_or disks_old i None))
       (one : (image : List ℕ) (a b : ℕ) → IsDamagedAt image a → IsDamagedAt image b → a ≡ b)
@@ -64,6 +65,7 @@ module _ {D F L : Type 0} {disk : Ghosts D} (faults : L → ℕ) (ids : List ℕ
     ends_damaged (Ok done) run all = absurd (all_opened all run.whole)
     ends_damaged (Err (Link node)) run all = absurd (all_opened run.failed.1 run.whole)
     ends_damaged (Err (Disk node)) run all = absurd (no_disk node (run.failed last stopped))
+    ends_damaged (Err (AnotherLog node caller)) run all = absurd (all_opened run.failed.1 run.whole)
     ends_damaged (Err (Damaged node first)) run all =
         let same = one_damaged disk ids disks_old there one either id key node first is tell run.failed.0 in
         ap (λ k. DamagedStore node k) same.1 ∙ ap (λ n. DamagedStore n key) same.0

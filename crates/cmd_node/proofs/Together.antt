@@ -12,7 +12,7 @@ use Rattle.cmd_node.specs.Stands.{AreRunning, IsRunning, runner_disk}
 use Rattle.cmd_node.specs.Taking.{EndsTurn, KeepsLinks, KeepsNode, KeepsNodes}
 use Rattle.cmd_node.specs.Turn.{Running}
 use Rattle.cmd_node.specs.declared.fault.Fault.{Fault}
-use Rattle.cmd_node.specs.declared.fault.Fault.TheVariants.{Link, Disk, Damaged}
+use Rattle.cmd_node.specs.declared.fault.Fault.TheVariants.{Link, Disk, Damaged, AnotherLog}
 use Rattle.cmd_node.specs.declared.runner.Runner.{Runner}
 
 pub rose_before : (a b c : ℕ) → a ≤ b → Rose b c → Rose a c
@@ -86,6 +86,10 @@ ends_later {disk = disk} faults a b c k l m (Disk id) nodes links each (place, w
           (disk.faults (runner_disk (slice_index_or c place after))) (nodes.each place before before first).later (rose before after),
     )
 ends_later faults a b c k l m (Damaged id key) nodes links each why = why
+ends_later faults a b c k l m (AnotherLog id node) nodes links each (place, within, own) =
+    let count = nodes.count in
+    let first : place < length a = omega (arith, count, within) in
+    (place, first, λ runner. sym (nodes.each place runner runner first).id ∙ own runner)
 
 -- a value after a set at a place, here and elsewhere
 pub set_here : {A : Type 0} (xs : List A) (k i : ℕ) (x d : A) → i ≡ k → k < length xs → x ≡ slice_index_or (slice_set xs k x) i d
@@ -140,16 +144,16 @@ module _ {D F : Type 0} {disk : Ghosts D} {L : Type 0} (runners : List (Runner D
     pub ends_turn : (fault : Fault) (id : ℕ) → ((before : Runner D F disk) → (slice_index_or old place before).id ≡ id) → place < length old →
         ((node : ℕ) → fault ≡ Link node → (node ≡ id) × ((before : L) → Rose (faults (slice_index_or links_old place before)) (faults link))) →
         ((node : ℕ) → fault ≡ Disk node → (node ≡ id) × ((before : Runner D F disk) → Rose (disk.faults (runner_disk (slice_index_or old place before))) (disk.faults (runner_disk runner)))) →
-        ((node key : ℕ) → fault ≡ Damaged node key → ⊥) →
+        ((node key : ℕ) → fault ≡ Damaged node key → ⊥) → ((node caller : ℕ) → fault ≡ AnotherLog node caller → node ≡ id) →
         EndsTurn faults old (slice_set runners place runner) links_old (slice_set links place link) fault
-    ends_turn (Link node) id own within by_link by_disk none =
+    ends_turn (Link node) id own within by_link by_disk none called =
         let why = by_link node refl in (
           place,
           within,
           λ before. own before ∙ sym why.0,
           λ before after. subst (λ l. Rose (faults (slice_index_or links_old place before)) (faults l)) (set_here links place place link after refl there) (why.1 before),
         )
-    ends_turn (Disk node) id own within by_link by_disk none =
+    ends_turn (Disk node) id own within by_link by_disk none called =
         let why = by_disk node refl in (
           place,
           within,
@@ -157,4 +161,5 @@ module _ {D F : Type 0} {disk : Ghosts D} {L : Type 0} (runners : List (Runner D
           λ before after. subst (λ r. Rose (disk.faults (runner_disk (slice_index_or old place before))) (disk.faults (runner_disk r)))
               (set_here runners place place runner after refl here) (why.1 before),
         )
-    ends_turn (Damaged node key) id own within by_link by_disk none = none node key refl
+    ends_turn (Damaged node key) id own within by_link by_disk none called = none node key refl
+    ends_turn (AnotherLog node caller) id own within by_link by_disk none called = (place, within, λ before. own before ∙ sym (called node caller refl))

@@ -1,5 +1,5 @@
 -- The allocators of a run that did not come to its end.
-use Rattle.std.specs.Prelude.{◌≡◌, ℕ, suc, ◌<◌, ◌⊎◌, List, length, Option, Some, None, true}
+use Rattle.std.specs.Prelude.{⊤, ◌≡◌, ℕ, suc, ◌<◌, ◌⊎◌, List, length, Option, Some, None, true}
 use Rattle.std.specs.Prelude.{slice_index, slice_index_or}
 use Rattle.disk_model.specs.declared.disk.Disk.{Ghosts}
 use Rattle.outside.specs.declared.received.RawFrame.{RawFrame}
@@ -9,6 +9,7 @@ use Rattle.raft_log.specs.DurableViews.{durable_state}
 use Rattle.raft_log.specs.Stored.{Stored}
 use Rattle.alloc_server.specs.Server.{StandsFor, durable_of}
 use Rattle.alloc_spec.specs.Rules.{Rules}
+use Rattle.cmd_node.specs.Another.{caller_at}
 use Rattle.cmd_node.specs.CutRun.{AreCutTurns, HoldsStateInPart, IsCutRound}
 use Rattle.cmd_node.specs.Ends.{fault_id}
 use Rattle.cmd_node.specs.Opening.{RunInput, together_at_opening, readings_after}
@@ -19,7 +20,15 @@ use Rattle.cmd_node.specs.Turn.{Running}
 use Rattle.cmd_node.specs.Turns.{Together}
 use Rattle.cmd_node.specs.WholeRun.{Tell}
 use Rattle.cmd_node.specs.declared.fault.Fault.{Fault}
+use Rattle.cmd_node.specs.declared.fault.Fault.TheVariants.{Link, Disk, Damaged, AnotherLog}
 use Rattle.cmd_node.specs.declared.runner.Runner.{Runner}
+
+-- what came in a turn that ended so
+abbrev pub CalledBy : Fault → Option ℕ → Type 0
+CalledBy (Link id) caller = ⊤
+CalledBy (Disk id) caller = ⊤
+CalledBy (Damaged id key) caller = ⊤
+CalledBy (AnotherLog id node) caller = caller ≡ Some node
 
 module _ {D F : Type 0} {disk : Ghosts D} (runners : List (Runner D F disk)) where
   -- the allocator at a place stands for one in time, and has stored what that one has; or, if its disk tells what it
@@ -32,17 +41,21 @@ module _ {D F : Type 0} {disk : Ghosts D} (runners : List (Runner D F disk)) whe
   PutsAt i state puts = (runner : Runner D F disk) → let after = runner_disk (slice_index_or runners i runner) in
       disk.tells after ≡ true → HoldsStateInPart disk after state puts
 
+  -- the turn of the one at a place, as all stood then, ended so
+  abbrev pub EndsAt : Fault → ℕ → Together → Type 0
+  EndsAt fault place before = IsOf runners place (fault_id fault) × CalledBy fault (caller_at place before)
+
 module _ {D F : Type 0} {disk : Ghosts D} {L : Type 0} (coming : L → Option (List Received))
     (sent : L → Option (List RawFrame)) (runners : List (Runner D F disk)) (links : List L)
     (readings : Option (List ℕ)) where
   -- a run of these allocators was cut off in a turn, and in one after all of them had taken some turns
   abbrev pub IsCutTurn : Together → Fault → Type 0
   IsCutTurn all fault = IsCutRound coming sent links readings (length runners) (StandsAt runners) (PutsAt runners)
-      (λ place. IsOf runners place (fault_id fault)) all
+      (EndsAt runners fault) all
 
   abbrev pub AreCutAfterTurns : ℕ → Together → Fault → Type 0
   AreCutAfterTurns turns all fault = AreCutTurns coming sent links readings (length runners) (StandsAt runners)
-      (PutsAt runners) (λ place. IsOf runners place (fault_id fault)) turns all
+      (PutsAt runners) (EndsAt runners fault) turns all
 
 module _ {D F : Type 0} {disk : Ghosts D} {L : Type 0} (coming : L → Option (List Received))
     (sent : L → Option (List RawFrame)) (rules : Rules) (turns : ℕ) (ids : List ℕ) (runners : List (Runner D F disk))

@@ -1,5 +1,5 @@
 -- What is left where a run did not come to its end: at the opening of a node, or in one of its turns, a call of its
--- link or its disk failed, or its store is damaged.
+-- link or its disk failed, its store is damaged, or a call of another log came.
 use Rattle.std.specs.Prelude.{◌≡◌, ℕ, suc, ◌<◌, ◌⊎◌, List, length, Option, Some, None, true}
 use Rattle.std.specs.Prelude.{slice_index, slice_index_or}
 use Rattle.disk_model.specs.declared.disk.Disk.{Ghosts}
@@ -11,7 +11,8 @@ use Rattle.raft_core.specs.StoredPuts.{PutWithOrigin, stored_puts}
 use Rattle.raft_log.specs.Rules.{StandsForState}
 use Rattle.raft_log.specs.Stored.{AfterSome, Stored, after_puts, opening_puts}
 use Rattle.cmd_io.specs.declared.status.Status.{Status}
-use Rattle.cmd_io.specs.declared.status.Status.TheVariants.{Damaged, DiskFault, LinkFault}
+use Rattle.cmd_io.specs.declared.status.Status.TheVariants.{AnotherLog, Damaged, DiskFault, LinkFault}
+use Rattle.cmd_node.specs.Another.{NoneCalls, NoneCallsFor}
 use Rattle.cmd_node.specs.Opening.{readings_after}
 use Rattle.cmd_node.specs.Puts.{IsCutIn}
 use Rattle.cmd_node.specs.Turn.{Running}
@@ -21,7 +22,8 @@ use Rattle.cmd_node.specs.WholeRun.{HoldsState, TellsState}
 -- the status of a run that ended at this node
 abbrev pub RunEndsAtNode : ℕ → Status → Type 0
 RunEndsAtNode id status =
-    (status ≡ LinkFault id) ⊎ ((status ≡ DiskFault id) ⊎ ((key : ℕ) × (status ≡ Damaged id key)))
+    (status ≡ LinkFault id) ⊎ ((status ≡ DiskFault id) ⊎ (((key : ℕ) × (status ≡ Damaged id key))
+    ⊎ ((node : ℕ) × (status ≡ AnotherLog id node))))
 
 -- ---- at an opening
 
@@ -83,17 +85,19 @@ module _ {L : Type 0} (coming : L → Option (List Received)) (sent : L → Opti
     pub own_is : (link : L) → IsCutIn (next_reading before.readings) (turning_at place before)
         (coming (slice_index_or links place link)) (StoresPart place (before.running place).stored)
 
-  -- in the turn of one of which this holds: those before its place had taken theirs
-  pub record IsCutRound (Named : ℕ → Type 0) (all : Together) : Type 0 where
+  -- in the turn of one of which this holds, as all stood then: those before its place had taken theirs
+  pub record IsCutRound (Named : ℕ → Together → Type 0) (all : Together) : Type 0 where
     pub place : ℕ
     pub within : place < count
-    pub named : Named place
+    pub named : Named place (first_turns place all)
+    pub uncalled : NoneCalls place all
     pub cut : IsCutAt (first_turns place all) place
 
   -- after all had taken some turns
-  pub record AreCutTurns (Named : ℕ → Type 0) (turns : ℕ) (first : Together) : Type 0 where
+  pub record AreCutTurns (Named : ℕ → Together → Type 0) (turns : ℕ) (first : Together) : Type 0 where
     pub taken : ℕ
     pub fewer : taken < turns
+    pub uncalled : NoneCallsFor count taken first
     pub turn : IsCutRound Named (all_turns count taken first)
 
 -- of the disk at a place

@@ -1,3 +1,4 @@
+pub mod Another
 pub mod Cut
 pub mod CutRun
 pub mod Ends

@@ -9,14 +9,24 @@ use Rattle.outside.specs.declared.received.RawFrame.{RawFrame}
 use Rattle.outside.specs.declared.received.Received.{Received}
 use Rattle.cmd_io.specs.Output.{WritesFront}
 use Rattle.cmd_io.specs.declared.status.Status.{Status}
-use Rattle.cmd_io.specs.declared.status.Status.TheVariants.{Damaged, DiskFault, Done, LinkFault, Memory, WriteFault}
+use Rattle.cmd_io.specs.declared.status.Status.TheVariants.{AnotherLog, Damaged, DiskFault, Done, LinkFault, Memory, WriteFault}
 use Rattle.alloc_spec.specs.Rules.{Rules}
+use Rattle.raft_model.specs.Lists.{In}
+use Rattle.cmd_node.specs.Another.{NoneCallsFor, caller_at}
 use Rattle.cmd_node.specs.CutRun.{AreCutTurns, HoldsAt, HoldsPartAt, IsCutAtOpening, KeepsImages, KeepsOrOpens}
 use Rattle.cmd_node.specs.Opening.{RunInput, together_at_opening}
 use Rattle.cmd_node.specs.Report.{line_of, report}
 use Rattle.cmd_node.specs.Status.{AreWhole, DisksTell, HasRisen, IsDamagedDisk, IsFaultless, NoneRose, OfDisk, OfLink}
 use Rattle.cmd_node.specs.Status.{OthersStay}
+use Rattle.cmd_node.specs.Turns.{Together}
 use Rattle.cmd_node.specs.WholeRun.{LeavesAll, Tell, after_turns}
+
+-- the turn of the node with this ID, as all stood then; and one in which a call of another log came from that one
+abbrev pub IsTurnOf : List ℕ → ℕ → ℕ → Together → Type 0
+IsTurnOf ids id place before = slice_index ids place ≡ id
+
+abbrev pub IsCalledIn : List ℕ → ℕ → ℕ → ℕ → Together → Type 0
+IsCalledIn ids id node place before = IsTurnOf ids id place before × (caller_at place before ≡ Some node)
 
 -- The members with these IDs, opened by these rules, take so many turns on these links and disks and this clock.
 module _ {L D : Type 0} (coming : L → Option (List Received)) (sent : L → Option (List RawFrame))
@@ -33,18 +43,23 @@ module _ {L D : Type 0} (coming : L → Option (List Received)) (sent : L → Op
   abbrev pub Tells : RunInput → Type 0
   Tells given = Tell coming sent disk links_old disks_old readings_old given
 
-  -- all were opened, and so no disk was damaged; all took their turns
+  -- all were opened, and so no disk was damaged; all took their turns, in which no call of another log came
   pub record IsDone : Type 0 where
     pub whole : AreWhole disk ids disks_old
     pub left : (given : RunInput) → Tells given →
         LeavesAll coming sent disk links disks readings (length ids) (after_turns rules turns ids given)
+    pub uncalled : (given : RunInput) → Tells given →
+        NoneCallsFor (length ids) turns (together_at_opening rules ids given)
 
-  -- all were opened, and the run ended in a turn of the node with this ID
-  pub record IsCutInTurn (id : ℕ) : Type 0 where
+  -- all were opened, and the run ended in a turn of which this holds
+  pub record IsCutWhere (Named : ℕ → Together → Type 0) : Type 0 where
     pub whole : AreWhole disk ids disks_old
     pub left : (given : RunInput) → Tells given → AreCutTurns coming sent links readings (length ids)
-        (HoldsAt disk disks) (HoldsPartAt disk disks) (λ place. slice_index ids place ≡ id) turns
-        (together_at_opening rules ids given)
+        (HoldsAt disk disks) (HoldsPartAt disk disks) Named turns (together_at_opening rules ids given)
+
+  -- in a turn of the node with this ID
+  abbrev pub IsCutInTurn : ℕ → Type 0
+  IsCutInTurn id = IsCutWhere (IsTurnOf ids id)
 
   -- why a run ends with this status, and what it leaves on links, disks and clock
   abbrev pub IsEnd : Status → Type 0
@@ -55,6 +70,7 @@ module _ {L D : Type 0} (coming : L → Option (List Received)) (sent : L → Op
       ⊎ IsCutInTurn id)
   IsEnd (Damaged id key) = IsDamagedDisk disk ids disks_old id key ×
       IsCutAtOpening disk ids links_old links disks_old disks readings_old readings (KeepsImages disk) id
+  IsEnd (AnotherLog id node) = In id ids × IsCutWhere (IsCalledIn ids id node)
   IsEnd _ = ⊥
 
   -- the text that such a run writes, of which this holds: the report, or one line

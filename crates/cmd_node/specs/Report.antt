@@ -1,7 +1,7 @@
 -- What a run writes.
 use Rattle.std.specs.Prelude.{ℕ, ◌-◌, List, [], ◌++◌, length, drop, flat_map, codes, decimal}
 use Rattle.cmd_io.specs.declared.status.Status.{Status}
-use Rattle.cmd_io.specs.declared.status.Status.TheVariants.{LinkFault, DiskFault, Damaged}
+use Rattle.cmd_io.specs.declared.status.Status.TheVariants.{LinkFault, DiskFault, Damaged, AnotherLog}
 use Rattle.replay_text.specs.Report.{end_line}
 
 -- a run reports so many steps at most, the last ones
@@ -24,4 +24,5 @@ abbrev pub line_of : Status → List ℕ
 line_of (LinkFault id) = codes "link fault " ++ decimal id ++ codes "\n"
 line_of (DiskFault id) = codes "disk fault " ++ decimal id ++ codes "\n"
 line_of (Damaged id key) = codes "damaged " ++ decimal id ++ codes " " ++ decimal key ++ codes "\n"
+line_of (AnotherLog id node) = codes "another log " ++ decimal id ++ codes " " ++ decimal node ++ codes "\n"
 line_of _ = []

@@ -2,10 +2,11 @@
 use Rattle.std.specs.Prelude.{◌≡◌, ℕ, ◌<◌, ◌≤◌, List, length, Option, Some, None, Result}
 use Rattle.std.specs.Prelude.{IfErr, IsSome, slice_index_or, true, ⊤}
 use Rattle.disk_model.specs.declared.disk.Disk.{Ghosts}
+use Rattle.raft_model.specs.Lists.{In}
 use Rattle.cmd_node.specs.Stands.{runner_disk}
 use Rattle.cmd_node.specs.Status.{HasRisen, IsDamagedDisk, IsWhole, OfDisk, OfLink}
 use Rattle.cmd_node.specs.declared.fault.Fault.{Fault}
-use Rattle.cmd_node.specs.declared.fault.Fault.TheVariants.{Link, Disk, Damaged}
+use Rattle.cmd_node.specs.declared.fault.Fault.TheVariants.{Link, Disk, Damaged, AnotherLog}
 use Rattle.cmd_node.specs.declared.runner.Runner.{Runner}
 
 module _ {D F : Type 0} {disk : Ghosts D} where
@@ -21,8 +22,8 @@ module _ {D F : Type 0} {disk : Ghosts D} where
   AreTelling runners = (i : ℕ) (runner : Runner D F disk) → i < length runners
       → disk.tells (runner_disk (slice_index_or runners i runner)) ≡ true
 
-  -- why a run ended before its last turn: a link failed once all were opened; of the disks this is said when the
-  -- allocators are stopped
+  -- why a run ended before its last turn: a link failed, or a call of another log came, once all were opened; of the
+  -- disks this is said when the allocators are stopped
   abbrev pub EndsRun : {L : Type 0} → (L → ℕ) → List ℕ → List (Option D) → List (Option D) → List L →
       List L → List (Runner D F disk) → Fault → Type 0
   EndsRun faults ids disks_old disks_new links_old links_new runners (Link id) =
@@ -32,6 +33,8 @@ module _ {D F : Type 0} {disk : Ghosts D} where
       HasRisen (OfDisk disk.faults disks_old last) ids id
   EndsRun faults ids disks_old disks_new links_old links_new runners (Damaged id key) =
       IsDamagedDisk disk ids disks_old id key × (length runners < length ids)
+  EndsRun faults ids disks_old disks_new links_old links_new runners (AnotherLog id node) =
+      In id ids × (length runners ≡ length ids)
 
   -- some were opened, on the disks at their places, which stood for a state, and the other disks are there
   pub record HasRun {L : Type 0} (faults : L → ℕ) (ids : List ℕ)

@@ -6,12 +6,13 @@ use Rattle.outside.specs.Faults.{Rose}
 use Rattle.raft_log.specs.Rules.{IsDamagedAt, StandsForState}
 use Rattle.raft_log.specs.Stored.{Stored}
 use Rattle.cmd_io.specs.declared.status.Status.{Status}
-use Rattle.cmd_io.specs.declared.status.Status.TheVariants.{Done, Memory, Damaged}
+use Rattle.cmd_io.specs.declared.status.Status.TheVariants.{AnotherLog, Done, Memory, Damaged}
 
--- the status of a run in which nothing failed
+-- the status of a run in which no link, disk or sink failed
 abbrev pub IsFaultless : Status → Type 0
 IsFaultless Done = ⊤
 IsFaultless (Damaged id key) = ⊤
+IsFaultless (AnotherLog id node) = ⊤
 IsFaultless Memory = ⊤
 IsFaultless _ = ⊥
 

@@ -11,7 +11,7 @@ use Rattle.raft_log.specs.Rules.{IsDamagedAt}
 use Rattle.cmd_node.specs.Stands.{Works, closure_of, runner_disk}
 use Rattle.cmd_node.specs.Status.{OfLink}
 use Rattle.cmd_node.specs.declared.fault.Fault.{Fault}
-use Rattle.cmd_node.specs.declared.fault.Fault.TheVariants.{Link, Disk, Damaged}
+use Rattle.cmd_node.specs.declared.fault.Fault.TheVariants.{Link, Disk, Damaged, AnotherLog}
 use Rattle.cmd_node.specs.declared.runner.Runner.{Runner}
 
 -- why a disk was refused, which is there again, and what it holds then
@@ -23,6 +23,7 @@ HasCause disk before after id (Damaged node key) = (node ≡ id) ×
     (disk.tells before ≡ true → IsDamagedAt (disk.contents before).seen key) ×
     (disk.tells before ≡ true → AddsNoImage (disk.contents before) (disk.contents after)) ×
     Makes disk.does open_calls true before after
+HasCause disk before after id (AnotherLog node caller) = ⊥
 
 pub record IsRefused {D : Type 0} (disk : Ghosts D) (before after : Option D) (id : ℕ) (fault : Fault) : Type 0 where
   pub later : (old new : D) → before ≡ Some old → after ≡ Some new → disk.faults old ≤ disk.faults new
@@ -64,6 +65,8 @@ module _ {D F : Type 0} {disk : Ghosts D} where
   EndsTurn faults old new links_old links_new (Disk id) = (place : ℕ) × (place < length old)
       × IsOf old place id × OfRunner old new place Rose
   EndsTurn faults old new links_old links_new (Damaged id key) = ⊥
+  EndsTurn faults old new links_old links_new (AnotherLog id node) = (place : ℕ) × (place < length old)
+      × IsOf old place id
 
 -- no link counts fewer faults
 pub record KeepsLinks {L : Type 0} (faults : L → ℕ) (old new : List L) : Type 0 where

@@ -16,6 +16,9 @@ pub(crate) enum Fault {
 
     /// Its store is damaged, first at this key.
     Damaged(u8, u8),
+
+    /// It has committed another entry than the one that the second node sent it.
+    AnotherLog(u8, u8),
 }
 
 impl Fault {
@@ -27,6 +30,7 @@ impl Fault {
             Fault::Link(id) => Status::LinkFault(id),
             Fault::Disk(id) => Status::DiskFault(id),
             Fault::Damaged(id, key) => Status::Damaged(id, key),
+            Fault::AnotherLog(id, node) => Status::AnotherLog(id, node),
         }
     }
 
@@ -39,6 +43,9 @@ impl Fault {
             Fault::Link(id) => number_line(b"link fault ", u64::from(id)),
             Fault::Disk(id) => number_line(b"disk fault ", u64::from(id)),
             Fault::Damaged(id, key) => numbers_line(b"damaged ", u64::from(id), u64::from(key)),
+            Fault::AnotherLog(id, node) => {
+                numbers_line(b"another log ", u64::from(id), u64::from(node))
+            }
         }
     }
 }

@@ -9,8 +9,9 @@ ghost use Rattle.transfer_rx.specs.Acceptance.{first_signature};
 ghost use Rattle.alloc_spec.specs.ClusterMembers.{AreMembers};
 ghost use Rattle.bus_spec.specs.Receivers.{MemberReceives};
 ghost use Rattle.alloc_spec.specs.Rules.{rules_by};
+ghost use Rattle.cmd_node.specs.Another.{NoneCallsFor};
 ghost use Rattle.cmd_node.specs.Cut.{IsCut};
-ghost use Rattle.cmd_node.specs.Opening.{RunInput};
+ghost use Rattle.cmd_node.specs.Opening.{RunInput, together_at_opening};
 ghost use Rattle.cmd_node.specs.Ends.{end_status, fault_status};
 ghost use Rattle.cmd_node.specs.Nodes.{RunsNodes};
 ghost use Rattle.cmd_node.specs.Quiet.{RunQuietly};
@@ -41,9 +42,8 @@ use std::alloc::Global;
 /// sink, counted a fault; `Damaged` where the store of that node is damaged, first at that key, before
 /// any turn. Then one line is all that is written, what was sent is a beginning of what a run to its end
 /// sends, and each store that was opened holds what it then held. At most one link or disk counts a
-/// fault, and the status names it, unless the sink fails too. Where nothing fails it comes to `Done` or
-/// `Damaged`; where the disks tell what they hold, a damaged one ends the run so, and without one it comes to
-/// `Done`. All memory is taken before anything else, that for the last steps at the end: with `Memory` nothing
+/// fault, and the status names it, unless the sink fails too. Where nothing fails it comes to `Done`, `Damaged` or
+/// `AnotherLog`; where the disks tell what they hold, a damaged one ends the run so. All memory is taken before anything else, that for the last steps at the end: with `Memory` nothing
 /// was touched.
 ///
 /// The table has the fields of `RunsNodes`. What is left and written stands in `leaves`, by the answer; `written` is a
@@ -51,10 +51,11 @@ use std::alloc::Global;
 ///
 /// | answer | comes only where | what is left | what is written |
 /// |---|---|---|---|
-/// | `Done` | no disk was damaged | told: frames sent, items and readings left are exactly those of the abstract allocators, and whatever a stop leaves of each disk stands for what its allocator has stored, with the origin of each entry (`LeavesAll`) | told: exactly the report |
+/// | `Done` | no disk was damaged, and, told, no call of another log came | told: frames sent, items and readings left are exactly those of the abstract allocators, and whatever a stop leaves of each disk stands for what its allocator has stored, with the origin of each entry (`LeavesAll`) | told: exactly the report |
 /// | `LinkFault(id)` | the count of that link rose, and no disk was damaged | told: in which turn the run ended, what was sent, which items and readings are left, what is stored (`IsCutInTurn`) | one line |
 /// | `DiskFault(id)` | the count of that disk rose | told, where it was in a turn and no disk was damaged: as above (`IsCutInTurn`); at an opening: the links are as before, and readings and disks as `IsCutAtOpening` says | one line |
 /// | `Damaged(id, key)` | that disk, if it tells its bytes, is damaged first at that key, and those before it are not | the links are as before; readings and disks as `IsCutAtOpening` says | one line |
+/// | `AnotherLog(id, node)` | no disk was damaged; told: such a call came | told: in which turn of node id a call of the member `node` came that contradicts what id has committed, the first such call of the run (`IsCalledIn`); and as with `LinkFault` (`IsCutWhere`) | one line |
 /// | `WriteFault` | the count of the sink rose | as a run leaves it that ends with one of the others, but for `Memory` | a prefix of the one line of that run, or, told, of its report; of the one line also where nothing is told |
 /// | `Memory` | free: no clause ties it to a cause | all as it was | nothing |
 ///
@@ -76,7 +77,7 @@ use std::alloc::Global;
 /// Every disk is there again. But for `WriteFault`, no count of a link or a disk rises that the answer does not name,
 /// told or not (`quiet_links`, `quiet_disks`); with `WriteFault` none rises that the other answer does not name. Told,
 /// what each link was sent is a prefix of what it is sent in a run to its end (`begins`). Where no count rises, the
-/// answer is `Done`, `Damaged` or `Memory` (`finishes`); where the disks up to the first damaged one tell their bytes,
+/// answer is `Done`, `Damaged`, `AnotherLog` or `Memory` (`finishes`); where the disks up to the first damaged one tell their bytes,
 /// it is `Damaged` with that one, or `Memory` (`refuses`).
 pub fn node<K: Sink, L: Link, D: Disk, C: Clock>(
     alloc: Global,
@@ -168,6 +169,9 @@ fn run_all<F: Fn(Kind, u16) -> Option<u64> + Copy, L: Link, D: Disk, C: Clock>(
     ensures stands { OnOk result ((given : RunInput) → Tell L.coming L.sent D.Disk links.old disks.old
         (C.readings clock.old) given → Stand L.coming L.sent (runners_of runners.new) links.new
         (C.readings clock.new) steps.new (after_turns (rules_by size told.now) turns ids.now given)) }
+    ensures uncalled { OnOk result ((given : RunInput) → Tell L.coming L.sent D.Disk links.old disks.old
+        (C.readings clock.old) given →
+        NoneCallsFor (length ids.now) turns (together_at_opening (rules_by size told.now) ids.now given)) }
     ensures cut { IfErr result (IsCut L.coming L.sent (rules_by size told.now) turns ids.now (runners_of runners.new)
         links.old links.new disks.old disks.new (C.readings clock.old) (C.readings clock.new)) }
     ensures tells { OnOk result ((given : RunInput) → Tell L.coming L.sent D.Disk links.old disks.old

@@ -16,13 +16,16 @@ ghost use Rattle.raft_core.specs.StoredPuts.{store_of};
 ghost use Rattle.raft_log.specs.DurableViews.{durable_state};
 ghost use Rattle.raft_log.specs.Opening.{FailsToOpen, OpensTo};
 ghost use Rattle.raft_log.specs.Rules.{IsDamagedAt};
+ghost use Rattle.alloc_spec.specs.AllocatorState.{AllocatorState};
 ghost use Rattle.alloc_spec.specs.Rules.{opening_by, rules_by};
+ghost use Rattle.alloc_server.specs.AnotherLog.{another_log};
 ghost use Rattle.bus_spec.specs.Receivers.{MemberReceives};
+ghost use Rattle.cmd_node.specs.Another.{caller_in_turn, next_caller};
 ghost use Rattle.cmd_node.specs.Puts.{IsCutIn, IsHeardIn, step_puts};
 ghost use Rattle.cmd_node.specs.Turn.{Turning, turn_after_hearing, turn_after_step, turn_after_sending, turn};
 ghost use Rattle.cmd_node.specs.declared.steps.LastSteps.{LastSteps};
 ghost use Rattle.cmd_node.specs.declared.fault.Fault.TheVariants.{Link as LinkFailed, Disk as DiskFailed};
-ghost use Rattle.cmd_node.specs.declared.fault.Fault.TheVariants.{Damaged as IsDamaged};
+ghost use Rattle.cmd_node.specs.declared.fault.Fault.TheVariants.{AnotherLog as IsAnother, Damaged as IsDamaged};
 
 use crate::fault::Fault;
 use crate::frames::{event_in, to_raw};
@@ -101,7 +104,7 @@ impl<D: Disk, F: Fn(Kind, u16) -> Option<u64> + Copy> Runner<D, F> {
         }
     }
 
-    /// A turn, at a reading of the clock.
+    /// A turn, at a reading of the clock. It ends where a call of another log comes, before the step of that call.
     #[tactic(auto, unfolding(crate::specs::Turn::turn))]
     pub fn turn<L: Link>(
         &mut self,
@@ -114,6 +117,12 @@ impl<D: Disk, F: Fn(Kind, u16) -> Option<u64> + Copy> Runner<D, F> {
         ensures turned { OnOk result ((t : Turning) →
             IsTurning self.old (L.coming link.old) (L.sent link.old) steps.old t →
             IsTurning self.new (L.coming link.new) (L.sent link.new) steps.new (turn now t)) }
+        ensures uncalled { OnOk result ((t : Turning) →
+            IsTurning self.old (L.coming link.old) (L.sent link.old) steps.old t →
+            caller_in_turn now t ≡ None) }
+        ensures called { (id node : ℕ) → result ≡ Err (IsAnother id node) → (id ≡ self.old.id) ×
+            ((t : Turning) → IsTurning self.old (L.coming link.old) (L.sent link.old) steps.old t →
+            caller_in_turn now t ≡ Some node) }
         // A turn that fails sends nothing, takes at most one item and has made a prefix of its puts.
         ensures unsent { OnErr result (L.sent link.new ≡ L.sent link.old) }
         ensures cut { (t : Turning) →
@@ -144,13 +153,19 @@ impl<D: Disk, F: Fn(Kind, u16) -> Option<u64> + Copy> Runner<D, F> {
         self.send(link)
     }
 
-    /// Takes the next item of its link, and makes a step of it where it is a frame.
+    /// Takes the next item of its link, and makes a step of it where it is a frame, unless that is a call of
+    /// another log.
     fn hear<L: Link>(&mut self, now: u64, link: &mut L, steps: &mut LastSteps) -> Result<(), Fault>
         requires receives { MemberReceives F.row F.IsAlwaysCallable F.post (closure_of self.old) }
         requires few { steps_made steps.old < 18446744073709551615 }
         ensures heard { OnOk result ((t : Turning) →
             IsTurning self.old (L.coming link.old) (L.sent link.old) steps.old t →
             IsTurning self.new (L.coming link.new) (L.sent link.new) steps.new (turn_after_hearing now t)) }
+        ensures uncalled { OnOk result ((t : Turning) →
+            IsTurning self.old (L.coming link.old) (L.sent link.old) steps.old t → next_caller now t ≡ None) }
+        ensures called { (id node : ℕ) → result ≡ Err (IsAnother id node) → (id ≡ self.old.id) ×
+            ((t : Turning) → IsTurning self.old (L.coming link.old) (L.sent link.old) steps.old t →
+            next_caller now t ≡ Some node) }
         ensures sent { L.sent link.new ≡ L.sent link.old }
         ensures cut { (t : Turning) →
             IsTurning self.old (L.coming link.old) (L.sent link.old) steps.old t →
@@ -178,11 +193,49 @@ impl<D: Disk, F: Fn(Kind, u16) -> Option<u64> + Copy> Runner<D, F> {
         a_state_is_durable::<D>();
         match link.recv() {
             Ok(item) => match event_in(&item, now) {
-                Some(event) => self.step(event, steps),
+                Some(event) => self.take(event, steps),
                 None => Ok(()),
             },
             Err(Failed) => Err(Fault::Link(self.id)),
         }
+    }
+
+    /// Makes the next step of what it heard, unless that is a call of another log.
+    fn take(&mut self, event: Event, steps: &mut LastSteps) -> Result<(), Fault>
+        requires receives { MemberReceives F.row F.IsAlwaysCallable F.post (closure_of self.old) }
+        requires few { steps_made steps.old < 18446744073709551615 }
+        ensures stepped { OnOk result ((t : Turning) (coming : Option (List Received))
+            (sent : Option (List RawFrame)) → IsTurning self.old coming sent steps.old t →
+            IsTurning self.new coming sent steps.new (turn_after_step (event_of event) t)) }
+        ensures uncalled { OnOk result ((t : AllocatorState) → StandsFor self.old.server t →
+            another_log t (event_of event) ≡ None) }
+        ensures called { (id node : ℕ) → result ≡ Err (IsAnother id node) → (id ≡ self.old.id) ×
+            ((t : AllocatorState) → StandsFor self.old.server t →
+            another_log t (event_of event) ≡ Some node) }
+        ensures leaves { (t : Turning) (coming : Option (List Received))
+            (sent : Option (List RawFrame)) → IsTurning self.old coming sent steps.old t →
+            LeavesSome self.old.server self.new.server (step_puts (event_of event) t) }
+        ensures id { self.new.id ≡ self.old.id }
+        ensures accepts { closure_of self.new ≡ closure_of self.old }
+        ensures works { OnOk result (Works self.new) }
+        ensures few { steps_made steps.new ≤ steps_made steps.old + 1 }
+        ensures no_link { (id : ℕ) → result ≡ Err (LinkFailed id) → ⊥ }
+        ensures sound { (id key : ℕ) → result ≡ Err (IsDamaged id key) → ⊥ }
+        ensures disk_failed { (id : ℕ) → result ≡ Err (DiskFailed id) →
+            (id ≡ self.old.id) × (Works self.old →
+            Rose (D.faults (runner_disk self.old)) (D.faults (runner_disk self.new))) }
+        ensures disk_later { D.faults (runner_disk self.old) ≤ D.faults (runner_disk self.new) }
+        ensures tells { D.tells (runner_disk self.new) ≡ D.tells (runner_disk self.old) }
+        ensures standing { OnOk result (IsStanding self.old → IsStanding self.new) }
+        ensures disk_quiet { (result ≡ Err (DiskFailed self.old.id) → ⊥) → IsStanding self.old →
+            D.faults (runner_disk self.new) ≡ D.faults (runner_disk self.old) }
+    {
+        // The law behind the clause `leaves`, where nothing is put.
+        a_state_is_durable::<D>();
+        if let Some(node) = self.server.another_log(&event) {
+            return Err(Fault::AnotherLog(self.id, node));
+        }
+        self.step(event, steps)
     }
 
     /// Makes the next step.

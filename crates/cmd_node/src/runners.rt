@@ -7,6 +7,7 @@ ghost use Rattle.can_frame.specs.Sizes.{most_members};
 ghost use Rattle.alloc_spec.specs.ClusterMembers.{AreMembers};
 ghost use Rattle.bus_spec.specs.Receivers.{MemberReceives};
 ghost use Rattle.alloc_spec.specs.Rules.{rules_by};
+ghost use Rattle.cmd_node.specs.Another.{NoneCallsFor};
 ghost use Rattle.cmd_node.specs.Ends.{refusal_of};
 ghost use Rattle.cmd_node.specs.Opening.{readings_after};
 ghost use Rattle.cmd_node.specs.Stands.{closure_of};
@@ -180,6 +181,9 @@ impl<D: Disk, F: Fn(Kind, u16) -> Option<u64> + Copy> Runners<D, F> {
             links.old (C.readings clock.old) steps.old all → Stand L.coming L.sent
             (runners_of self.new) links.new (C.readings clock.new) steps.new
             (all_turns (length (runners_of self.old)) turns all)) }
+        ensures uncalled { OnOk result ((all : Together) → Stand L.coming L.sent (runners_of self.old)
+            links.old (C.readings clock.old) steps.old all →
+            NoneCallsFor (length (runners_of self.old)) turns all) }
         ensures cut { IfErr result (λ fault. (all : Together) →
             Stand L.coming L.sent (runners_of self.old) links.old (C.readings clock.old)
             steps.old all → AreCutAfterTurns L.coming L.sent (runners_of self.new) links.new

@@ -3,6 +3,7 @@
 ghost use Rattle.std.specs.Prelude.{◌≡◌, ◌<◌, ◌≤◌, ◌+◌, ℕ, IfErr, OnOk, length, slice_index_or};
 ghost use Rattle.can_frame.specs.Sizes.{most_members};
 ghost use Rattle.bus_spec.specs.Receivers.{MemberReceives};
+ghost use Rattle.cmd_node.specs.Another.{NoneCalls};
 ghost use Rattle.cmd_node.specs.Cut.{IsCutTurn};
 ghost use Rattle.cmd_node.specs.Quiet.{StayQuiet};
 ghost use Rattle.cmd_node.specs.Stands.{AreStanding, Stand, closure_of};
@@ -35,6 +36,8 @@ pub(crate) fn take_turn<D: Disk, F: Fn(Kind, u16) -> Option<u64> + Copy, L: Link
         links.old (C.readings clock.old) steps.old all → Stand L.coming L.sent
         runners.new links.new (C.readings clock.new) steps.new
         (first_turns (length runners.old) all)) }
+    ensures uncalled { OnOk result ((all : Together) → Stand L.coming L.sent runners.old
+        links.old (C.readings clock.old) steps.old all → NoneCalls (length runners.old) all) }
     ensures cut { IfErr result (λ fault. (all : Together) → Stand L.coming L.sent runners.old
         links.old (C.readings clock.old) steps.old all →
         IsCutTurn L.coming L.sent runners.new links.new (C.readings clock.new) all fault) }

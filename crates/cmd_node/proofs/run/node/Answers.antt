@@ -38,7 +38,7 @@ returns-clause-runs g c =
     let now = g.K.Sink.written c.finish.new.sink in
     let left = λ (Wrote : List ℕ → Type 0). leaves coming sent faults rules was.turns was.ids.now was.links.now was.disks.now first c.requires.links c.a_state_is_durable.ensures law.state
     runners links ended.new.disks disks last ended.new.steps c.stop.ensures.stopped Wrote ended.result run ended.ensures.all ended.ensures.stands
-    ended.ensures.tells ended.ensures.cut ended.ensures.quiet in
+    ended.ensures.tells ended.ensures.uncalled ended.ensures.cut ended.ensures.quiet in
     let With = LeavesWith coming sent faults g.D.Disk rules was.turns was.ids.now was.links.now links was.disks.now disks first last before now in
     record {
       places = c.stop.ensures.stopped.places ∙ run.places;

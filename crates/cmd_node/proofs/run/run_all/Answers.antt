@@ -1,6 +1,7 @@
 use Rattle.std.proofs.Common.{◌<◌, length, refl, inl, inr, ◌∙◌, subst, arith}
 use Rattle.std.specs.Prelude.{None, slice_index_or}
 use Rattle.alloc_spec.specs.Rules.{rules_by}
+use Rattle.cmd_node.specs.Another.{NoneCallsFor}
 use Rattle.cmd_node.specs.Opening.{RunInput, together_at_opening as opened_of}
 use Rattle.cmd_node.specs.Runners.{runners_of}
 use Rattle.cmd_node.specs.Stands.{Stand}
@@ -31,6 +32,7 @@ returns-in-Err g c =
       };
       all = tt;
       stands = tt;
+      uncalled = tt;
       cut = inl (record {
         within = within;
         id_is = of_refused g.D.Disk old.0 new.0 _ c.in-Err.fault (why.refused.cause old.0 new.0 old.1 new.1);
@@ -74,6 +76,9 @@ returns-in-Ok g c =
           let all = opened_of rules c.args.ids.now given in
           subst (λ n. Stand g.L.Link.coming g.L.Link.sent (runners_of c.take_turns.new.self) c.take_turns.new.links (g.C.Clock.readings c.take_turns.new.clock) c.take_turns.new.steps
           (all_turns n c.args.turns all)) opened.all (goes all (stand given tell))) turned.turned;
+      uncalled = on_ok c.take_turns.result (λ none given tell.
+          let all = opened_of rules c.args.ids.now given in
+          subst (λ n. NoneCallsFor n c.args.turns all) opened.all (none all (stand given tell))) turned.uncalled;
       cut = if_err c.take_turns.result (λ fault goes. inr (record {
         all = count;
         ids_are = λ i r low.

@@ -1,14 +1,16 @@
 use Rattle.std.proofs.Common.{◌≡◌, suc, ◌+◌, ◌<◌, length, length-set, refl, ap, sym, ◌∙◌, subst, arith}
-use Rattle.std.specs.Prelude.{Ok, Err, slice_index_or, slice_set}
+use Rattle.std.specs.Prelude.{None, Some, Ok, Err, slice_index_or, slice_set}
 use Rattle.outside.specs.Readings.{next_reading}
 use Rattle.alloc_server.specs.Server.{LeavesSome}
+use Rattle.cmd_node.specs.Another.{NoneCalls, caller_at, caller_in_turn}
 use Rattle.cmd_node.specs.Puts.{IsCutIn}
 use Rattle.cmd_node.specs.Stands.{IsStanding, IsTurning, Stand, Works, runner_disk}
 use Rattle.cmd_node.specs.Turn.{Turning, turn}
 use Rattle.cmd_node.specs.Turns.{first_turns, turning_at}
 use Rattle.cmd_node.specs.declared.fault.Fault.TheVariants.{Link, Disk}
 use Rattle.cmd_node.specs.declared.runner.Runner.{Runner}
-use Rattle.cmd_node.proofs.Cut.{at_node, cut_at}
+use Rattle.cmd_node.proofs.Another.{nor_next}
+use Rattle.cmd_node.proofs.Cut.{at_node, called_by, cut_at}
 use Rattle.cmd_node.proofs.Lists.{all_set}
 use Rattle.cmd_node.proofs.Quiet.{quiet_kept, quiet_set}
 use Rattle.cmd_node.proofs.Together.{are_running, ends_turn, keeps_links, keeps_nodes, links_kept, nodes_kept, rose_before, set_here}
@@ -24,6 +26,7 @@ loop-place-init g c = record {
   quiet = λ all. quiet_kept g.L.Link.faults c.args.runners.now c.args.links.now c.requires.each;
   few = omega arith;
   turned = λ all is. is;
+  uncalled = λ all is i low. absurd (omega (arith, low));
 }
 
 pub turn-requires-clause-receives : goal.turn-requires-clause-receives
@@ -84,6 +87,13 @@ loop-place-preserved g c =
             readings_are = read.1;
             lines = turned.lines;
           });
+      uncalled = λ all is.
+          let far = so_far.turned all is in
+          let before = first_turns place all in
+          let read = reads c.now-now.result (g.C.Clock.readings c.loop-place.clock) (g.C.Clock.readings c.now-now.new.self) before.readings c.now-now.ensures far.readings_are in
+          let t = turning_at place before in
+          let none = c.in-Ok.ensures.uncalled t (record { running = far.each place some some_link here; lines = far.lines }) in
+          nor_next place all (so_far.uncalled all is) (subst (λ m. caller_in_turn m t ≡ None) read.0 none);
     }
 
 pub returns-clause-turned : goal.returns-clause-turned
@@ -95,6 +105,15 @@ returns-clause-turned g c = λ all is.
     let all_of : c.loop-place.place ≡ length c.args.runners.now = omega (arith, count, high, end) in
     subst (λ n. Stand g.L.Link.coming g.L.Link.sent c.loop-place.runners c.loop-place.links (g.C.Clock.readings c.loop-place.clock) c.loop-place.steps (first_turns n all)) all_of
     (so_far.turned all is)
+
+pub returns-clause-uncalled : goal.returns-clause-uncalled
+returns-clause-uncalled g c = λ all is.
+    let so_far = c.loop-place.invariant in
+    let count = so_far.nodes.count in
+    let high = c.loop-place-test.false in
+    let end = c.loop-place.auto.place-end in
+    let all_of : c.loop-place.place ≡ length c.args.runners.now = omega (arith, count, high, end) in
+    subst (λ n. NoneCalls n all) all_of (so_far.uncalled all is)
 
 pub returns-in-Err : goal.returns-in-Err
 returns-in-Err g c =
@@ -126,6 +145,7 @@ returns-in-Err g c =
     let works = so_far.working place some here in
     record {
       turned = tt;
+      uncalled = tt;
       cut = λ all is.
           let far = so_far.turned all is in
           let before = first_turns place all in
@@ -136,8 +156,14 @@ returns-in-Err g c =
           record {
             place = place;
             within = omega (arith, here, size);
-            named = λ r. sym (ap (λ (x : Runner g.row.D.Denot g.row.F.Denot g.D.Disk). x.id) (set_here runners place place runner r refl here)) ∙ turn.id
-                ∙ sym (at_node c.in-Err.fault old.id (λ node e. (why.link_failed node (ap Err e)).0) (λ node e. (why.disk_failed node works (ap Err e)).0) (λ node key e. why.sound node key (ap Err e)));
+            named = (
+              λ r. sym (ap (λ (x : Runner g.row.D.Denot g.row.F.Denot g.D.Disk). x.id) (set_here runners place place runner r refl here)) ∙ turn.id
+                  ∙ sym (at_node c.in-Err.fault old.id (λ node e. (why.link_failed node (ap Err e)).0) (λ node e. (why.disk_failed node works (ap Err e)).0) (λ node key e. why.sound node key (ap Err e))
+                  (λ node from e. (why.called node from (ap Err e)).0)),
+              called_by c.in-Err.fault (caller_at place before) (λ node from e. subst (λ m. caller_in_turn m t ≡ Some from) read.0
+                  ((why.called node from (ap Err e)).1 t (record { running = far.each place some some_link here; lines = far.lines }))),
+            );
+            uncalled = so_far.uncalled all is;
             cut = cut_at runners links place runner some link some_link here there g.L.Link.coming g.L.Link.sent (readings c.loop-place.clock) c.loop-place.steps before far
                 (readings c.now-now.new.self) read.1 why.unsent turn.tells
                 (subst (λ m. IsCutIn m t (g.L.Link.coming link) (LeavesSome old.server runner.server)) read.0 cut);
@@ -157,7 +183,7 @@ returns-in-Err g c =
             λ before. rose_before (disk_faults (runner_disk (slice_index_or c.args.runners.now place before))) (disk_faults (runner_disk old)) (disk_faults (runner_disk runner))
                 (nodes.each place before some first).later failed.1,
           ))
-          (λ node key is. why.sound node key (ap Err is));
+          (λ node key is. why.sound node key (ap Err is)) (λ node from is. (why.called node from (ap Err is)).0);
       few = let steps = so_far.few in let now = turn.few in let five = c.requires.five in omega (arith, steps, now, five, first);
       standing = tt;
       quiet = λ all. let so_quiet = so_far.quiet all in

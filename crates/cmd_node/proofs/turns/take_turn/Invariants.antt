@@ -1,5 +1,6 @@
 use Rattle.std.proofs.Common.{◌≤◌, ◌+◌, ◌*◌}
 use Rattle.std.specs.Prelude.{Ok}
+use Rattle.cmd_node.specs.Another.{NoneCalls}
 use Rattle.cmd_node.specs.Quiet.{StayQuiet}
 use Rattle.cmd_node.specs.Stands.{AreStanding, Stand}
 use Rattle.cmd_node.specs.Steps.{steps_made}
@@ -22,4 +23,5 @@ invariant-loop-place g l =
       few : steps_made l.steps ≤ steps_made l.fn.steps + 2 * l.place;
       turned : (all : Together) → Stand coming sent l.fn.runners l.fn.links (readings l.fn.clock) l.fn.steps all →
           Stand coming sent l.runners l.links (readings l.clock) l.steps (first_turns l.place all);
+      uncalled : (all : Together) → Stand coming sent l.fn.runners l.fn.links (readings l.fn.clock) l.fn.steps all → NoneCalls l.place all;
     }

@@ -5,10 +5,10 @@ use Rattle.alloc_spec.specs.Step.{Tick}
 use Rattle.cmd_node.specs.Puts.{step_puts}
 use Rattle.cmd_node.specs.Stands.{IsTurning}
 use Rattle.cmd_node.specs.Turn.{turn_after_hearing, turn_after_step, turn_after_tick, turn}
-use Rattle.cmd_node.specs.declared.fault.Fault.TheVariants.{Link}
+use Rattle.cmd_node.specs.declared.fault.Fault.TheVariants.{AnotherLog, Link}
 use Rattle.cmd_node.proofs.Ending.{if_err}
 use Rattle.cmd_node.proofs.Quiet.{unless_failed}
-use Rattle.cmd_node.proofs.Lists.{on_err, on_ok, on_ok_always}
+use Rattle.cmd_node.proofs.Lists.{on_err, on_ok, on_ok_always, same_error}
 use Rattle.cmd_node.proofs.Parts.{cut_still, next_word, turn_cut}
 use Rattle.cmd_node.proofs.runner.Runner.turn.Goals as goal
 
@@ -23,6 +23,31 @@ returns-clause-turned g c = on_ok c.send.result (λ sends t is.
     let ticked = subst (λ w. IsTurning c.step.new.self coming sent c.step.new.steps (turn_after_step (Tick c.args.now w) before)) word stepped in
     let ticked_to = turn_after_step (Tick c.args.now (word_at (next_state t.running.draws))) before in
     sends (turn_after_hearing c.args.now ticked_to) c.hear.new.steps (c.in_ok-hear.ensures.heard ticked_to ticked)) c.send.ensures.sent
+
+pub returns-clause-uncalled : goal.returns-clause-uncalled
+returns-clause-uncalled g c = on_ok_always c.send.result (λ t is.
+    let coming = g.L.Link.coming c.args.link.now in
+    let sent = g.L.Link.sent c.args.link.now in
+    let word = c.word-word.ensures.word ∙ ap word_at (c.word-word.ensures.moved ∙ ap next_state is.running.draws) in
+    let before = record t { running = record t.running { draws = next_state t.running.draws } } in
+    let stepped = c.in_ok-step.ensures.stepped before coming sent (next_word is c.word-word.ensures.moved) in
+    c.in_ok-hear.ensures.uncalled (turn_after_tick c.args.now t)
+    (subst (λ w. IsTurning c.step.new.self coming sent c.step.new.steps (turn_after_step (Tick c.args.now w) before)) word stepped))
+
+pub returns-in_err-hear-clause-called : goal.returns-in_err-hear-clause-called
+returns-in_err-hear-clause-called g c = λ id node e.
+    let same = same_error c.hear.result c.from_residual-in_err-hear.result c.in_err-hear.field-0.0 (AnotherLog id node) c.in_err-hear.was c.from_residual-in_err-hear.ensures.1 e in
+    let called = c.hear.ensures.called id node same in (
+      called.0 ∙ c.step.ensures.id,
+      λ t is.
+          let coming = g.L.Link.coming c.args.link.now in
+          let sent = g.L.Link.sent c.args.link.now in
+          let word = c.word-word.ensures.word ∙ ap word_at (c.word-word.ensures.moved ∙ ap next_state is.running.draws) in
+          let before = record t { running = record t.running { draws = next_state t.running.draws } } in
+          let stepped = c.in_ok-step.ensures.stepped before coming sent (next_word is c.word-word.ensures.moved) in
+          called.1 (turn_after_tick c.args.now t)
+          (subst (λ w. IsTurning c.step.new.self coming sent c.step.new.steps (turn_after_step (Tick c.args.now w) before)) word stepped),
+    )
 
 pub returns-clause-works : goal.returns-clause-works
 returns-clause-works g c = on_ok_always c.send.result (c.send.ensures.works (c.in_ok-hear.ensures.works c.in_ok-step.ensures.works))

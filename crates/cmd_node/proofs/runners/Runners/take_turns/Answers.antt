@@ -2,6 +2,7 @@ use Rattle.std.proofs.Common.{◌≡◌, suc, ◌+◌, ◌<◌, ◌++◌, ℕ, L
 use Rattle.std.proofs.lemmas.List.{drop_all, take_all}
 use Rattle.std.specs.Prelude.{Ok, Err, slice_index_or}
 use Rattle.disk_model.specs.declared.disk.Disk.{Ghosts}
+use Rattle.cmd_node.specs.Another.{NoneCalls, NoneCallsFor}
 use Rattle.cmd_node.specs.Cut.{IsCutTurn}
 use Rattle.cmd_node.specs.Runners.{runners_of}
 use Rattle.cmd_node.specs.Quiet.{StayQuiet}
@@ -9,6 +10,7 @@ use Rattle.cmd_node.specs.Stands.{AreStanding, Stand, closure_of}
 use Rattle.cmd_node.specs.Taking.{AreWorking, EndsTurn, KeepsNodes}
 use Rattle.cmd_node.specs.Turns.{all_turns, first_turns}
 use Rattle.cmd_node.specs.declared.runner.Runner.{Runner}
+use Rattle.cmd_node.proofs.Another.{nor_all_next}
 use Rattle.cmd_node.proofs.Quiet.{quiet_kept, quiet_then}
 use Rattle.cmd_node.proofs.Together.{ends_later, links_kept, links_then, nodes_kept, nodes_then}
 use Rattle.cmd_node.proofs.runners.Runners.take_turns.Goals as goal
@@ -41,6 +43,7 @@ turns-init g c = record {
   quiet = λ all. quiet_kept g.L.Link.faults (runners_of c.args.self.now) c.args.links.now c.requires.each;
   few = let first = c.requires.first in omega (arith, first);
   turned = λ all is. is;
+  uncalled = λ all is n low. absurd (omega (arith, low));
 }
 
 pub take_turn-requires-clause-receives : goal.take_turn-requires-clause-receives
@@ -106,6 +109,11 @@ turns-preserved g c =
           (all_turns (length before) n all)) next
           (subst (λ l. Stand coming sent l c.take_turn.new.links (readings c.take_turn.new.clock) c.take_turn.new.steps (first_turns (length before) by_then)) (sym went.same)
           (subst (λ n. Stand coming sent new c.take_turn.new.links (readings c.take_turn.new.clock) c.take_turn.new.steps (first_turns n by_then)) count now));
+      uncalled = λ all is.
+          let by_then = all_turns (length before) c.turns.taken all in
+          let count : length c.as_mut_slice.result.now ≡ length before = ap length value ∙ so_far.nodes.count in
+          let none = c.in-Ok.ensures.uncalled by_then (subst (λ l. Stand coming sent l c.turns.links (readings c.turns.clock) c.turns.steps by_then) (sym value) (so_far.turned all is)) in
+          nor_all_next (length before) c.turns.taken all (so_far.uncalled all is) (subst (λ n. NoneCalls n by_then) count none);
     }
 
 pub returns-clause-turned : goal.returns-clause-turned
@@ -116,6 +124,14 @@ returns-clause-turned g c = λ all is.
     let end : c.turns.taken ≡ c.args.turns = omega (arith, some, high) in
     subst (λ n. Stand g.L.Link.coming g.L.Link.sent (runners_of c.turns.self) c.turns.links (g.C.Clock.readings c.turns.clock) c.turns.steps
     (all_turns (length (runners_of c.args.self.now)) n all)) end (so_far.turned all is)
+
+pub returns-clause-uncalled : goal.returns-clause-uncalled
+returns-clause-uncalled g c = λ all is.
+    let so_far = c.turns.invariant in
+    let high = c.turns-test.false in
+    let some = so_far.some in
+    let end : c.turns.taken ≡ c.args.turns = omega (arith, some, high) in
+    subst (λ n. NoneCallsFor (length (runners_of c.args.self.now)) n all) end (so_far.uncalled all is)
 
 pub returns-in-Err : goal.returns-in-Err
 returns-in-Err g c =
@@ -136,6 +152,7 @@ returns-in-Err g c =
     let result = Err c.in-Err.fault in
     record {
       turned = tt;
+      uncalled = tt;
       cut = λ all is.
           let by_then = all_turns (length before) c.turns.taken all in
           let cut = turn.cut by_then (subst (λ l. Stand coming sent l c.turns.links (readings c.turns.clock) c.turns.steps by_then) (sym value) (so_far.turned all is)) in
@@ -143,6 +160,7 @@ returns-in-Err g c =
           record {
             taken = c.turns.taken;
             fewer = c.turns-test.true;
+            uncalled = subst (λ n. NoneCallsFor n c.turns.taken all) count (so_far.uncalled all is);
             turn = subst (λ n. IsCutTurn coming sent list links (readings c.take_turn.new.clock) (all_turns n c.turns.taken all) c.in-Err.fault) count
                 (subst (λ l. IsCutTurn coming sent l links (readings c.take_turn.new.clock) by_then c.in-Err.fault) (sym went.same) cut);
           };

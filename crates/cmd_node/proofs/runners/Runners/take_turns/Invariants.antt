@@ -1,4 +1,5 @@
 use Rattle.std.proofs.Common.{◌≡◌, ◌≤◌, ◌*◌, ◌-◌, length}
+use Rattle.cmd_node.specs.Another.{NoneCallsFor}
 use Rattle.cmd_node.specs.Runners.{accepts, runners_of}
 use Rattle.std.specs.Prelude.{Ok}
 use Rattle.cmd_node.specs.Quiet.{StayQuiet}
@@ -27,6 +28,7 @@ invariant-turns g l =
       few : steps_made l.steps ≤ 10 * l.taken;
       turned : (all : Together) → Stand coming sent before l.fn.links (readings l.fn.clock) l.fn.steps all →
           Stand coming sent now l.links (readings l.clock) l.steps (all_turns (length before) l.taken all);
+      uncalled : (all : Together) → Stand coming sent before l.fn.links (readings l.fn.clock) l.fn.steps all → NoneCallsFor (length before) l.taken all;
     }
 
 abbrev pub decreases-turns : goal.decreases-turns
