@@ -10,7 +10,7 @@ use Rattle.alloc_spec.specs.ClusterMembers.{AreMembers}
 use Rattle.bus_spec.specs.Cluster.{cluster}
 use Rattle.cmd_io.specs.declared.status.Status.TheVariants.{Done, Usage, BadRow, Unlawful, ReadFault, WriteFault, Memory, Limit, LinkFault, DiskFault, Damaged, NoLeader, Uncommitted, Differ, AnotherLog, NoPart, NoValue}
 use Rattle.cmd_node.specs.CutRun.{IsCutAtOpening, IsCutAtTurn, KeepsImages, KeepsOrOpens}
-use Rattle.cmd_node.specs.Nodes.{IsCutInTurn, IsDone, IsEnd, LeavesWith, RunsNodes}
+use Rattle.cmd_node.specs.Nodes.{IsCalledIn, IsCutInTurn, IsCutWhere, IsDone, IsEnd, LeavesWith, RunsNodes}
 use Rattle.cmd_node.specs.Opening.{RunInput}
 use Rattle.cmd_node.specs.WholeRun.{LeavesAll, Tell, after_turns}
 use Rattle.cmd_node_laws.specs.Processes.{Opening, Turning, together_at}
@@ -52,6 +52,20 @@ module _ {L D : Type 0} (coming : L → Option (List Received)) (sent : L → Op
           in_world = λ ids first rest stands. cut ids mine first rest rules left.taken turn.place given links disks readings turn.within stands turn.cut;
           promise = λ ids first rest stands. promise ids (first ++ rest) stands.members stands.may;
         }
+
+    -- a run that ended by a call of another log
+    called_in_traces : (given : RunInput) (id node : ℕ) → Tell coming sent disk links_old disks_old readings_old given →
+        IsCutWhere coming sent link_faults disk rules turns mine links_old links disks_old disks readings_old readings (IsCalledIn mine id node) →
+        IsCutInTraces coming sent disk links disks rules mine given turns id
+    called_in_traces given id node tell is = cut_in_traces given id tell (record {
+      whole = is.whole;
+      left = λ given tell. let left = is.left given tell in let turn = left.turn in record {
+        taken = left.taken;
+        fewer = left.fewer;
+        uncalled = left.uncalled;
+        turn = record { place = turn.place; within = turn.within; named = turn.named.0; uncalled = turn.uncalled; cut = turn.cut };
+      };
+    })
 
     abbrev AtOpening : ℕ → Type 0
     AtOpening id = IsCutAtOpening disk mine links_old links disks_old disks readings_old readings (KeepsOrOpens disk) id
@@ -107,7 +121,7 @@ module _ {L D : Type 0} (coming : L → Option (List Received)) (sent : L → Op
     by_end given tell NoPart end = absurd end
     by_end given tell NoLeader end = absurd end
     by_end given tell (Uncommitted id) end = absurd end
-    by_end given tell (AnotherLog id node) end = absurd end
+    by_end given tell (AnotherLog id node) end = inr (id, inr (called_in_traces given id node tell end.1))
     by_end given tell NoValue end = absurd end
 
     pub in_traces : RunsNodes coming sent link_faults disk rules turns mine links_old links disks_old disks readings_old readings faults_old faults before now status →
@@ -124,7 +138,8 @@ module _ {L D : Type 0} (coming : L → Option (List Received)) (sent : L → Op
           | inl opening ↦ inl (opening_in_traces given id tell opening)
           | inr turn ↦ inr (cut_in_traces given id tell turn)
         ]
-        | inr (inr damaged) ↦ let left = subst Ended damaged.1 runs.leaves in inl (opening_in_traces given id tell (widened id left.end.1))
+        | inr (inr (inl damaged)) ↦ let left = subst Ended damaged.1 runs.leaves in inl (opening_in_traces given id tell (widened id left.end.1))
+        | inr (inr (inr called)) ↦ let left = subst Ended called.1 runs.leaves in inr (called_in_traces given id called.0 tell left.end.1)
       ];
       output_failed = λ given tell is. let left = subst Ended is runs.leaves in by_end given tell left.0 left.1.end;
       stands_on_bus = on_bus;

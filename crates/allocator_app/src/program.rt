@@ -64,12 +64,13 @@ use store_audit::audit_stores;
 /// where the store of that node is damaged, first at that key, and those before it are not, if these disks
 /// tell what they hold. Then one line is written, and with `Damaged` no frame came or went. But for
 /// `WriteFault` no link and no disk counted a fault that the status does not name. Where nothing fails it
-/// comes to `Done` or `Damaged`, unless there is not enough memory to begin with.
+/// comes to `Done`, `Damaged` or `AnotherLog`, unless there is not enough memory to begin with.
 ///
 /// Where links, disks and the clock tell what they have: with `Done` what was sent, written and stored is
 /// exactly what the members do over what came on the links and what the clock read (`WholeRun` of
-/// `cmd_node`). With `LinkFault`, `DiskFault` and `Damaged` what was sent is a beginning of what a run to
-/// its end sends, and each store that was opened holds what it then held (`CutRun` of `cmd_node`). And in
+/// `cmd_node`). With `LinkFault`, `DiskFault`, `Damaged` and `AnotherLog` what was sent is a beginning of what a run
+/// to its end sends, and each store that was opened holds what it then held (`CutRun` of `cmd_node`). With
+/// `AnotherLog` a call came that contradicts what that node has committed (`IsCalledIn`); with `Done` none came. And in
 /// every trace of a cluster of processes in which the run stands, what it sent and stored is what the world
 /// of the trace's rows says (`Traces` and `Stands` of `cmd_node_laws`).
 ///
@@ -99,7 +100,7 @@ use store_audit::audit_stores;
 /// its whole log gives nothing twice, and whatever pair it offers is one of its own committed log.
 ///
 /// `Memory` is free: no clause ties it to a cause. It can come from the start of a run of `replay`, `soak` or `node`
-/// alone. `LinkFault`, `DiskFault` and `Damaged` do not come of `replay` or `soak`.
+/// alone. `LinkFault`, `DiskFault`, `Damaged` and `AnotherLog` do not come of `replay` or `soak`.
 ///
 /// When a schedule comes to `Done`, `BadRow`, `Unlawful` or `Limit` is said by `Says` (in words: docs/FORMATS.md, "Exit
 /// codes"), and that its bytes are exactly the report by `IsReport`. With `ReadFault` the read was needed: the next
