@@ -1,0 +1,54 @@
+-- What a link for a member that is told the list of its cluster makes of the link and the clock below it.
+use Rattle.std.specs.Prelude.{◌≡◌, ℕ, ◌⊎◌, List, Option, Ok, Err, Some, None, slice_index_or, slice_set, if◌then◌else◌}
+use Rattle.outside.specs.Contents.{WhereTold}
+use Rattle.outside.specs.Faults.{Rose}
+use Rattle.outside.specs.Readings.{Reads}
+use Rattle.outside.specs.Traffic.{Receives}
+use Rattle.outside.specs.declared.failed.Failed.{Failed}
+use Rattle.outside.specs.declared.received.RawFrame.{RawFrame}
+use Rattle.outside.specs.declared.received.Received.{Received}
+use Rattle.outside.specs.declared.received.Received.TheVariants.{Frame, Junk}
+use Rattle.told_link.specs.Silence.{answers_count, heard_at}
+use Rattle.told_link.specs.Voice.{voice_in}
+use Rattle.told_link.specs.declared.silence.Heard.{Heard}
+use Rattle.told_link.specs.declared.voice.Voice.{Voice}
+use Rattle.told_link.specs.declared.voice.Voice.TheVariants.{Stranger, Answer, Member, Other}
+
+-- what is known of each node, by its node ID
+abbrev pub known_of : List (Option Heard) → ℕ → Option Heard
+known_of all node = slice_index_or all node None
+
+-- a member was heard at this reading; of all others as much is known as before
+abbrev pub IsHeardAt : ℕ → ℕ → List (Option Heard) → List (Option Heard) → Type 0
+IsHeardAt node now old new = new ≡ slice_set old node (Some (heard_at now (known_of old node)))
+
+-- an answer of a member is handed on where it counts
+abbrev pub answer_handed_on : ℕ → Option Heard → Received → Received
+answer_handed_on now before item = if answers_count now (heard_at now before) then item else Junk
+
+module _ {C : Type 0} (readings : C → Option (List ℕ)) (clock_old clock : C)
+    (known_old known : List (Option Heard)) where
+  -- this is handed on of an item, by whose it is. The clock is read where it is a member's, and only there
+  abbrev pub IsHandedOn : Voice → Received → Received → Type 0
+  IsHandedOn Stranger item handed = ⊥
+  IsHandedOn (Answer node) item handed = (now : ℕ) × WhereTold (Reads now) (readings clock_old) (readings clock)
+      × IsHeardAt node now known_old known × (handed ≡ answer_handed_on now (known_of known_old node) item)
+  IsHandedOn (Member node) item handed = (now : ℕ) × WhereTold (Reads now) (readings clock_old) (readings clock)
+      × IsHeardAt node now known_old known × (handed ≡ item)
+  IsHandedOn Other item handed = (handed ≡ item) × (clock ≡ clock_old) × (known ≡ known_old)
+
+  -- the link below gave this item, of which that was handed on to a member that is told this list
+  pub record Hears (coming_old coming : Option (List Received)) (me : ℕ) (ids : List ℕ) (handed : Received)
+      : Type 0 where
+    pub item : Received
+    pub below : WhereTold (Receives {E = Failed} (Ok item)) coming_old coming
+    pub answer : IsHandedOn (voice_in me ids item) item handed
+
+-- A call fails that is made while no stranger was heard: the link below failed, or it gave a frame of a stranger, whose
+-- identifier is known then.
+abbrev pub FailsToHear : (faults_old faults : ℕ) (coming_old coming : Option (List Received)) (me : ℕ) (ids : List ℕ)
+    (stranger : Option ℕ) (error : Failed) → Type 0
+FailsToHear faults_old faults coming_old coming me ids stranger error =
+    (Rose faults_old faults × WhereTold (Receives (Err error)) coming_old coming × (stranger ≡ None))
+    ⊎ ((frame : RawFrame) × WhereTold (Receives {E = Failed} (Ok (Frame frame))) coming_old coming
+    × (faults ≡ faults_old) × (voice_in me ids (Frame frame) ≡ Stranger) × (stranger ≡ Some frame.id))

@@ -1,0 +1,16 @@
+//! A link for a member that is told the list of its cluster: it hears that a list is wrong, and forgives what was held.
+//!
+//! [`ToldLink`] stands over another link. A frame proves that a list is wrong, or that a member runs twice, where
+//! it has the member's own node ID, or is one that members alone send, of a node that is not on the list
+//! (`specs/Voice.antt`): each call fails then. Behind a silence of another member its answers to calls of
+//! AppendEntries count for nothing for half a second, since one may have been held until then
+//! (`specs/Silence.antt`). What it makes of the link and the clock below stands in `specs/Hearing.antt`.
+//! [`laws`] has what follows of frames of members and devices, and of answers behind a silence.
+#![tactic(auto)]
+
+pub mod laws;
+mod link;
+mod silence;
+mod voice;
+
+pub use link::ToldLink;

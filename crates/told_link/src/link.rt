@@ -1,0 +1,192 @@
+ghost use Rattle.std.specs.Prelude.{◌≡◌, ◌≤◌, ◌<◌, ℕ, List, Option, None, length, replicate, IsErr, IsSome, IfOk, IfErr, OnOk, OnErr};
+ghost use Rattle.can_frame.specs.Sizes.{most_members, node_ids};
+ghost use Rattle.outside.specs.Contents.{WhereTold};
+ghost use Rattle.outside.specs.Faults.{HasCause, Rose, counted, one_more};
+ghost use Rattle.outside.specs.Traffic.{Receives, Sends};
+ghost use Rattle.outside.specs.declared.received.Received.{Received};
+ghost use Rattle.outside.specs.declared.received.RawFrame.{RawFrame};
+ghost use Rattle.told_link.specs.Hearing.{FailsToHear, Hears, IsHeardAt, known_of};
+ghost use Rattle.told_link.specs.Silence.{answers_count, heard_at as known_at};
+
+use crate::silence::{Heard, counts, heard_at};
+use crate::voice::{Voice, voice_of};
+use arrayvec::ArrayVec;
+use can_frame::sizes::{MOST_MEMBERS, NODE_IDS};
+use outside::{Clock, Failed, Link, RawFrame, Received};
+
+/// A link over another one, for a member that is told the list of its cluster. Once it has heard a stranger, each call
+/// fails: a frame with the member's own node ID, or one that members alone send, of a node that is not on the list. An
+/// answer to a call of AppendEntries that comes shortly behind a silence of its sender is junk: it may have been held
+/// since an earlier call. A member that is told no list has an empty one: all is handed on to it, and no clock is read.
+///
+/// It tells no contents; its clauses say what it makes of those of the link and the clock below.
+#[derive(Drop)]
+pub struct ToldLink<L, C> {
+    link: L,
+    clock: C,
+    me: u8,
+    ids: ArrayVec<u8, MOST_MEMBERS>,
+
+    /// What is known of each other member, by its node ID.
+    known: [Option<Heard>; NODE_IDS],
+
+    /// The identifier of the frame by which a stranger was heard.
+    stranger: Option<u32>,
+    faults: u64,
+    ghost all: { length known ≡ node_ids },
+}
+
+impl<L: Link, C: Clock> ToldLink<L, C> {
+    /// This link, for the member with a node ID that is told a list. Nobody was heard yet.
+    pub fn new(link: L, clock: C, me: u8, ids: &[u8]) -> ToldLink<L, C>
+        requires { length ids.now ≤ most_members }
+        ensures link { result.link ≡ link }
+        ensures clock { result.clock ≡ clock }
+        ensures me { result.me ≡ me }
+        ensures ids { result.ids.items ≡ ids.now }
+        ensures known { result.known ≡ replicate node_ids None }
+        ensures stranger { result.stranger ≡ None }
+        ensures faults { result.faults ≡ 0 }
+    {
+        let mut list = ArrayVec::new();
+        list.try_extend_from_slice(ids).unwrap();
+        ToldLink {
+            link,
+            clock,
+            me,
+            ids: list,
+            known: [None; NODE_IDS],
+            stranger: None,
+            faults: 0,
+        }
+    }
+
+    /// The node ID of its member.
+    pub fn member(&self) -> u8
+        ensures { result ≡ self.now.me }
+    {
+        self.me
+    }
+
+    /// The identifier of the frame by which a stranger was heard, if one was.
+    pub fn stranger(&self) -> Option<u32>
+        ensures { result ≡ self.now.stranger }
+    {
+        self.stranger
+    }
+}
+
+impl<L: Link, C: Clock> Link for ToldLink<L, C> {
+    ghost coming = { λ _. None };
+
+    ghost sent = { λ _. None };
+
+    ghost faults = { λ l. l.faults };
+
+    /// It fails where the link below does, and from the first frame of a stranger on, without asking the link below.
+    fn recv(&mut self) -> Result<Received, Failed>
+        ensures items { WhereTold {A = List Received} (Receives result) None None }
+        ensures cause { HasCause self.old.faults self.new.faults result }
+        ensures kept { OnOk result (self.new.faults ≡ self.old.faults) }
+        ensures faults { self.new.faults ≡ counted result self.old.faults }
+        // What the link below gave, and what is made of it.
+        ensures hears { IfOk result (λ handed. Hears C.readings self.old.clock self.new.clock
+            self.old.known self.new.known (L.coming self.old.link) (L.coming self.new.link)
+            self.old.me self.old.ids.items handed) }
+        ensures stranger { OnOk result ((self.old.stranger ≡ None) × (self.new.stranger ≡ None)) }
+        ensures below { OnOk result (L.faults self.new.link ≡ L.faults self.old.link) }
+        ensures ends { IfErr result (λ error. self.old.stranger ≡ None →
+            FailsToHear (L.faults self.old.link) (L.faults self.new.link) (L.coming self.old.link)
+            (L.coming self.new.link) self.old.me self.old.ids.items self.new.stranger error) }
+        ensures ended { IsSome self.old.stranger → IsErr result × (self.new.link ≡ self.old.link)
+            × (self.new.stranger ≡ self.old.stranger) }
+        ensures unheard { OnErr result ((self.new.clock ≡ self.old.clock) × (self.new.known ≡ self.old.known)) }
+        ensures unsent { L.sent self.new.link ≡ L.sent self.old.link }
+        ensures me { self.new.me ≡ self.old.me }
+        ensures ids { self.new.ids ≡ self.old.ids }
+    {
+        if self.stranger.is_some() {
+            return Err(self.fault());
+        }
+        let Ok(item) = self.link.recv() else {
+            return Err(self.fault());
+        };
+        let Received::Frame(frame) = item else {
+            return Ok(item);
+        };
+        match voice_of(self.me, &self.ids, &frame) {
+            Voice::Stranger => {
+                self.stranger = Some(frame.id);
+                Err(self.fault())
+            }
+            Voice::Answer(node) => {
+                if hear(&mut self.known, node, self.clock.now()) {
+                    Ok(item)
+                } else {
+                    Ok(Received::Junk)
+                }
+            }
+            Voice::Member(node) => {
+                hear(&mut self.known, node, self.clock.now());
+                Ok(item)
+            }
+            Voice::Other => Ok(item),
+        }
+    }
+
+    /// It fails where the link below does, and where a stranger was heard: nothing is sent then.
+    fn send(&mut self, frame: &RawFrame) -> Result<(), Failed>
+        ensures frames { WhereTold {A = List RawFrame} (Sends frame.now result) None None }
+        ensures cause { HasCause self.old.faults self.new.faults result }
+        ensures kept { OnOk result (self.new.faults ≡ self.old.faults) }
+        ensures faults { self.new.faults ≡ counted result self.old.faults }
+        ensures goes { self.old.stranger ≡ None → WhereTold (Sends frame.now result)
+            (L.sent self.old.link) (L.sent self.new.link) }
+        ensures below { self.old.stranger ≡ None → HasCause (L.faults self.old.link) (L.faults self.new.link) result }
+        ensures ended { IsSome self.old.stranger → IsErr result × (self.new.link ≡ self.old.link) }
+        ensures coming { L.coming self.new.link ≡ L.coming self.old.link }
+        ensures stranger { self.new.stranger ≡ self.old.stranger }
+        ensures clock { self.new.clock ≡ self.old.clock }
+        ensures known { self.new.known ≡ self.old.known }
+        ensures me { self.new.me ≡ self.old.me }
+        ensures ids { self.new.ids ≡ self.old.ids }
+    {
+        if self.stranger.is_some() {
+            return Err(self.fault());
+        }
+        match self.link.send(frame) {
+            Ok(()) => Ok(()),
+            Err(Failed) => Err(self.fault()),
+        }
+    }
+}
+
+impl<L, C> ToldLink<L, C> {
+    /// Counts a call that failed.
+    fn fault(&mut self) -> Failed
+        ensures later { self.old.faults ≤ self.new.faults }
+        ensures faults { self.new.faults ≡ one_more self.old.faults }
+        ensures link { self.new.link ≡ self.old.link }
+        ensures clock { self.new.clock ≡ self.old.clock }
+        ensures me { self.new.me ≡ self.old.me }
+        ensures ids { self.new.ids ≡ self.old.ids }
+        ensures known { self.new.known ≡ self.old.known }
+        ensures stranger { self.new.stranger ≡ self.old.stranger }
+    {
+        self.faults = self.faults.saturating_add(1);
+        Failed
+    }
+}
+
+/// A frame of a node comes now: what is known of the node then, and whether its answers count.
+fn hear(known: &mut [Option<Heard>; NODE_IDS], node: u8, now: u64) -> bool
+    requires all { length known.old ≡ node_ids }
+    requires node { node < node_ids }
+    ensures all { length known.new ≡ node_ids }
+    ensures heard { IsHeardAt node now known.old known.new }
+    ensures counts { result ≡ answers_count now (known_at now (known_of known.old node)) }
+{
+    let heard = heard_at(now, known[usize::from(node)]);
+    known[usize::from(node)] = Some(heard);
+    counts(now, heard)
+}
