@@ -1,40 +1,43 @@
 //! The program `allocator`: it makes the real objects of the outside, and [`run`] does the rest.
 //!
-//! The source is standard input, the sink is standard output, the clock is the system's, and the exit
-//! code is that of the status. For the words of `node` each member has its link over UDP, and its disk
-//! in the file `alloc-<id>.store`. The words of `can` are those of `node` without a base: standard
-//! input is a raw CAN socket then (`can_link`), and the links of all members are on it. Where the
-//! members are told a list of them, links are strict, a missing file is refused, and so is one without a
-//! version, as one of zeros ([`look_for_stores`]); and a process whose members ran before rests first
-//! ([`Told::rest`]). Where they are told a number, a missing file is made, and nothing rests. The words of
-//! `new` have the disks alone, in files that are made for them: where one is there already, or `run` does
-//! not come to its end, none of those that were made stays. Those of `audit` have the disks alone, in files
-//! that are there, and only read them. Where one of these cannot be opened the exit code is 12. A standard
-//! stream that is closed stays so for `run`: its descriptor never becomes that of a link or a disk. A word
-//! that is not UTF-8 is none that the program reads.
+//! The source is standard input, the sink is standard output, the clock is the system's, and the exit code is that
+//! of the status. For the words of `node` each member has its link over UDP, and its disk in the file
+//! `alloc-<id>.store`. The words of `can` are those of `node` without a base: standard input is a raw CAN socket
+//! then (`can_link`), and the links of all members are on it. Where the members are told a list of them, links are
+//! strict and listen for strangers ([`ToldLink`]), a missing file is refused, and so is one without a version, as
+//! one of zeros ([`look_for_stores`]); and a process whose members ran before rests first ([`Told::rest`]). Where
+//! they are told a number, a missing file is made, and nothing rests. The words of `new` have the disks alone, in
+//! files that are made for them: where one is there already, or `run` does not come to its end, none of those that
+//! were made stays. Those of `audit` have the disks alone, in files that are there, and only read them. Where one
+//! of these cannot be opened the exit code is 12. A standard stream that is closed stays so for `run`: its
+//! descriptor never becomes that of a link or a disk. A word that is not UTF-8 is none that the program reads.
 #![tactic(auto)]
 
-ghost use Rattle.std.specs.Prelude.{◌≤◌, length};
+ghost use Rattle.std.specs.Prelude.{◌≡◌, ◌≤◌, length, IfErr, IfOk};
 ghost use Rattle.can_frame.specs.Sizes.{most_members};
+ghost use Rattle.allocator.specs.declared.refusal.Refusal.TheVariants.{Stranger};
 
 mod opened;
 mod refusal;
+mod stranger;
 
 use crate::opened::{
-    held_streams, known_stores, link_of, made_stores, old_stores, stores_of, take_away,
+    held_streams, known_stores, link_of, listening_link, made_stores, old_stores, stores_of, take_away,
 };
 use crate::refusal::Refusal;
+use crate::stranger::write_stranger;
 use allocator_app::{Plan, Status, Told, plan, run};
 use can_link::{CanBus, CanLink, RawSocket};
 use cmd_new::write_end;
 use disk_model::FileDisk;
 use host_pace::{PacedClock, TimelyLink};
-use outside::{Link, StdClock, StdSink, StdSource};
+use outside::{Clock, Link, StdClock, StdSink, StdSource};
 use std::alloc::{AllocError, Global};
 use std::cell::{Cell, RefCell};
 use std::process::ExitCode;
 use std::time::Duration;
 use std::{env, thread};
+use told_link::ToldLink;
 use udp_link::UdpLink;
 
 /// The descriptor of the socket for the words of `can`.
@@ -109,9 +112,11 @@ fn run_over_udp(
     let mut links = Vec::new(rt.alloc());
     for id in ids {
         let link = link_of(rt, told, base, *id, ids)?;
-        links.push(TimelyLink::new(link, StdClock::new(rt), &idle))?;
+        let link = TimelyLink::new(link, StdClock::new(rt), &idle);
+        links.push(listening_link(rt, link, told, *id))?;
     }
-    run_members(rt, words, told, ids, &mut links, &idle)
+    let status = run_members(rt, words, told, ids, &mut links, &idle)?;
+    told_of_strangers(rt, status, &links)
 }
 
 /// Runs these members, with their links on the CAN bus of the socket, until the echo of a frame is late.
@@ -125,11 +130,12 @@ fn run_on_can(
     let idle = Cell::new(0);
     let bus = RefCell::new(CanBus::new(RawSocket::new(SOCKET), StdClock::new(rt)));
     let mut links = Vec::new(rt.alloc());
-    for place in 0..ids.len() {
-        let link = CanLink::new(&bus, place);
-        links.push(TimelyLink::new(link, StdClock::new(rt), &idle))?;
+    for (place, id) in ids.iter().enumerate() {
+        let link = TimelyLink::new(CanLink::new(&bus, place), StdClock::new(rt), &idle);
+        links.push(listening_link(rt, link, told, *id))?;
     }
     let status = run_members(rt, words, told, ids, &mut links, &idle)?;
+    let status = told_of_strangers(rt, status, &links)?;
     let is_late = match bus.try_borrow() {
         Ok(bus) => bus.is_late(),
         Err(_) => false,
@@ -138,6 +144,28 @@ fn run_on_can(
         Status::LinkFault(_) if is_late => Err(Refusal::LateEcho),
         _ => Ok(status),
     }
+}
+
+/// How a run over these links ended. Where a link failed since it heard a stranger, the line of that is written behind
+/// the report; whether it can be written or not, the member is not to be started again.
+fn told_of_strangers<L: Link, C: Clock>(
+    rt: &HostRuntime,
+    status: Status,
+    links: &[ToldLink<L, C>],
+) -> Result<Status, Refusal>
+    ensures status { IfOk result (λ ended. ended ≡ status) }
+    ensures stranger { IfErr result (λ refusal. refusal ≡ Stranger) }
+{
+    let Status::LinkFault(_) = status else {
+        return Ok(status);
+    };
+    for link in links {
+        if let Some(identifier) = link.stranger() {
+            let _ = write_stranger(&mut StdSink::new(rt.stdout()), link.member(), identifier);
+            return Err(Refusal::Stranger);
+        }
+    }
+    Ok(status)
 }
 
 /// Runs these members over links that are open, once their stores are open and the process has rested. Those that are

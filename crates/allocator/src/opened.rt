@@ -7,11 +7,12 @@ use crate::refusal::Refusal;
 use allocator_app::{Status, Told};
 use cmd_new::{look_for_stores, mark_new_stores};
 use disk_model::FileDisk;
-use outside::Failed;
+use outside::{Failed, Link, StdClock};
 use std::alloc::{AllocError, Global};
 use std::fs;
 use std::fs::File;
 use std::rt::Files;
+use told_link::ToldLink;
 use udp_link::UdpLink;
 
 /// The descriptors of the standard streams are those below this.
@@ -59,6 +60,20 @@ fn or_refusal(opened: Result<UdpLink, Failed>) -> Result<UdpLink, Refusal>
         Ok(link) => Ok(link),
         Err(Failed) => Err(Refusal::NotOpened),
     }
+}
+
+/// The link of a member over this one, which listens for strangers where the member is told the list of its cluster.
+pub fn listening_link<'a, L: Link>(
+    rt: &'a HostRuntime,
+    link: L,
+    told: &Told,
+    id: u8,
+) -> ToldLink<L, StdClock<&'a HostRuntime>>
+    ensures link { result.link ≡ link }
+    ensures me { result.me ≡ id }
+    ensures list { result.ids.items ≡ list_of told.now }
+{
+    ToldLink::new(link, StdClock::new(rt), id, told.list())
 }
 
 /// The stores of these members, each in its file. Where the members are told a list of them, each file is there

@@ -20,6 +20,9 @@ pub enum Refusal {
 
     /// The echo of a frame is late: it waits in the CAN interface.
     LateEcho,
+
+    /// A member that is told the list of its cluster heard a stranger.
+    Stranger,
 }
 
 impl Refusal {
@@ -30,6 +33,7 @@ impl Refusal {
             Refusal::Usage => Status::Usage.code(),
             Refusal::NotOpened => 12,
             Refusal::LateEcho => 17,
+            Refusal::Stranger => 18,
         }
     }
 }
