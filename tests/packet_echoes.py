@@ -112,7 +112,7 @@ def delayed(program: str) -> Tuple[bool, str]:
             if packet is None:
                 return False, f"it ended with {members.process.poll()}"
             identifier, data = packets.frame_of(packet)
-            members.give(packets.packet_of(identifier, bytes([data[0] ^ 1]) + data[1:]))  # the same but for one bit
+            members.give(packets.packet_of(identifier ^ 1 ^ 2, data))  # the same, of member 2
             if list(members.packets(LATE / 5)):
                 return False, "it took another frame for its echo"
             members.give(packet)
