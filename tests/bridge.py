@@ -1,11 +1,13 @@
 """The tests of tools/can_bridge. They are started by tests/bridge."""
 from __future__ import annotations
 
+import contextlib
 import errno
 import importlib.machinery
 import importlib.util
 import io
 import os
+import pathlib
 import pty
 import select
 import shutil
@@ -23,6 +25,8 @@ from contextlib import redirect_stderr
 from typing import Any, Callable
 from unittest import mock
 
+import members
+import packets
 import support
 
 from caldrouz.words import Ended
@@ -34,6 +38,7 @@ NODE_STATUS_OF_1 = 0x10015501
 OTHER = 0x10B0AA32  # a message that no allocator takes
 DATA = bytes.fromhex("0b000000000000c0")
 ERROR, RESTARTED = 0x20000000, 0x100
+PATIENCE = 60.0  # seconds: some elections on a slow machine
 
 
 def load() -> Any:
@@ -114,10 +119,11 @@ class Case(unittest.TestCase):
         self.addCleanup(self.close)
 
     def open(self, bus: Any) -> None:
+        journal = bridge.Journal(bus.counts)
         for base in range(33000, 34000, 130):
             try:
                 self.ears = {node: self.ear(base + node) for node in (*MEMBERS, 3)}
-                self.bridge = bridge.Bridge(base, bus, MEMBERS)
+                self.bridge = bridge.Bridge(bus, bridge.Ports(base, MEMBERS, journal), journal)
                 self.base = base
                 return
             except (OSError, Ended):
@@ -139,7 +145,7 @@ class Case(unittest.TestCase):
         for link in self.ears.values():
             link.close()
         if hasattr(self, "bridge"):
-            self.bridge.link.close()
+            self.bridge.members.close()
 
     def says(self, node: int, data: bytes) -> None:
         self.ears[node].sendto(data, ("127.0.0.1", self.base + 119))
@@ -300,7 +306,7 @@ class FromTheBus(Case):
         self.assertEqual((self.told(1) + self.told(2), self.counts("own")), ([], [3]))
         self.assertIn("with the node ID 1, of a member of this machine", self.errors.getvalue())
         self.assertEqual(self.errors.getvalue().count("\n"), 1)
-        self.bridge.told["own"] = time.monotonic() - 1  # a minute later
+        self.bridge.journal.told["own"] = time.monotonic() - 1  # a minute later
         self.raw.gives(can_frame(NODE_STATUS_OF_1))
         self.turn()
         self.assertEqual(self.errors.getvalue().count("\n"), 2)
@@ -312,7 +318,7 @@ class FromTheBus(Case):
         self.assertEqual((self.told(1), self.counts("to_members", "empty")), ([], [0, 1]))
 
     def test_a_member_that_cannot_be_reached_does_not_end_the_bridge(self) -> None:
-        self.bridge.link.close()
+        self.bridge.members.close()
 
         class Filtered:
             def recvmsg(self, *_: Any) -> None:
@@ -324,7 +330,7 @@ class FromTheBus(Case):
             def close(self) -> None:
                 pass
 
-        self.bridge.link = Filtered()
+        self.bridge.members.link = Filtered()
         self.raw.gives(can_frame(NODE_STATUS_OF_7))
         self.turn()
         self.assertIn(f"port {self.base + 1}: Operation not permitted", self.errors.getvalue())
@@ -361,6 +367,8 @@ class SerialLine(Case):
 
     def test_the_adapter_is_opened_with_its_rate(self) -> None:
         self.assertEqual(os.read(self.adapter, 64), b"C\rS6\rO\r")
+        bridge.Serial(os.ttyname(self.bus.line), None, settle=0)
+        self.assertEqual(os.read(self.adapter, 64), b"C\rO\r")
         with self.assertRaisesRegex(Ended, "no bit rate 300000"):
             bridge.Serial("/dev/null", 300_000, settle=0)
 
@@ -420,6 +428,260 @@ class SerialLine(Case):
             self.after()
 
 
+class Started:
+    """Stands in for a process of a member: the test has its end of the pair."""
+
+    status = 0
+
+    def __init__(self, command: list[str], stdin: socket.socket) -> None:
+        self.command = command
+        self.link = socket.socket(fileno=os.dup(stdin.fileno()))
+
+    def wait(self, _timeout: float) -> int:
+        return self.status
+
+    def terminate(self) -> None:
+        self.link.close()
+
+
+class OwnProcesses(unittest.TestCase):
+    """Members that the bridge runs, behind an adapter that the test plays: `adapter` is its end of the line."""
+
+    def setUp(self) -> None:
+        self.adapter, line = pty.openpty()
+        tty.setraw(self.adapter)
+        self.errors = io.StringIO()
+        self.old_after(60.0)
+        self.bus = bridge.Serial(os.ttyname(line), 500_000, True, settle=0)
+        os.close(line)
+        self.written(b"C\rS6\rO\r")
+        with mock.patch.object(bridge.subprocess, "Popen", Started), redirect_stderr(self.errors):
+            self.journal = bridge.Journal(self.bus.counts)
+            self.members = bridge.Processes(["./allocator"], "1,2,3", MEMBERS, self.journal)
+        self.bridge = bridge.Bridge(self.bus, self.members, self.journal)
+        self.links = {node: self.members.processes[node].link for node in MEMBERS}
+        self.addCleanup(self.members.close)
+
+    old_after = Case.old_after
+
+    def written(self, wanted: bytes) -> None:
+        """What the adapter was given, to the last byte."""
+        found = b""
+        while len(found) < len(wanted) and select.select([self.adapter], [], [], 5)[0]:
+            found += os.read(self.adapter, 64)
+        self.assertEqual(found + self.rest(), wanted)
+
+    def rest(self) -> bytes:
+        return os.read(self.adapter, 64) if select.select([self.adapter], [], [], 0.02)[0] else b""
+
+    def turn(self) -> None:
+        with redirect_stderr(self.errors):
+            self.bridge.take_from_members()
+            self.bridge.hand_on_from_bus()
+            self.bridge.give_to_bus()
+
+    def answers(self, text: bytes) -> None:
+        os.write(self.adapter, text)
+        select.select([self.bus], [], [], 5)
+        self.turn()
+
+    def heard(self, node: int) -> list[bytes]:
+        found = []
+        while select.select([self.links[node]], [], [], 0.02)[0]:
+            found.append(self.links[node].recv(64))
+        return found
+
+    def test_how_members_are_started(self) -> None:
+        words = ["./allocator", "can", "1,2,3", "1000000000"]
+        self.assertEqual([it.command for it in self.members.processes.values()], [[*words, "1"], [*words, "2"]])
+        self.assertEqual({link.type & 0xF for link in self.links.values()}, {socket.SOCK_SEQPACKET})
+        self.assertFalse(any(os.get_blocking(link.fileno()) for link in self.links.values()))
+        with mock.patch.object(bridge.subprocess, "Popen", Started):
+            alone = bridge.Processes(["./allocator"], "7,", [7], self.journal)
+        self.assertEqual(alone.processes[7].command, ["./allocator", "can", "7,", "1000000000", "7"])
+        alone.close()
+
+    def test_a_member_is_echoed_once_the_adapter_answered_and_the_other_hears_it(self) -> None:
+        for answer in (b"Z\r", b"z\r", b"\r"):
+            frame = can_frame(NODE_STATUS_OF_1, b"\x0b\xc0")
+            self.links[1].send(frame)
+            self.turn()
+            self.written(b"T1001550120BC0\r")
+            self.turn()
+            self.assertEqual((self.heard(1), self.heard(2)), ([], []))
+            self.answers(answer)
+            self.assertEqual((self.heard(1), self.heard(2)), ([frame], [frame]), answer)
+
+    def test_the_next_frame_waits_for_the_answer(self) -> None:
+        self.links[1].send(can_frame(NODE_STATUS_OF_1))
+        self.links[2].send(can_frame(NODE_STATUS_OF_1 + 1))
+        self.turn()
+        first = b"T1001550180B000000000000C0\r"
+        self.written(first)
+        self.turn()
+        self.assertEqual(self.rest(), b"")
+        self.answers(b"Z\r")
+        self.written(first.replace(b"5501", b"5502"))
+
+    def test_the_echo_stands_before_what_came_after_the_answer(self) -> None:
+        self.links[1].send(can_frame(NODE_STATUS_OF_1))
+        self.turn()
+        line = b"T%08X8%s\r"
+        before, after = NODE_STATUS_OF_7, NODE_STATUS_OF_7 + 1
+        self.answers(line % (before, DATA.hex().encode()) + b"Z\r" + line % (after, DATA.hex().encode()))
+        self.assertEqual(self.heard(1), list(map(can_frame, (before, NODE_STATUS_OF_1, after))))
+
+    def test_an_adapter_without_room_is_asked_again(self) -> None:
+        self.links[1].send(can_frame(NODE_STATUS_OF_1, b"\x0b\xc0"))
+        self.turn()
+        self.written(b"T1001550120BC0\r")
+        self.answers(b"\a\r")
+        self.written(b"T1001550120BC0\r")
+        self.assertEqual(self.heard(1), [])
+        self.answers(b"Z\r")
+        self.assertEqual((len(self.heard(1)), self.bridge.counts["refused"]), (1, 1))
+
+    def test_an_answer_to_nothing_is_none(self) -> None:
+        self.answers(b"Z\r\a\r")
+        self.links[1].send(can_frame(NODE_STATUS_OF_1))
+        self.turn()
+        self.turn()
+        self.assertEqual(self.heard(1), [])
+
+    def test_an_answer_that_is_withheld_ends_all(self) -> None:
+        self.links[1].send(can_frame(NODE_STATUS_OF_1, b"\x0b\xc0"))
+        self.turn()
+        self.written(b"T1001550120BC0\r")
+        self.links[2].send(can_frame(NODE_STATUS_OF_1 + 1))
+        self.old_after(0.0)
+        with self.assertRaisesRegex(Ended, "answered no frame") as raised:
+            self.turn()
+        self.assertEqual(raised.exception.status, 17)
+        self.bus.close()
+        self.written(b"\rC\r")
+        self.assertEqual(self.heard(1), [])
+
+    def test_a_mute_adapter_counts_as_one_that_took_it(self) -> None:
+        self.bus.answers = False
+        self.links[1].send(can_frame(NODE_STATUS_OF_1))
+        self.turn()
+        self.assertEqual((len(self.heard(1)), len(self.heard(2))), (1, 1))
+
+    def test_a_frame_of_the_bus_goes_to_each(self) -> None:
+        self.answers(b"T%08X8%s\r" % (NODE_STATUS_OF_7, DATA.hex().encode()))
+        self.assertEqual((self.heard(1), self.heard(2)), ([can_frame(NODE_STATUS_OF_7)],) * 2)
+        self.answers(b"T%08X8%s\r" % (OTHER, DATA.hex().encode()))
+        self.assertEqual(self.heard(1), [])
+
+    def test_members_hear_another_node_with_their_id_and_not_an_echo_of_the_adapter(self) -> None:
+        line = b"T%08X8%s\r" % (NODE_STATUS_OF_1, DATA.hex().encode())
+        self.answers(line)
+        self.assertEqual((len(self.heard(1)), len(self.heard(2))), (1, 1))
+        self.assertIn("with the node ID 1, of a member of this machine", self.errors.getvalue())
+        self.links[1].send(can_frame(NODE_STATUS_OF_1))
+        self.turn()
+        self.answers(b"Z\r" + line)
+        self.assertEqual((len(self.heard(1)), self.bridge.counts["own"]), (1, 2))
+
+    def test_a_member_speaks_for_itself_alone(self) -> None:
+        self.links[1].send(can_frame(NODE_STATUS_OF_1 + 1))
+        self.links[1].send(b"no frame")
+        self.turn()
+        self.assertEqual((self.rest(), self.bridge.counts["stranger"], self.bridge.counts["junk"]), (b"", 1, 1))
+
+    def test_a_frame_that_waited_is_dropped(self) -> None:
+        """The pair was last seen empty longer ago than a frame may wait."""
+        self.old_after(LONGEST_WAIT)
+        self.members.was_empty[1] = time.monotonic() - 0.6
+        self.links[1].send(can_frame(NODE_STATUS_OF_1))
+        self.turn()
+        self.assertEqual((self.rest(), self.bridge.counts["too_old"]), (b"", 1))
+
+    def test_a_member_that_ends_ends_the_bridge_with_its_status(self) -> None:
+        for status, wanted in ((11, 11), (-9, 1)):
+            self.members.processes[2].status = status
+            self.links[2].close()
+            with self.assertRaisesRegex(Ended, f"member 2 ended with {status}, so all end") as raised:
+                self.turn()
+            self.assertEqual(raised.exception.status, wanted)
+
+    def test_a_member_that_reads_nothing_is_named(self) -> None:
+        with redirect_stderr(self.errors):
+            for _ in range(2000):
+                self.members.hand_on(bridge.Frame(NODE_STATUS_OF_7, DATA))
+        self.assertEqual(self.errors.getvalue().count("reads nothing"), 1)
+
+
+class Vehicle(unittest.TestCase):
+    """The bridge and the program as processes, behind an adapter that the test plays on a bus of its own."""
+
+    def setUp(self) -> None:
+        members.need_program(self)
+        room = tempfile.TemporaryDirectory()
+        self.addCleanup(room.cleanup)
+        self.adapter, line = pty.openpty()
+        tty.setraw(self.adapter)
+        subprocess.run([members.program(), "new", "1", "2"], cwd=room.name, check=True, stdout=subprocess.DEVNULL)
+        words = [BRIDGE, os.ttyname(line), "--members", "1,2", "1", "2", "--", members.program()]
+        self.running = subprocess.Popen(words, cwd=room.name, stdout=subprocess.DEVNULL, stderr=subprocess.DEVNULL)
+        self.addCleanup(os.close, line)
+        self.addCleanup(self.running.wait)
+        self.addCleanup(self.running.terminate)
+        self.frames: list[bytes] = []  # of members, as the adapter was told them
+        self.begun, self.acknowledges = b"", True
+
+    def turn(self, device: packets.Device) -> bytes:
+        """Plays the adapter for a while: each frame of a member is answered, and heard by the device. What is no frame
+        is the answer."""
+        other = b""
+        if select.select([self.adapter], [], [], 0.01)[0]:
+            *lines, self.begun = (self.begun + os.read(self.adapter, 4096)).split(b"\r")
+            for line in lines:
+                match = bridge.SLCAN_FRAME.fullmatch(line)
+                if match is None:
+                    other += line + b"\r"
+                    continue
+                self.frames.append(line)
+                if self.acknowledges:
+                    os.write(self.adapter, b"Z\r")
+                    device.hears(packets.packet_of(int(match[1], 16), bytes.fromhex(match[3].decode())))
+        request = device.request()
+        if request is not None:
+            identifier, data = packets.frame_of(request)
+            os.write(self.adapter, b"T%08X%d%s\r" % (identifier, len(data), data.hex().encode()))
+        return other
+
+    def children(self) -> list[int]:
+        listed = subprocess.run(["ps", "-o", "pid=", "--ppid", str(self.running.pid)], capture_output=True, text=True)
+        return [int(word) for word in listed.stdout.split()]
+
+    def test_two_members_serve_a_device_have_no_port_and_end_where_no_frame_is_answered(self) -> None:
+        device, end = packets.Device(1), time.monotonic() + PATIENCE
+        while device.node is None and time.monotonic() < end:
+            self.turn(device)
+        self.assertEqual(device.node, 125)
+        for process in (self.running.pid, *self.children()):
+            self.assertEqual(ports_of(process), [])
+        self.acknowledges, other, before = False, b"", len(self.frames)
+        end = time.monotonic() + PATIENCE
+        while self.running.poll() is None and time.monotonic() < end:
+            other += self.turn(device)
+        self.assertEqual((self.running.returncode, len(self.frames) - before), (17, 1))
+        self.assertEqual((other + self.turn(device))[-2:], b"C\r")
+        self.assertEqual(self.children(), [])
+
+
+def ports_of(process: int) -> list[str]:
+    """The sockets of a process that another one could send to over a network."""
+    found = []
+    for kind in ("udp", "udp6", "tcp", "tcp6", "raw", "raw6"):
+        with contextlib.suppress(FileNotFoundError):
+            lines = pathlib.Path(f"/proc/{process}/net/{kind}").read_text().splitlines()[1:]
+            of_process = {os.readlink(path) for path in pathlib.Path(f"/proc/{process}/fd").iterdir()}
+            found += [line for line in lines if f"socket:[{line.split()[9]}]" in of_process]
+    return found
+
+
 class AdapterOfPythonCan(Case):
     def setUp(self) -> None:
         if importlib.util.find_spec("can") is None:
@@ -450,11 +712,16 @@ class Words(unittest.TestCase):
 
     def test_wrong_words_are_2(self) -> None:
         for words in (["1023", "can0", "1"], ["5000", "can0", "119"], ["5000", "can0", "0"], ["5000", "can0"],
-                      ["5000", "can0", *map(str, range(1, 7))], ["5000", "can0", "1", "--bitrate", "fast"]):
+                      ["5000", "can0", *map(str, range(1, 7))], ["5000", "can0", "1", "--bitrate", "fast"],
+                      ["5000", "can0", "1", "--", "true"], ["can0", "--members", "1,2,3", "1"],
+                      ["can0", "--members", "1,2,3", "4", "--", "true"], ["can0", "--members", "1,2,3", "--", "true"],
+                      ["can0", "--members", "3", "3", "--", "true"]):
             self.assertEqual(self.ended(*words)[0], 2, words)
 
     def test_an_adapter_that_is_not_there_is_1(self) -> None:
         status, said = self.ended("33000", "/dev/no-adapter", "1", "--interface", "slcan")
+        self.assertEqual((status, said), (1, "can_bridge: /dev/no-adapter: No such file or directory\n"))
+        status, said = self.ended("/dev/no-adapter", "--members", "1,2,3", "1", "--", "true")
         self.assertEqual((status, said), (1, "can_bridge: /dev/no-adapter: No such file or directory\n"))
         status, said = self.ended("33000", "no-interface", "1")
         self.assertEqual((status, said.split(":")[:2]), (1, ["can_bridge", " no-interface"]))

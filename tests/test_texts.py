@@ -78,7 +78,8 @@ class Tables(unittest.TestCase):
 
     def test_units_start_a_member_again_as_the_table_says(self) -> None:
         ended = sorted({int(row["code"]) for row in table("exits") if row["again"] == "no"})
-        for name in ("caldrouz-node@.service", "caldrouz-can-node@.service"):
+        for unit in ("node", "can-node", "serial"):
+            name = f"caldrouz-{unit}@.service"
             found = re.search(r"^RestartPreventExitStatus=(.*)$", read(ROOT / "packaging" / name), re.M)
             assert found is not None, name
             self.assertEqual(list(map(int, found[1].split())), ended, name)
