@@ -26,8 +26,9 @@
  *
  * Store. A node keeps its vote and its list in CALDROUZ_STORE_BYTES bytes behind a descriptor. The library calls
  *   pread(), pwrite() and fdatasync() on it: those of POSIX, or the caller's own (examples/c/array_store.c and
- *   examples/c/fram_store.c). A new store is all zeros. What was written before fdatasync() answered 0 has to survive a
- *   loss of power. A store belongs to one member for ever: it is never deleted, copied or put back.
+ *   examples/c/fram_store.c). What was written before fdatasync() answered 0 has to survive a loss of power. A store
+ *   belongs to one member for ever: it is never deleted, copied or put back. It is made once, by caldrouz_new_store(),
+ *   and looked at before each opening, by caldrouz_find_store().
  */
 #ifndef CALDROUZ_H
 #define CALDROUZ_H
@@ -207,6 +208,56 @@ static inline caldrouz_entry caldrouz_entry_at(caldrouz *node, uint8_t place) {
         entry.unique_id[8 + i] = (uint8_t)(back >> (8 * i));
     }
     return entry;
+}
+
+/* ---- Stores ----
+ *
+ * The library opens zeros as an empty store, and zeros are how a lost block reads. So the caller looks before:
+ *
+ *     caldrouz_new_store(image);            // once in the life of the member; then all bytes are written, and synced
+ *
+ *     switch (caldrouz_find_store(image)) { // at each start, of the bytes of the store
+ *     case CALDROUZ_NO_STORE: do not open it; the member is replaced, as a machine
+ *     case CALDROUZ_NEW_STORE: write CALDROUZ_MARK at CALDROUZ_MARK_PLACE, sync it, and open it
+ *     case CALDROUZ_USED_STORE: rest for longer than a frame is on its way, and open it
+ *     }
+ */
+enum caldrouz_found {
+    CALDROUZ_NO_STORE = 0,  /* it has no version: none was made, or the block was lost that has it */
+    CALDROUZ_NEW_STORE = 1, /* what caldrouz_new_store() makes: no member ran with it */
+    CALDROUZ_USED_STORE = 2 /* a member ran with it, or it is damaged, as its opening tells */
+};
+
+/* Two bytes that say that a member ran with a store which it found new, and where they stand. They change nothing else:
+ * a member may run and store nothing, and its next one has to rest. */
+#define CALDROUZ_MARK_PLACE 1
+#define CALDROUZ_MARK {1, 2}
+
+/* The byte of a new store at a place below CALDROUZ_STORE_BYTES: the version 2 in copy B of its key, and no more. */
+static inline uint8_t caldrouz_new_byte(size_t place) {
+    return place == 0 || place == 34 ? 1 : place == 35 ? 2 : 0;
+}
+
+/* Makes the image of a new store, as `allocator new` does, in the CALDROUZ_STORE_BYTES bytes at `image`. */
+static inline void caldrouz_new_store(uint8_t *image) {
+    size_t place;
+    for (place = 0; place < CALDROUZ_STORE_BYTES; place++) {
+        image[place] = caldrouz_new_byte(place);
+    }
+}
+
+/* What the CALDROUZ_STORE_BYTES bytes of a store are. */
+static inline enum caldrouz_found caldrouz_find_store(const uint8_t *image) {
+    size_t place;
+    if (image[image[0] % 2 == 0 ? 1 : 34] == 0) {
+        return CALDROUZ_NO_STORE;
+    }
+    for (place = 0; place < CALDROUZ_STORE_BYTES; place++) {
+        if (image[place] != caldrouz_new_byte(place)) {
+            return CALDROUZ_USED_STORE;
+        }
+    }
+    return CALDROUZ_NEW_STORE;
 }
 
 /* ---- Ages of frames ----

@@ -26,7 +26,9 @@ SANITIZED = ["-g", "-O1", "-fsanitize=address,undefined", "-fno-sanitize-recover
 SIX_FUNCTIONS = {"pread", "pwrite", "fdatasync", "memcpy", "memmove", "memset"}
 MEMBERS = (1, 2, 3)
 STORE_BYTES = 8844
-NOT_OPENED, LATE_ECHO = 12, 17
+NEW_STORE = b"\1" + bytes(33) + b"\1\2" + bytes(STORE_BYTES - 36)  # as `allocator new` makes it
+USED_STORE = b"\1\1\2" + NEW_STORE[3:]  # the same, once a member ran with it
+NOT_OPENED, STORE_FAILED, LATE_ECHO = 12, 14, 17
 REST = 5.5  # seconds of a member whose store is not new
 PATIENCE = 30  # seconds that a device waits: a rest, and some elections
 C_EXAMPLES = EXAMPLES / "c"
@@ -204,10 +206,38 @@ class Start(unittest.TestCase):
                 ended = Ended(words, pass_fds=[theirs.fileno()], timeout=PATIENCE)
                 self.assertEqual((ended.status, store.exists()), (NOT_OPENED, False), bus)
         self.assertEqual(Ended([self.program, "new", store]).status, 0)
-        self.assertEqual(store.read_bytes(), bytes(STORE_BYTES))
+        self.assertEqual(store.read_bytes(), NEW_STORE)
         store.write_bytes(b"1" * STORE_BYTES)
         self.assertEqual(Ended([self.program, "new", store]).status, NOT_OPENED)
         self.assertEqual(store.read_bytes(), b"1" * STORE_BYTES)
+
+    def test_a_store_without_a_version_is_refused(self) -> None:
+        """Zeros, and a used store that lost its first block or sector."""
+        folder = pathlib.Path(tempfile.mkdtemp(dir=Place.folder))
+        store = folder / "alloc-1.store"
+        ours, theirs = socket.socketpair(socket.AF_UNIX, socket.SOCK_SEQPACKET)
+        with ours, theirs:
+            for image in (bytes(STORE_BYTES), bytes(512) + b"\1" * (STORE_BYTES - 512)):
+                store.write_bytes(image)
+                words = [self.program, f"fd:{theirs.fileno()}", "1", "1,", store]
+                ended = Ended(words, pass_fds=[theirs.fileno()], timeout=PATIENCE)
+                self.assertEqual((ended.status, store.read_bytes()), (STORE_FAILED, image), ended.errors)
+                self.assertIn("no version", ended.errors)
+
+    def test_a_member_that_stored_nothing_marks_its_store(self) -> None:
+        """One of three, whom nobody calls, puts nothing in the 2 s before its first election; its next one rests."""
+        folder = pathlib.Path(tempfile.mkdtemp(dir=Place.folder))
+        store = folder / "alloc-1.store"
+        store.write_bytes(NEW_STORE)
+        bus = packets.Bus(
+            str(folder), lambda _, descriptor: [self.program, f"fd:{descriptor}", "1", "1,2,3", "alloc-1.store"]
+        )
+        bus.start(1)
+        end = time.monotonic() + PATIENCE
+        while bus.frames == 0 and time.monotonic() < end:
+            bus.turn()
+        bus.kill(1)
+        self.assertEqual(store.read_bytes(), USED_STORE)
 
     def test_it_rests_where_its_store_is_not_new(self) -> None:
         """A lone member speaks at once at its first start, and after 5.5 s at its second."""

@@ -5,13 +5,14 @@
  *
  * STORE is a file of 8,844 bytes, as that of `allocator node`. The first form makes it, and fails where it is there
  * already. The second one runs the allocator, and fails where the store is missing: a member that forgot what it told
- * others would break the promise. MEMBERS are the node IDs of all members, as 1,2,3, the same on each of them. Where the
- * store is not new, a member ran before, and the program rests for 5.5 s before its first turn. SIGTERM or SIGINT ends
- * the program, which then writes its list to standard error.
+ * others would break the promise. So it refuses zeros, as which a lost block reads. MEMBERS are the node IDs of all
+ * members, as 1,2,3, the same on each of them. Where the store is not new, a member ran before, and the program rests
+ * for 5.5 s before its first turn. SIGTERM or SIGINT ends the program, which then writes its list to standard error.
  *
  * The status is 0; 1 for wrong words; 12 where the socket or the store cannot be opened, or the store cannot be made; 13
- * where the socket failed; 14 where the store failed or is damaged; 17 where the echo of a frame was half a second late:
- * nobody acknowledged it, and it waits in the interface. Take that down, and up again, before the next start.
+ * where the socket failed; 14 where the store failed, is damaged, or reads as zeros; 17 where the echo of a frame was
+ * half a second late: nobody acknowledged it, and it waits in the interface. Take that down, and up again, before the
+ * next start.
  *
  * INTERFACE may be fd:N, a socket of packets that is open already and gives each packet back to its sender, for tests.
  */
@@ -118,16 +119,16 @@ static int open_folder(const char *path) {
     return open(name, O_RDONLY | O_DIRECTORY | O_CLOEXEC);
 }
 
-/* A new store: all zeros, synced, and its name in the folder too. Answers 0, or -1 where it is there already or cannot
- * be made. */
+/* A new store, synced, and its name in the folder too. Answers 0, or -1 where it is there already or cannot be made. */
 static int make_store(const char *path) {
-    static const char zeros[CALDROUZ_STORE_BYTES];
+    static uint8_t image[CALDROUZ_STORE_BYTES];
     const int folder = open_folder(path);
-    const int fd = folder < 0 ? -1 : open(path, O_RDWR | O_CREAT | O_EXCL | O_CLOEXEC, 0644);
+    const int fd = folder < 0 ? -1 : open(path, O_RDWR | O_CREAT | O_EXCL | O_CLOEXEC, 0600);
     if (fd < 0) {
         return -1;
     }
-    if (pwrite(fd, zeros, sizeof zeros, 0) != (ssize_t)sizeof zeros || fsync(fd) != 0 || fsync(folder) != 0) {
+    caldrouz_new_store(image);
+    if (pwrite(fd, image, sizeof image, 0) != (ssize_t)sizeof image || fsync(fd) != 0 || fsync(folder) != 0) {
         unlink(path);
         return -1;
     }
@@ -145,19 +146,20 @@ static int open_store(const char *path) {
     return fd;
 }
 
-/* Whether a member ran with this store: what cannot be read is taken for that, and is told at its opening. */
-static int ran_before(int store) {
-    static char bytes[CALDROUZ_STORE_BYTES];
-    unsigned i;
-    if (pread(store, bytes, sizeof bytes, 0) != (ssize_t)sizeof bytes) {
-        return 1;
+/* What a store is. One that cannot be read counts as used: that is told at its opening. */
+static enum caldrouz_found find_store(int store) {
+    static uint8_t image[CALDROUZ_STORE_BYTES];
+    if (pread(store, image, sizeof image, 0) != (ssize_t)sizeof image) {
+        return CALDROUZ_USED_STORE;
     }
-    for (i = 0; i < sizeof bytes; i++) {
-        if (bytes[i] != 0) {
-            return 1;
-        }
-    }
-    return 0;
+    return caldrouz_find_store(image);
+}
+
+/* Marks a store that is new as used, before a member runs with it. Answers 0, or -1. */
+static int mark_store(int store) {
+    static const uint8_t mark[] = CALDROUZ_MARK;
+    const ssize_t size = (ssize_t)sizeof mark;
+    return pwrite(store, mark, sizeof mark, CALDROUZ_MARK_PLACE) == size && fdatasync(store) == 0 ? 0 : -1;
 }
 
 /* Rests so many milliseconds, or until a signal. What comes meanwhile waits in the socket, and is too old afterwards. */
@@ -276,6 +278,7 @@ int main(int count, char **words) {
     uint8_t members[MOST_MEMBERS];
     unsigned size;
     uint32_t status;
+    enum caldrouz_found found;
     int store;
     if (count == 3 && strcmp(words[1], "new") == 0) {
         if (make_store(words[2]) != 0) {
@@ -299,7 +302,12 @@ int main(int count, char **words) {
     }
     caldrouz_ages_empty(&bus.ages, now_ms());
     bus.turn = now_ms();
-    if (ran_before(store)) {
+    found = find_store(store);
+    if (found == CALDROUZ_NO_STORE || (found == CALDROUZ_NEW_STORE && mark_store(store) != 0)) {
+        fprintf(stderr, "%s has no version, as where its first block was lost, or cannot be written\n", words[4]);
+        return STORE_FAILED;
+    }
+    if (found == CALDROUZ_USED_STORE) {
         rest(REST);
         if (is_ended) {
             return 0;
