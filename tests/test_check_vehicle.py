@@ -1,16 +1,19 @@
 """Tests of tools/check_vehicle: what a machine, a bus and a log tell of what the promise assumes."""
 from __future__ import annotations
 
+import itertools
 import os
 import pathlib
 import tempfile
+import time
 import unittest
-from typing import Dict, List
+from typing import Dict, List, Tuple
+from unittest import mock
 
 import images
 from support import EXAMPLES, TESTS, Ended, run_tool, write_lines
 
-from caldrouz import logs, machine, stores, timing
+from caldrouz import lists, logs, machine, stores, timing, wire
 
 MOUNTS = r"""21 1 254:0 / / rw,relatime - ext4 /dev/vda rw
 22 21 0:21 / /proc rw - proc proc rw
@@ -55,6 +58,93 @@ class Disks(unittest.TestCase):
             said = check("--stores", folder)
         self.assertEqual(said.status, 1)
         self.assertRegex(said.written, r"A9 +NOT SO: .*damaged at key 0")
+
+    def test_a_store_without_a_version_is_told(self) -> None:
+        with tempfile.TemporaryDirectory(dir=TESTS) as folder:
+            (pathlib.Path(folder) / "alloc-1.store").write_bytes(bytes(8844))
+            said = check("--stores", folder)
+        self.assertEqual(said.status, 1)
+        self.assertRegex(said.written, r"A9 +NOT SO: .*alloc-1.store: it has no version")
+
+
+class Clocks(unittest.TestCase):
+    """The clock of the members, while a daemon slews it by 8 %, and while none does."""
+
+    def error(self, rate: float) -> Tuple[float, float]:
+        now = itertools.count(100.0, 0.5)
+        raw: Dict[str, float] = {}
+
+        def clock(number: int) -> float:
+            if number == time.CLOCK_MONOTONIC_RAW:
+                return raw["last"]
+            raw["last"] = next(now)
+            return 5.0 + rate * raw["last"]
+
+        with mock.patch.object(machine.time, "clock_gettime", clock), mock.patch.object(machine.time, "sleep") as slept:
+            found = machine.Clocks().error(3.0)
+            slept.assert_called_once_with(2.5)
+        return found
+
+    def test_a_slewed_clock_is_found(self) -> None:
+        for rate in (1.08, 1.0, 0.92):
+            error, seconds = self.error(rate)
+            self.assertAlmostEqual(error, rate - 1)
+            self.assertAlmostEqual(seconds, 1.0)
+
+    def test_that_of_this_machine_is_told(self) -> None:
+        self.assertRegex(check().written, r"A10 +(ok|NOT SO): +the clock of the members goes [+-]\d+\.\d\d % wrong now")
+
+
+class Lists(unittest.TestCase):
+    """Whom members call, in a log of 3 s, and what is said of the lists 1, 2, 3."""
+
+    def said(self, calls: Dict[int, List[int]], answerer: int = 0, members: Tuple[int, ...] = (1, 2, 3)) -> List[str]:
+        told = lists.Lists()
+        for at in range(30):
+            for caller, called in calls.items():
+                for node in called:
+                    told.take(at / 10, wire.Frame(wire.identifier_of(caller, "appq", node), bytes(8)))
+            if answerer:
+                told.take(at / 10, wire.Frame(wire.identifier_of(answerer, "alloc"), bytes(8)))
+        return told.wrong(members)
+
+    def test_one_list(self) -> None:
+        self.assertEqual(self.said({1: [2, 3]}, 1), [])
+        self.assertEqual(self.said({1: [2, 3], 2: [1, 3]}), [])
+        self.assertEqual(self.said({1: [2, 3], 2: [1, 3]}, members=()), [])
+        self.assertEqual(self.said({}, 7, members=(7,)), [])
+
+    def test_another_list(self) -> None:
+        self.assertEqual(
+            self.said({3: [1, 4]}), ["member 3 calls 4, and the list is 1, 2, 3: it was told another one"]
+        )
+        self.assertEqual(self.said({3: [1]}), ["member 3 calls 1 alone, and the list is 1, 2, 3"])
+        self.assertEqual(self.said({2: [1, 3], 1: [2]}, members=()), ["member 1 calls 2 alone, and the list is 1, 2, 3"])
+
+    def test_a_list_with_one_member(self) -> None:
+        self.assertEqual(
+            self.said({2: [1, 3]}, 1), ["member 1 answers devices, and calls no other member: its list is another one"]
+        )
+
+    def test_what_a_log_shows(self) -> None:
+        log = EXAMPLES / "a_real_bus/log"
+        self.assertRegex(check("--log", log, "--members", "1,2,3").written, r"A3 +ok: +whom members 1.* call is the list")
+        said = check("--log", log, "--members", "1,2,3,4")
+        self.assertRegex(said.written, r"A3 +NOT SO: +member 1 calls 2, 3 alone, and the list is 1, 2, 3, 4")
+        self.assertRegex(said.written, r"A3 +not tested: +the list of .*4, which called nobody")
+
+
+class Waits(unittest.TestCase):
+    def test_waits_that_end_together(self) -> None:
+        """Members 15, 50 and 65 apart often wait as long as each other."""
+        self.assertEqual([lists.first_wait(node) for node in (1, 2, 3, 8, 23)], [2584, 3294, 3562, 2670, 2668])
+        said = check("--members", "8,23,1")
+        self.assertEqual(said.status, 1)
+        self.assertRegex(said.written, r"calm NOT SO: +the first waits of members 8 and 23 end within 2 ms")
+        self.assertRegex(check("--members", "1,2,3").written, r"calm ok: +no first waits of two members end together")
+
+    def test_beginning_anew_is_left_to_a_person(self) -> None:
+        self.assertRegex(check().written, r"A8 +that where all stores are made anew nobody starts before .* for 6 s")
 
 
 class Processes(unittest.TestCase):

@@ -31,7 +31,7 @@ NAMES = (
     "unidentified-node second-server log-full ids-full crossed-requests never-goes-on unheard-answer unanswered "
     "wrong-address one-id-twice one-unique-id"
 ).split()
-WARNINGS = "deaf-member many-blanks log-nearly-full".split()
+WARNINGS = "deaf-member many-blanks log-nearly-full lost-store".split()
 
 
 class RecordedCauses(unittest.TestCase):
@@ -279,6 +279,18 @@ class WhatIsHeard(unittest.TestCase):
 
 
 class Images(unittest.TestCase):
+    def test_a_store_without_a_version_is_named(self) -> None:
+        """Its first sector reads as zeros: the log of the rest is still there, and reads as none."""
+        image = images.image(stores.Store(2, 7, 3, 1, [wire.Entry(7, ONE, 42, 1)]))
+        with tempfile.TemporaryDirectory() as folder:
+            path = pathlib.Path(folder) / "alloc-1.store"
+            for lost in (512, len(image)):
+                path.write_bytes(bytes(lost) + image[lost:])
+                said = why(EXAMPLES / "a_real_bus/log", "--store", path)
+                self.assertIn("warning: lost-store: alloc-1.store: it has no version", said.written)
+            path.write_bytes(image)
+            self.assertNotIn("lost-store", why(EXAMPLES / "a_real_bus/log", "--store", path).written)
+
     def test_an_image_reads_as_its_store(self) -> None:
         store = stores.Store(2, 7, 3, 1, [wire.Entry(5, ONE, 42, 1), wire.Entry(7, wire.NO_UNIQUE_ID, 0, 4)])
         self.assertEqual(stores.read_image(images.image(store)), store)

@@ -12,7 +12,7 @@ from typing import Dict, Iterable, Iterator, List, NamedTuple, Sequence, Set, Tu
 
 from . import table, wire
 from .scene import Answer, Lead, Listing, Scene
-from .stores import MANY_BLANKS, Store
+from .stores import MANY_BLANKS, NO_VERSION, Store
 
 RECENT = 10.0  # seconds before the end in which what is told as going on has to be heard
 SEARCHES = 2.5  # seconds after which a member that still searched would have told so again
@@ -38,7 +38,7 @@ def find(scene: Scene, stores: Sequence[NamedStore] = ()) -> List[Cause]:
     """The causes that can be seen, those that stop everybody first."""
     if not scene.frames:
         return [_silence()]
-    makers = _lists, _second_server, _room, _majority, _unidentified, _doubles, _addresses, _devices
+    makers = _lists, _second_server, _room, _lost, _majority, _unidentified, _doubles, _addresses, _devices
     found = [cause for maker in makers for cause in maker(scene, stores)]
     return found or list(_unanswered_device(scene))
 
@@ -203,6 +203,17 @@ def _room(scene: Scene, stores: Sequence[NamedStore]) -> Iterator[Cause]:
             "plan to begin anew with the same IDs",
             stops=False,
         )
+
+
+def _lost(_: Scene, stores: Sequence[NamedStore]) -> Iterator[Cause]:
+    for name, store in stores:
+        if not store.version:
+            yield Cause(
+                "lost-store",
+                f"{name}: {NO_VERSION}",
+                "replace it, as that of a machine; one that was just made by an older program is made anew",
+                stops=False,
+            )
 
 
 def _majority(scene: Scene, _: Sequence[NamedStore]) -> Iterator[Cause]:

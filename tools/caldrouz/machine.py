@@ -3,7 +3,7 @@
     machine.disk_of(path)                 # a Disk: the kind of its file system, where it is mounted, with which options
     machine.members_running()             # the processes that run members
     machine.interface("can0")             # an Interface, or None where `ip` cannot tell
-    machine.clock_error(1.0)              # by which part of itself the clock of the members goes too fast now
+    machine.Clocks().error(1.0)           # by which part of itself the clock of the members goes too fast now
     machine.slept()                       # seconds for which the machine was suspended since its start
 """
 from __future__ import annotations
@@ -13,7 +13,7 @@ import os
 import re
 import subprocess
 import time
-from typing import Dict, List, NamedTuple, Optional
+from typing import Dict, List, NamedTuple, Optional, Tuple
 
 from . import buses
 
@@ -143,14 +143,22 @@ def _number(value: object) -> Optional[int]:
     return value if isinstance(value, int) else None
 
 
-def clock_error(seconds: float) -> float:
-    """By how much the clock of the members goes faster than the hardware's, measured for so many seconds: 0.01 where it
-    goes 1 % too fast. A daemon that sets the time may slew it."""
-    clocks = time.CLOCK_MONOTONIC, time.CLOCK_MONOTONIC_RAW
-    before = [time.clock_gettime(clock) for clock in clocks]
-    time.sleep(seconds)
-    passed, truly = (time.clock_gettime(clock) - then for clock, then in zip(clocks, before))
-    return passed / truly - 1
+class Clocks:
+    """The clock of the members beside the hardware's, from here on. A daemon that sets the time may slew it."""
+
+    def __init__(self) -> None:
+        self._begun = self._read()
+
+    @staticmethod
+    def _read() -> List[float]:
+        return [time.clock_gettime(clock) for clock in (time.CLOCK_MONOTONIC, time.CLOCK_MONOTONIC_RAW)]
+
+    def error(self, least: float) -> Tuple[float, float]:
+        """By which part of itself it went too fast, as 0.01 where it is 1 %, and for how many seconds it was looked at:
+        so many at the least, which are waited for."""
+        time.sleep(max(0.0, least - (self._read()[1] - self._begun[1])))
+        passed, truly = (now - then for now, then in zip(self._read(), self._begun))
+        return passed / truly - 1, truly
 
 
 def slept() -> float:

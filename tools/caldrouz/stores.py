@@ -13,6 +13,7 @@ from . import table, wire
 
 ORIGINS = "from a leader", "by the exchange", "by GetNodeInfo", "a reservation", "its own as leader"
 TRIES = 10
+NO_VERSION = "it has no version, as where its first block was lost: a member that is told its list ends with 11"
 MANY_BLANKS = 16  # more are no accident: a bus that is bad for minutes adds a few
 _NAME = re.compile(r"alloc-([1-9][0-9]{0,2})\.store")
 

@@ -88,6 +88,7 @@ CAUSES: Dict[str, str] = {
     "deaf-member": "a warning: a member does not answer, and the cluster bears no further loss",
     "many-blanks": "a warning: 16 blanks or more in the log. Each is a place for good",
     "log-nearly-full": "a warning: 8 places or IDs are left: \"A full log\", before it is",
+    "lost-store": "a warning: a store without a version (needs --store): its first block was lost",
 }
 
 
