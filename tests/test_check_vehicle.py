@@ -119,7 +119,8 @@ class Lists(unittest.TestCase):
             self.said({3: [1, 4]}), ["member 3 calls 4, and the list is 1, 2, 3: it was told another one"]
         )
         self.assertEqual(self.said({3: [1]}), ["member 3 calls 1 alone, and the list is 1, 2, 3"])
-        self.assertEqual(self.said({2: [1, 3], 1: [2]}, members=()), ["member 1 calls 2 alone, and the list is 1, 2, 3"])
+        alone = "member 1 calls 2 alone, and the list is 1, 2, 3"
+        self.assertEqual(self.said({2: [1, 3], 1: [2]}, members=()), [alone])
 
     def test_a_list_with_one_member(self) -> None:
         self.assertEqual(
@@ -128,10 +129,11 @@ class Lists(unittest.TestCase):
 
     def test_what_a_log_shows(self) -> None:
         log = EXAMPLES / "a_real_bus/log"
-        self.assertRegex(check("--log", log, "--members", "1,2,3").written, r"A3 +ok: +whom members 1.* call is the list")
+        said = check("--log", log, "--members", "1,2,3")
+        self.assertRegex(said.written, r"A3 +ok: +whom members 1.* call is the list")
         said = check("--log", log, "--members", "1,2,3,4")
         self.assertRegex(said.written, r"A3 +NOT SO: +member 1 calls 2, 3 alone, and the list is 1, 2, 3, 4")
-        self.assertRegex(said.written, r"A3 +not tested: +the list of .*4, which called nobody")
+        self.assertRegex(said.written, r"A3 +not tested: +the list of .*4, who called nobody")
 
 
 class Waits(unittest.TestCase):

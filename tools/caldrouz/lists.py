@@ -2,7 +2,7 @@
 
     lists = lists.Lists()
     lists.take(12.5, frame)               # at a moment in seconds
-    lists.wrong([1, 2, 3])                # in words, whose list is another one; without members their lists are compared
+    lists.wrong([1, 2, 3])                # in words, whose list is another one; without members they are compared
     lists.unseen([1, 2, 3])               # the members whose list did not show itself
     lists.together([8, 23])               # pairs whose first waits end together
 """
