@@ -1,13 +1,11 @@
 """The tests of tools/can_bridge. They are started by tests/bridge."""
 from __future__ import annotations
 
-import contextlib
 import errno
 import importlib.machinery
 import importlib.util
 import io
 import os
-import pathlib
 import pty
 import select
 import shutil
@@ -661,7 +659,7 @@ class Vehicle(unittest.TestCase):
             self.turn(device)
         self.assertEqual(device.node, 125)
         for process in (self.running.pid, *self.children()):
-            self.assertEqual(ports_of(process), [])
+            self.assertEqual(members.ports_of(process), [])
         self.acknowledges, other, before = False, b"", len(self.frames)
         end = time.monotonic() + PATIENCE
         while self.running.poll() is None and time.monotonic() < end:
@@ -669,17 +667,6 @@ class Vehicle(unittest.TestCase):
         self.assertEqual((self.running.returncode, len(self.frames) - before), (17, 1))
         self.assertEqual((other + self.turn(device))[-2:], b"C\r")
         self.assertEqual(self.children(), [])
-
-
-def ports_of(process: int) -> list[str]:
-    """The sockets of a process that another one could send to over a network."""
-    found = []
-    for kind in ("udp", "udp6", "tcp", "tcp6", "raw", "raw6"):
-        with contextlib.suppress(FileNotFoundError):
-            lines = pathlib.Path(f"/proc/{process}/net/{kind}").read_text().splitlines()[1:]
-            of_process = {os.readlink(path) for path in pathlib.Path(f"/proc/{process}/fd").iterdir()}
-            found += [line for line in lines if f"socket:[{line.split()[9]}]" in of_process]
-    return found
 
 
 class AdapterOfPythonCan(Case):

@@ -8,7 +8,7 @@ import socket
 import subprocess
 import tempfile
 import unittest
-from typing import Dict, Iterator
+from typing import Dict, Iterator, List
 
 import support
 
@@ -47,6 +47,17 @@ def free_base() -> int:
             except OSError:
                 continue
     raise unittest.SkipTest("no base port is free")
+
+
+def ports_of(process: int) -> List[str]:
+    """The sockets of a process that another one could send to over a network."""
+    found = []
+    for kind in ("udp", "udp6", "tcp", "tcp6", "raw", "raw6"):
+        with contextlib.suppress(FileNotFoundError):
+            lines = pathlib.Path(f"/proc/{process}/net/{kind}").read_text().splitlines()[1:]
+            of_process = {os.readlink(path) for path in pathlib.Path(f"/proc/{process}/fd").iterdir()}
+            found += [line for line in lines if f"socket:[{line.split()[9]}]" in of_process]
+    return found
 
 
 class Members:
