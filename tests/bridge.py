@@ -559,6 +559,15 @@ class OwnProcesses(unittest.TestCase):
         self.written(b"\rC\r")
         self.assertEqual(self.heard(1), [])
 
+    def test_a_member_that_saw_it_first_is_not_blamed(self) -> None:
+        self.links[1].send(can_frame(NODE_STATUS_OF_1))
+        self.turn()
+        self.members.processes[1].status = 17
+        self.links[1].close()
+        with self.assertRaisesRegex(Ended, "answered no frame") as raised:
+            self.turn()
+        self.assertEqual(raised.exception.status, 17)
+
     def test_a_mute_adapter_counts_as_one_that_took_it(self) -> None:
         self.bus.answers = False
         self.links[1].send(can_frame(NODE_STATUS_OF_1))
