@@ -345,17 +345,17 @@ class Lab:
                 device.power()
         return self.until(lambda: all(device.node is not None for device in devices), seconds)
 
-    def leader(self, names: Iterable[str] = ()) -> Optional[str]:
+    def leader(self, names: Sequence[str]) -> Optional[str]:
         """Who leads now, of these: who called last in the highest term."""
         since = time.monotonic() - LEADS_FOR
         found = [(term, moment, name) for name, (term, moment) in self.leads.items()
-                 if moment > since and name in self.members and (not names or name in names)]
+                 if moment > since and name in self.members and name in names]
         return max(found)[2] if found else None
 
-    def await_leader(self, names: Iterable[str] = (), seconds: float = 40.0) -> str:
-        names = list(names)
+    def await_leader(self, names: Sequence[str], seconds: float = 40.0) -> str:
+        """Who leads of these, once somebody does; the first of them where nobody does in so many seconds."""
         self.until(lambda: self.leader(names) is not None, seconds)
-        return self.leader(names) or (names or sorted(self.members))[0]
+        return self.leader(names) or names[0]
 
     def statuses(self) -> Set[int]:
         return {status for _, status in self.ended}
