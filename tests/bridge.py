@@ -574,6 +574,17 @@ class OwnProcesses(unittest.TestCase):
         self.turn()
         self.assertEqual((len(self.heard(1)), len(self.heard(2))), (1, 1))
 
+    def test_over_an_interface_of_the_system_the_kernel_answers(self) -> None:
+        raw = RawCan()
+        self.bridge.bus = bridge.SocketCan(raw, "can0", MEMBERS)
+        self.links[1].send(can_frame(NODE_STATUS_OF_1))
+        self.turn()
+        self.assertEqual((raw.sent, self.heard(1)), ([can_frame(NODE_STATUS_OF_1)], []))
+        raw.echoes()
+        raw.gives(can_frame(NODE_STATUS_OF_7))
+        self.turn()
+        self.assertEqual(self.heard(2), [can_frame(NODE_STATUS_OF_1), can_frame(NODE_STATUS_OF_7)])
+
     def test_a_frame_of_the_bus_goes_to_each(self) -> None:
         self.answers(b"T%08X8%s\r" % (NODE_STATUS_OF_7, DATA.hex().encode()))
         self.assertEqual((self.heard(1), self.heard(2)), ([can_frame(NODE_STATUS_OF_7)],) * 2)
