@@ -733,6 +733,18 @@ class Words(unittest.TestCase):
         status, said = self.ended("33000", "no-interface", "1")
         self.assertEqual((status, said.split(":")[:2]), (1, ["can_bridge", " no-interface"]))
 
+    def test_over_udp_it_says_that_this_is_for_trials(self) -> None:
+        adapter, line = pty.openpty()
+        words = [sys.executable, BRIDGE, "33000", os.ttyname(line), "1"]
+        running = subprocess.Popen(words, stderr=subprocess.PIPE, text=True)
+        assert running.stderr is not None
+        self.assertIn("over UDP, for trials on one machine", running.stderr.readline())
+        running.terminate()
+        self.assertEqual(running.wait(30), 0)
+        running.stderr.close()
+        os.close(adapter)
+        os.close(line)
+
     def test_it_runs_alone(self) -> None:
         """In one file, for a machine that has Python and nothing else."""
         with tempfile.TemporaryDirectory() as folder:
