@@ -1,12 +1,16 @@
-"""Checks of all Python here, by folders: types by mypy, rules by flake8 or ruff, where installed."""
+"""Checks of all Python here, by folders: types by mypy, rules by flake8 or ruff, where installed; and that each script
+which somebody calls by hand tells what it is for."""
 from __future__ import annotations
 
+import os
 import shutil
+import tempfile
 import unittest
 from typing import List
 
 from support import ROOT, Ended
 
+OF_HELP = "tools", "docs", "bench", "examples"
 FOLDERS = "tools", "tests", "bench", "web", "packaging", "docs", "examples"
 
 
@@ -35,3 +39,16 @@ class Sources(unittest.TestCase):
     @unittest.skipUnless(shutil.which("ruff") or shutil.which("flake8"), "there is neither ruff nor flake8")
     def test_rules(self) -> None:
         self.passes(*(["ruff", "check"] if shutil.which("ruff") else ["flake8"]))
+
+
+class Help(unittest.TestCase):
+    def test_each_script_tells_its_words(self) -> None:
+        """`--help` writes to standard output, ends with 0, and does nothing else."""
+        scripts = [name for name in sources() if name.split("/")[0] in OF_HELP and os.access(ROOT / name, os.X_OK)]
+        self.assertGreater(len(scripts), 25)
+        with tempfile.TemporaryDirectory() as folder:
+            for name in scripts:
+                with self.subTest(name):
+                    ended = Ended([ROOT / name, "--help"], cwd=folder, timeout=60)
+                    self.assertEqual((ended.status, ended.errors, os.listdir(folder)), (0, "", []))
+                    self.assertTrue(ended.written.strip())

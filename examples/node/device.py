@@ -123,6 +123,9 @@ def ask(base: int, unique_id: bytes, port_id: int, limit: float = LIMIT) -> Opti
 
 
 def main() -> None:
+    if sys.argv[1:] in (["-h"], ["--help"]):
+        print(__doc__)
+        return
     if len(sys.argv) not in (3, 4):
         sys.exit(__doc__)
     port_id = int(sys.argv[3]) if len(sys.argv) == 4 else 120
