@@ -175,6 +175,7 @@ class Listening(unittest.TestCase):
         told = self.told_of([b"", b"\0", short, bytes(5), b"\xff" * 13, short + b"\7\1\0\0\0\xc0", bytes(60)])
         self.assertEqual(told[0], "0 frames in 1 s")
         self.assertNotIn("node ", told[1])
+        self.assertIn("that of another machine is heard by --can alone", told[1])
 
 
 class Alone(StoreCase):
