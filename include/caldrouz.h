@@ -3,13 +3,16 @@
  * Link with libcaldrouz.a. docs/EMBEDDING.md has the duties of a caller, sizes, times, and what is proved.
  *
  *     static caldrouz node;
+ *     static const uint8_t members[] = {1, 2, 3};
+ *     caldrouz_frame frame;
+ *
  *     caldrouz_init(&node, 1, 3, store);            // node ID 1, of a cluster of 3
  *     caldrouz_open(&node, now_ms(), random_word());
  *     caldrouz_learn(&node, members, 3);            // the node IDs of the three, best told to each
  *     for (;;) {
  *         caldrouz_tick(&node, now_ms(), random_word());
- *         if (a frame came) caldrouz_hear(&node, now_ms(), &frame);
- *         if (the driver has room && caldrouz_take(&node, &frame)) send(&frame);
+ *         if (receive(&frame)) caldrouz_hear(&node, now_ms(), &frame);
+ *         if (has_room() && caldrouz_take(&node, &frame)) transmit(&frame);
  *     }
  *
  * Memory. A node is one object of type `caldrouz`, which the caller keeps: static, on a heap, or on a stack. The

@@ -32,6 +32,18 @@ NOT_OPENED, STORE_FAILED, LATE_ECHO = 12, 14, 17
 REST = 5.5  # seconds of a member whose store is not new
 PATIENCE = 30  # seconds that a device waits: a rest, and some elections
 C_EXAMPLES = EXAMPLES / "c"
+# What a caller has beside the code of the pages, which stands in the last function.
+CALLER = """#include "caldrouz.h"
+uint64_t now_ms(void);
+uint32_t random_word(void);
+int receive(caldrouz_frame *frame);
+int has_room(void);
+void transmit(const caldrouz_frame *frame);
+void run(int store);
+void run(int store) {
+%s
+}
+"""
 
 
 class Place:
@@ -91,6 +103,20 @@ class Header(unittest.TestCase):
             source.write_text(text)
             for standard in ("c++11", "c++17") if is_cpp else ("c99", "c17"):
                 done(compiler, f"-std={standard}", *STRICT, "-I", INCLUDE, "-c", source, "-o", os.devnull)
+
+
+    def test_the_code_of_the_pages_compiles(self) -> None:
+        """What EMBEDDING and the head of the header show is taken as it stands there."""
+        page = (ROOT / "docs/EMBEDDING.md").read_text(encoding="utf-8")
+        start = page.partition("\n## The start, and a turn\n")[2].partition("\n## ")[0]
+        head = (INCLUDE / "caldrouz.h").read_text(encoding="utf-8").partition("*/")[0]
+        for text, mark in ((start, "    "), (head, " *     ")):
+            code = [line[len(mark) :] for line in text.splitlines() if line.startswith(mark)]
+            self.assertGreaterEqual(sum("caldrouz_" in line for line in code), 6)
+            source = Place.folder / "page.c"
+            source.write_text(CALLER % "\n".join(code))
+            for compiler in there("gcc", "clang"):
+                done(compiler, "-std=c99", *STRICT, "-I", INCLUDE, "-c", source, "-o", os.devnull)
 
 
 class Archive(unittest.TestCase):
