@@ -155,6 +155,7 @@ static inline uint32_t caldrouz_tick(caldrouz *node, uint64_t now, uint32_t word
 
 /* A frame came, and this is now. Every extended data frame of the bus may be given, in the order in which they came,
  * and each once. Frames that this node has sent are not to be given, nor any that is older than CALDROUZ_LONGEST_WAIT.
+ * A call that contradicts what this node has committed changes nothing of it and is not told; the program ends (19).
  * Answers CALDROUZ_DONE, CALDROUZ_NO_FRAME, CALDROUZ_NOT_MADE, CALDROUZ_CLOSED or CALDROUZ_FAULT. */
 static inline uint32_t caldrouz_hear(caldrouz *node, uint64_t now, const caldrouz_frame *frame) {
     uint64_t bytes = 0;
