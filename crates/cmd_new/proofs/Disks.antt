@@ -8,8 +8,7 @@ use Rattle.disk_model.specs.Contents.{Contents, HasBytes, IsSound, image_size}
 use Rattle.disk_model.specs.Device.{IsSynced}
 use Rattle.disk_model.specs.declared.disk.Disk.{Ghosts}
 use Rattle.outside.specs.Faults.{Rose}
-use Rattle.cmd_new.specs.Made.{FailsAt, IsMade, IsMadeAt, IsNewStore}
-use Rattle.cmd_new.specs.NewImage.{new_image}
+use Rattle.cmd_new.specs.Made.{FailsAt, HasImage, IsMade, IsMadeAt}
 
 -- bytes that all of a disk has are what reads give
 pub whole_image : (disk : Contents) (bytes : List ℕ) → IsSound disk → length bytes ≡ image_size → HasBytes disk.seen 0 bytes → bytes ≡ disk.seen
@@ -17,12 +16,12 @@ whole_image disk bytes sound size has =
     let long : length bytes ≡ length disk.seen = size ∙ sym (sound.current.size ∙ sound.size) in
     same_number_lists bytes disk.seen long (λ i low. let at : i ≡ 0 + i = omega arith in sym (ap (slice_index disk.seen) at ∙ has i low))
 
--- the image of a new store, written over all of a disk and synced
-pub new_store : (mid new : Contents) (bytes : List ℕ) → HasBytes mid.seen 0 bytes → length bytes ≡ image_size → bytes ≡ new_image
-    → IsSynced mid new → IsSound new → IsNewStore new
-new_store mid new bytes has size is synced sound =
+-- an image, written over all of a disk and synced
+pub has_image : (mid new : Contents) (bytes : List ℕ) → HasBytes mid.seen 0 bytes → length bytes ≡ image_size
+    → IsSynced mid new → IsSound new → HasImage bytes new
+has_image mid new bytes has size synced sound =
     let all : bytes ≡ new.seen = whole_image new bytes sound size (λ i low. ap (λ l. slice_index l (0 + i)) synced.seen ∙ has i low) in
-    record { image = sym all ∙ is; stable = synced.stable ∙ sym synced.seen; settled = synced.settled }
+    record { image_is = sym all; stable = synced.stable ∙ sym synced.seen; settled = synced.settled }
 
 module _ {D : Type 0} (ghosts : Ghosts D) (old mid : List (Option D)) (p : ℕ) (place : Option D) (same : length mid ≡ length old) (within : p < length old)
     (made : (k : ℕ) → k < p → IsMadeAt ghosts old mid k) where

@@ -1,19 +1,29 @@
--- What a run of `new` leaves of its disks, and what it writes.
-use Rattle.std.specs.Prelude.{⊤, ◌≡◌, ◌⊎◌, ℕ, ◌<◌, true, List, [], ◌++◌, codes, decimal, length, slice_index, slice_index_or, Option, Some, None, IsSome}
+-- What is left of a disk that an image was written to, what a run of `new` leaves of its disks, and what it writes.
+use Rattle.std.specs.Prelude.{⊤, ◌≡◌, ◌⊎◌, ℕ, ◌<◌, true, List, [], ◌∷◌, ◌++◌, codes, decimal, length, slice_index, slice_index_or, Option, Some, None, IsSome}
 use Rattle.std.specs.Io.KnownBytes.{Appends}
 use Rattle.cmd_io.specs.Output.{WritesFront}
 use Rattle.cmd_io.specs.declared.status.Status.{Status}
 use Rattle.cmd_io.specs.declared.status.Status.TheVariants.{Damaged, DiskFault, Done, WriteFault}
 use Rattle.cmd_new.specs.NewImage.{new_image}
 use Rattle.disk_model.specs.Contents.{Contents, IsSettled}
+use Rattle.disk_model.specs.Device.{DeviceCall}
+use Rattle.disk_model.specs.Device.DeviceCall.{Write, Sync}
 use Rattle.disk_model.specs.declared.disk.Disk.{Ghosts}
 use Rattle.outside.specs.Faults.{Rose}
 
--- the image of a new store, all of it stable
-pub record IsNewStore (disk : Contents) : Type 0 where
-  pub image : disk.seen ≡ new_image
+-- this image, all of it stable
+pub record HasImage (image : List ℕ) (disk : Contents) : Type 0 where
+  pub image_is : disk.seen ≡ image
   pub stable : disk.stable ≡ disk.seen
   pub settled : IsSettled disk
+
+-- the image of a new store, all of it stable
+abbrev pub IsNewStore : Contents → Type 0
+IsNewStore disk = HasImage new_image disk
+
+-- the device calls by which an image is written
+abbrev pub image_calls : List ℕ → List DeviceCall
+image_calls image = Write 0 image ∷ Sync ∷ []
 
 -- the line that is written at an end
 abbrev pub line_of : (ids : List ℕ) → Status → List ℕ

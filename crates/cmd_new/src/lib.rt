@@ -2,7 +2,7 @@
 //!
 //! A new store says that it is one: its image has a version, and nothing else (`specs/NewImage.antt`). It is the image
 //! that an opening of zeros leaves, so nothing is put when its member first opens it. [`make_stores`] writes it to
-//! each of the disks that are handed in, and syncs it (`specs/Made.antt`). [`find_store`] tells a new store from one
+//! each of the disks that are handed in, by [`write_image`], which also syncs it (`specs/Made.antt`). [`find_store`] tells a new store from one
 //! that was used, and from a disk without a store, as one of zeros: that is how a lost block reads
 //! (`specs/Found.antt`). [`look_for_stores`] asks it of all that a process runs (`specs/Looks.antt`), and
 //! [`mark_new_stores`] marks those that are new before a member runs on them, which may put nothing
@@ -18,5 +18,5 @@ mod mark;
 
 pub use found::{Found, find_store};
 pub use look::look_for_stores;
-pub use make::{make_stores, write_end};
+pub use make::{make_stores, write_end, write_image};
 pub use mark::{mark_as_used, mark_new_stores};

@@ -1,12 +1,13 @@
-ghost use Rattle.std.specs.Prelude.{◌≡◌, ◌≤◌, ◌<◌, ◌⊎◌, ℕ, length, IsSome, None, Some, true, OnOk, IfErr, slice_index_or};
+ghost use Rattle.std.specs.Prelude.{◌≡◌, ◌≤◌, ◌<◌, ◌⊎◌, ℕ, length, IsSome, None, Some, true, false, OnErr, OnOk, IfErr, slice_index_or};
 ghost use Rattle.can_frame.specs.Sizes.{most_members};
 ghost use Rattle.outside.specs.Faults.{Rose};
-ghost use Rattle.cmd_new.specs.Made.{FailsAt, HasLine, IsMade, IsMadeAt, IsNewStore, IsWritten, MakesStores, line_of};
+ghost use Rattle.cmd_new.specs.Made.{FailsAt, HasImage, HasLine, IsMade, IsMadeAt, IsNewStore, IsWritten, MakesStores, image_calls, line_of};
+ghost use Rattle.disk_model.specs.Device.{Makes};
 ghost use Rattle.cmd_io.specs.Counting.{CountsFaults};
 
 use crate::image::new_image;
 use cmd_io::{Output, Status, number_line, numbers_line};
-use disk_model::Disk;
+use disk_model::{Disk, IMAGE};
 use outside::{Failed, Sink};
 use replay_text::Line;
 
@@ -106,7 +107,19 @@ fn make_store<D: Disk>(disk: &mut D) -> Result<(), Failed>
     ensures store { OnOk result (D.tells disk.old ≡ true → IsNewStore (D.contents disk.new)) }
     ensures faults { CountsFaults (D.faults disk.old) (D.faults disk.new) result }
 {
-    disk.write(0, &new_image())?;
+    write_image(disk, &new_image())
+}
+
+/// Writes an image over all of a disk, and syncs it. It fails only where the disk does. Then any part of the image may
+/// stand on the disk: it is no store until this has succeeded.
+pub fn write_image<D: Disk>(disk: &mut D, image: &[u8; IMAGE]) -> Result<(), Failed>
+    ensures made { OnOk result (Makes D.does (image_calls image.now) true disk.old disk.new) }
+    ensures stopped { OnErr result (Makes D.does (image_calls image.now) false disk.old disk.new) }
+    ensures tells { D.tells disk.new ≡ D.tells disk.old }
+    ensures image { OnOk result (D.tells disk.old ≡ true → HasImage image.now (D.contents disk.new)) }
+    ensures faults { CountsFaults (D.faults disk.old) (D.faults disk.new) result }
+{
+    disk.write(0, image)?;
     disk.sync()?;
     Ok(())
 }
