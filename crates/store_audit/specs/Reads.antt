@@ -18,6 +18,11 @@ module _ {D : Type 0} (ghosts : Ghosts D) where
   abbrev pub IsImageOf : D → List ℕ → Type 0
   IsImageOf disk image = ghosts.tells disk ≡ true → image ≡ (ghosts.contents disk).seen
 
+  -- this image was read of the disk, and stands for the store
+  pub record IsReadAs (disk : D) (image : List ℕ) (store : Stored) : Type 0 where
+    pub seen : IsImageOf disk image
+    pub read : IsReadFrom image store
+
   -- the store is the one that an image of the disk stands for
   pub record IsStoreOf (disk : D) (store : Stored) : Type 0 where
     pub image : List ℕ

@@ -16,5 +16,6 @@ mod read;
 mod run;
 mod verdict;
 
+pub use read::{Refused, read_place};
 pub use run::audit_stores;
 pub use verdict::{Verdict, audit};

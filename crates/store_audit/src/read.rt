@@ -1,7 +1,7 @@
 ghost use Rattle.std.specs.Prelude.{◌≡◌, ◌≤◌, ◌<◌, ℕ, length, IfOk, IfErr, OnOk, Err, Some, IsSome};
 ghost use Rattle.outside.specs.Faults.{Rose};
 ghost use Rattle.raft_log.specs.Reading.{IsReadable};
-ghost use Rattle.store_audit.specs.Reads.{IsDamagedDisk, IsImageOf, IsReadOnce, IsStoreOf, StaysAs};
+ghost use Rattle.store_audit.specs.Reads.{IsDamagedDisk, IsImageOf, IsReadAs, IsReadOnce, IsStoreOf, StaysAs};
 ghost use Rattle.cmd_io.specs.Counting.{CountsFaults};
 
 use disk_model::{Disk, IMAGE};
@@ -19,8 +19,9 @@ pub enum Refused {
 }
 
 /// The store of a disk, whose image is read by one call.
-fn read_store<D: Disk>(disk: &mut D) -> Result<Stored, Refused>
+fn read_store<D: Disk>(disk: &mut D, image: &mut [u8; IMAGE]) -> Result<Stored, Refused>
     ensures read { IfOk result (λ store. IsStoreOf D.Disk disk.old store) }
+    ensures image { IfOk result (λ store. IsReadAs D.Disk disk.old image.new store) }
     ensures readable { IfOk result (λ store. IsReadable store) }
     ensures damaged { IfErr result (λ why. (key : ℕ) → why ≡ Refused.Damaged key →
         IsDamagedDisk D.Disk disk.old key) }
@@ -30,9 +31,8 @@ fn read_store<D: Disk>(disk: &mut D) -> Result<Stored, Refused>
     ensures stays { StaysAs D.Disk disk.old (Some disk.new) }
     ensures once { IsReadOnce D.Disk disk.old disk.new }
 {
-    let mut image = [0; IMAGE];
-    match read_image(disk, &mut image) {
-        Ok(()) => match Stored::read(&image) {
+    match read_image(disk, image) {
+        Ok(()) => match Stored::read(image) {
             Ok(store) => Ok(store),
             Err(key) => Err(Refused::Damaged(key)),
         },
@@ -50,11 +50,17 @@ fn read_image<D: Disk>(disk: &mut D, image: &mut [u8; IMAGE]) -> Result<(), Fail
     disk.read(0, image)
 }
 
-/// The store of the disk at a place.
-pub fn read_place<D: Disk>(place: &mut Option<D>) -> Result<Stored, Refused>
+/// The store of the disk at a place, and the image that stands for it: all of the disk, read by one call. What the image
+/// is where there is no store is not said.
+pub fn read_place<D: Disk>(
+    place: &mut Option<D>,
+    image: &mut [u8; IMAGE],
+) -> Result<Stored, Refused>
     requires { IsSome place.old }
     ensures read { IfOk result (λ store. (disk : D) → place.old ≡ Some disk →
         IsStoreOf D.Disk disk store) }
+    ensures image { IfOk result (λ store. (disk : D) → place.old ≡ Some disk →
+        IsReadAs D.Disk disk image.new store) }
     ensures readable { IfOk result (λ store. IsReadable store) }
     ensures damaged { IfErr result (λ why. (key : ℕ) (disk : D) → why ≡ Refused.Damaged key →
         place.old ≡ Some disk → IsDamagedDisk D.Disk disk key) }
@@ -67,7 +73,7 @@ pub fn read_place<D: Disk>(place: &mut Option<D>) -> Result<Stored, Refused>
         IsReadOnce D.Disk before after }
 {
     match place {
-        Some(disk) => read_store(disk),
+        Some(disk) => read_store(disk, image),
         None => unreachable!(),
     }
 }

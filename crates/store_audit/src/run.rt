@@ -13,7 +13,7 @@ use crate::verdict::{Verdict, audit};
 use arrayvec::ArrayVec;
 use can_frame::sizes::MOST_MEMBERS;
 use cmd_io::{Output, Status};
-use disk_model::Disk;
+use disk_model::{Disk, IMAGE};
 use outside::{Failed, Sink};
 use raft_log::Stored;
 
@@ -86,7 +86,7 @@ fn read_all<D: Disk>(
     ensures counts { IfErr result (λ status. CountsOne D.Disk ids.now disks.old disks.new status) }
 {
     for place in 0..ids.len() {
-        match read_place(&mut disks[place]) {
+        match read_place(&mut disks[place], &mut [0; IMAGE]) {
             Ok(store) => stores.push(store),
             Err(Refused::Failed) => return Err(Status::DiskFault(ids[place])),
             Err(Refused::Damaged(key)) => return Err(Status::Damaged(ids[place], key)),
