@@ -1,1 +1,3 @@
 pub mod Majorities
+pub mod Making
+pub mod Reading
