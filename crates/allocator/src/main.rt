@@ -8,9 +8,10 @@
 //! one of zeros ([`look_for_stores`]); and a process whose members ran before rests first ([`Told::rest`]). Where
 //! they are told a number, a missing file is made, and nothing rests. The words of `new` have the disks alone, in
 //! files that are made for them: where one is there already, or `run` does not come to its end, none of those that
-//! were made stays. Those of `audit` have the disks alone, in files that are there, and only read them. Where one
-//! of these cannot be opened the exit code is 12. A standard stream that is closed stays so for `run`: its
-//! descriptor never becomes that of a link or a disk. A word that is not UTF-8 is none that the program reads.
+//! were made stays. Those of `replace` have the disk of the lost member alone so, and those of the others as `audit`
+//! has them. The words of `audit` have the disks alone, in files that are there, and only read them. Where one of
+//! these cannot be opened the exit code is 12. A standard stream that is closed stays so for `run`: its descriptor
+//! never becomes that of a link or a disk. A word that is not UTF-8 is none that the program reads.
 #![tactic(auto)]
 
 ghost use Rattle.std.specs.Prelude.{◌≡◌, ◌≤◌, length, IfErr, IfOk};
@@ -22,7 +23,8 @@ mod refusal;
 mod stranger;
 
 use crate::opened::{
-    held_streams, known_stores, link_of, listening_link, made_stores, old_stores, stores_of, take_away,
+    held_streams, known_stores, link_of, listening_link, made_stores, old_stores, stores_but_lost, stores_of,
+    take_away,
 };
 use crate::refusal::Refusal;
 use crate::stranger::write_stranger;
@@ -70,6 +72,7 @@ fn answer(rt: &HostRuntime) -> Result<Status, Refusal> {
             },
         ) => run_over_udp(rt, &words, &told, base, &ids),
         Some(Plan::New { ids }) => run_on_new_stores(rt, &words, &ids),
+        Some(Plan::Replace { lost, ids }) => run_on_lost_store(rt, &words, lost, &ids),
         Some(Plan::Audit { ids }) => run_on_old_stores(rt, &words, &ids),
         _ => Ok(follow::<UdpLink>(rt, &words, &mut [], &mut [], &Cell::new(0))),
     }
@@ -198,6 +201,26 @@ fn run_on_new_stores(rt: &HostRuntime, words: &[String], ids: &[u8]) -> Result<S
     let mut paths = Vec::new(rt.alloc());
     let outcome = match made_stores(rt, ids, &mut stores, &mut paths) {
         Ok(()) => Ok(follow::<UdpLink>(rt, words, &mut [], &mut stores, &Cell::new(0))),
+        Err(refusal) => Err(refusal),
+    };
+    if outcome != Ok(Status::Done) {
+        take_away(rt, &paths);
+    }
+    outcome
+}
+
+/// Makes the store of the lost one of these members from those of the others. It does not stay where `run` does not come
+/// to its end.
+fn run_on_lost_store(
+    rt: &HostRuntime,
+    words: &[String],
+    lost: u8,
+    ids: &[u8],
+) -> Result<Status, Refusal> {
+    let _streams = held_streams(rt)?;
+    let mut paths = Vec::new(rt.alloc());
+    let outcome = match stores_but_lost(rt, lost, ids, &mut paths) {
+        Ok(mut stores) => Ok(follow::<UdpLink>(rt, words, &mut [], &mut stores, &Cell::new(0))),
         Err(refusal) => Err(refusal),
     };
     if outcome != Ok(Status::Done) {

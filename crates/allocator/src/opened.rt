@@ -112,9 +112,33 @@ pub fn known_stores(ids: &[u8], stores: &mut Vec<Option<FileDisk>>) -> Result<bo
 pub fn old_stores(rt: &HostRuntime, ids: &[u8]) -> Result<Vec<Option<FileDisk>>, Refusal> {
     let mut stores = Vec::new(rt.alloc());
     for id in ids {
-        match FileDisk::open_old(rt, path_of(rt.alloc(), *id)?.as_str()) {
-            Ok(disk) => stores.push(Some(disk))?,
-            Err(_) => return Err(Refusal::NotOpened),
+        stores.push(Some(old_store(rt, *id)?))?;
+    }
+    Ok(stores)
+}
+
+/// The store of this member, in a file that is there already, to be read.
+fn old_store(rt: &HostRuntime, id: u8) -> Result<FileDisk, Refusal> {
+    match FileDisk::open_old(rt, path_of(rt.alloc(), id)?.as_str()) {
+        Ok(disk) => Ok(disk),
+        Err(_) => Err(Refusal::NotOpened),
+    }
+}
+
+/// The stores of these members: that of the lost one in a file that is made for it, whose path is put behind the others,
+/// and those of the others in files that are there already, to be read.
+pub fn stores_but_lost(
+    rt: &HostRuntime,
+    lost: u8,
+    ids: &[u8],
+    paths: &mut Vec<String>,
+) -> Result<Vec<Option<FileDisk>>, Refusal> {
+    let mut stores = Vec::new(rt.alloc());
+    for id in ids {
+        if *id == lost {
+            made_stores(rt, &[lost], &mut stores, paths)?;
+        } else {
+            stores.push(Some(old_store(rt, *id)?))?;
         }
     }
     Ok(stores)

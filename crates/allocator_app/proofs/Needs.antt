@@ -3,7 +3,7 @@ use Rattle.std.proofs.Common.{◌≡◌, ◌≤◌, ◌<◌, ℕ, List, length, 
 use Rattle.std.specs.declared.option.Option.{Option}
 use Rattle.std.proofs.lemmas.Bool.{true≢false}
 use Rattle.allocator_app.specs.declared.plans.Plan.{Plan}
-use Rattle.allocator_app.specs.declared.plans.Plan.TheVariants.{Replay, Node, Soak, New, Audit, Watch, Convert, Decode}
+use Rattle.allocator_app.specs.declared.plans.Plan.TheVariants.{Replay, Node, Soak, New, Replace, Audit, Watch, Convert, Decode}
 use Rattle.allocator_app.specs.Words.{AreGiven, AreNone, AreStored, HasObjects, IsPlan, UsesDisks, UsesLinks}
 use Rattle.allocator_app.proofs.OnePlan.{only}
 
@@ -24,6 +24,7 @@ no_links_used (Replay rows ids) words links disks planned uses has none = uses
 no_links_used (Node told base turns ids) words links disks planned uses has none = some_given ids.items links disks planned.members.some has none
 no_links_used (Soak told seed rounds size) words links disks planned uses has none = uses
 no_links_used (New ids) words links disks planned uses has none = uses
+no_links_used (Replace lost ids) words links disks planned uses has none = uses
 no_links_used (Audit ids) words links disks planned uses has none = uses
 no_links_used (Watch form lines ids) words links disks planned uses has none = uses
 no_links_used (Convert from to lines) words links disks planned uses has none = uses
@@ -35,6 +36,7 @@ no_disks_used (Replay rows ids) words links disks planned uses has none = uses
 no_disks_used (Node told base turns ids) words links disks planned uses has none = some_given ids.items links disks planned.members.some has none
 no_disks_used (Soak told seed rounds size) words links disks planned uses has none = uses
 no_disks_used (New ids) words links disks planned uses has none = some_stored ids.items links disks planned.members.some has none
+no_disks_used (Replace lost ids) words links disks planned uses has none = some_stored ids.items links disks planned.members.some has none
 no_disks_used (Audit ids) words links disks planned uses has none = some_stored ids.items links disks planned.members.some has none
 no_disks_used (Watch form lines ids) words links disks planned uses has none = uses
 no_disks_used (Convert from to lines) words links disks planned uses has none = uses

@@ -1,6 +1,7 @@
 -- The plan of some words: there is one.
-use Rattle.std.proofs.Common.{◌≡◌, ◌≤◌, ◌<◌, ◌^◌, ℕ, Bool, true, false, codes, inl, inr, List, [], ◌∷◌, refl, sym, ◌∙◌, ap, subst, arith, decimal, length, map}
-use Rattle.std.specs.Prelude.{◌==◌, if◌then◌else◌}
+use Rattle.std.proofs.Common.{◌≡◌, ◌≤◌, ◌<◌, ◌^◌, ℕ, zero, suc, Bool, true, false, codes, inl, inr, List, [], ◌∷◌, refl, sym, ◌∙◌, ap, subst, arith, decimal, length, map}
+use Rattle.std.specs.List.{Contains}
+use Rattle.std.specs.Prelude.{◌==◌, if◌then◌else◌, slice_index_or}
 use Rattle.std.proofs.lemmas.Fmt.{decimal_injective}
 use Rattle.arrayvec.specs.ArrayVec.{ArrayVec}
 use Rattle.raft_model.specs.Lists.{In}
@@ -12,10 +13,10 @@ use Rattle.alloc_spec.specs.ClusterMembers.{AreMembers}
 use Rattle.allocator_app.specs.declared.told.Told.{Told}
 use Rattle.allocator_app.specs.declared.told.Told.TheVariants.{Members, Size}
 use Rattle.allocator_app.specs.Told.{IsCluster, Spells, size_of}
-use Rattle.allocator_app.specs.Words.{AreFew, IsAudit, IsConvert, IsDecode, IsNew, IsNode, IsPlan, IsReplay, IsSize, IsSoak, IsSound, IsWatch, SpellsPayload}
+use Rattle.allocator_app.specs.Words.{AreFew, IsAudit, IsConvert, IsDecode, IsNew, IsNode, IsPlan, IsReplace, IsReplay, IsSize, IsSoak, IsSound, IsWatch, SpellsPayload}
 use Rattle.allocator_app.specs.declared.plans.Plan.{Plan}
 use Rattle.allocator_app.proofs.Listing.{same_numbers, same_told}
-use Rattle.allocator_app.specs.declared.plans.Plan.TheVariants.{Replay, Node, Soak, New, Audit, Watch, Convert, Decode}
+use Rattle.allocator_app.specs.declared.plans.Plan.TheVariants.{Replay, Node, Soak, New, Replace, Audit, Watch, Convert, Decode}
 
 -- a cluster has 1 to 5 members
 sizes : (told : Told) → IsCluster told → (1 ≤ size_of told) × (size_of told ≤ 5)
@@ -27,6 +28,7 @@ sound (Replay rows ids) words h = (h.rows_most, h.members)
 sound (Node told base turns ids) words h = let size = sizes told h.cluster in (size.0, size.1, h.turns_most, h.members)
 sound (Soak told seed rounds size) words h = (h.rounds_most, h.sized.least, h.sized.most)
 sound (New ids) words h = h.members
+sound (Replace lost ids) words h = (h.members, h.may)
 sound (Audit ids) words h = h.members
 sound (Watch form lines ids) words h = (h.lines_least, h.lines_most, h.nodes)
 sound (Convert from to lines) words h = (h.lines_least, h.lines_most)
@@ -35,25 +37,27 @@ sound (Decode name part payload) words h = (h.named, h.part_least, h.part_most, 
 -- words that have no plan by any mode have none
 pub unplanned : (words : List (List ℕ)) → ((rows : ℕ) (ids : List ℕ) → IsReplay rows ids words → ⊥)
     → ((told : Told) (base turns : ℕ) (ids : List ℕ) → IsNode told base turns ids words → ⊥) → ((told : Bool) (seed rounds size : ℕ) → IsSoak told seed rounds size words → ⊥)
-    → ((ids : List ℕ) → IsNew ids words → ⊥) → ((ids : List ℕ) → IsAudit ids words → ⊥) → ((form : Form) (lines : ℕ) (ids : List ℕ) → IsWatch form lines ids words → ⊥)
+    → ((ids : List ℕ) → IsNew ids words → ⊥) → ((lost : ℕ) (ids : List ℕ) → IsReplace lost ids words → ⊥) → ((ids : List ℕ) → IsAudit ids words → ⊥) → ((form : Form) (lines : ℕ) (ids : List ℕ) → IsWatch form lines ids words → ⊥)
     → ((from to : Form) (lines : ℕ) → IsConvert from to lines words → ⊥)
     → ((name : List ℕ) (part : ℕ) (payload : List ℕ) → IsDecode name part payload words → ⊥) → (plan : Plan) → IsPlan plan words → ⊥
-unplanned words no_replay no_node no_soak no_new no_audit no_watch no_convert no_decode (Replay rows ids) is = no_replay rows ids.items is
-unplanned words no_replay no_node no_soak no_new no_audit no_watch no_convert no_decode (Node told base turns ids) is = no_node told base turns ids.items is
-unplanned words no_replay no_node no_soak no_new no_audit no_watch no_convert no_decode (Soak told seed rounds size) is = no_soak told seed rounds size is
-unplanned words no_replay no_node no_soak no_new no_audit no_watch no_convert no_decode (New ids) is = no_new ids.items is
-unplanned words no_replay no_node no_soak no_new no_audit no_watch no_convert no_decode (Audit ids) is = no_audit ids.items is
-unplanned words no_replay no_node no_soak no_new no_audit no_watch no_convert no_decode (Watch form lines ids) is = no_watch form lines ids.items is
-unplanned words no_replay no_node no_soak no_new no_audit no_watch no_convert no_decode (Convert from to lines) is = no_convert from to lines is
-unplanned words no_replay no_node no_soak no_new no_audit no_watch no_convert no_decode (Decode name part payload) is = no_decode name.items part payload.items is
+unplanned words no_replay no_node no_soak no_new no_replace no_audit no_watch no_convert no_decode (Replay rows ids) is = no_replay rows ids.items is
+unplanned words no_replay no_node no_soak no_new no_replace no_audit no_watch no_convert no_decode (Node told base turns ids) is = no_node told base turns ids.items is
+unplanned words no_replay no_node no_soak no_new no_replace no_audit no_watch no_convert no_decode (Soak told seed rounds size) is = no_soak told seed rounds size is
+unplanned words no_replay no_node no_soak no_new no_replace no_audit no_watch no_convert no_decode (New ids) is = no_new ids.items is
+unplanned words no_replay no_node no_soak no_new no_replace no_audit no_watch no_convert no_decode (Replace lost ids) is = no_replace lost ids.items is
+unplanned words no_replay no_node no_soak no_new no_replace no_audit no_watch no_convert no_decode (Audit ids) is = no_audit ids.items is
+unplanned words no_replay no_node no_soak no_new no_replace no_audit no_watch no_convert no_decode (Watch form lines ids) is = no_watch form lines ids.items is
+unplanned words no_replay no_node no_soak no_new no_replace no_audit no_watch no_convert no_decode (Convert from to lines) is = no_convert from to lines is
+unplanned words no_replay no_node no_soak no_new no_replace no_audit no_watch no_convert no_decode (Decode name part payload) is = no_decode name.items part payload.items is
 
--- ---- the mode, as the first letter of the words tells it, and for `new` the number of letters
+-- ---- the mode, as the first letter of the words tells it, and for `new` and `replace` the number of letters
 
 data Mode : Type 0 where
   replaying : Mode
   running : Mode
   soaking : Mode
   making : Mode
+  replacing : Mode
   auditing : Mode
   watching : Mode
   converting : Mode
@@ -64,14 +68,16 @@ mode (Replay rows ids) = replaying
 mode (Node told base turns ids) = running
 mode (Soak told seed rounds size) = soaking
 mode (New ids) = making
+mode (Replace lost ids) = replacing
 mode (Audit ids) = auditing
 mode (Watch form lines ids) = watching
 mode (Convert from to lines) = converting
 mode (Decode name part payload) = decoding
 
-abbrev mode_of_letter : ℕ → Mode
-mode_of_letter letter =
-    if letter == 114 then replaying
+-- (the letters behind the first one are so many)
+abbrev mode_of_letter : ℕ → ℕ → Mode
+mode_of_letter letter more =
+    if letter == 114 then (if more == 5 then replaying else replacing)
     else if letter == 110 then running
     else if letter == 115 then soaking
     else if letter == 97 then auditing
@@ -82,13 +88,14 @@ mode_of_letter letter =
 abbrev mode_of : List (List ℕ) → Mode
 mode_of [] = decoding
 mode_of ([] ∷ words) = decoding
-mode_of ((letter ∷ word) ∷ words) = if length word == 2 then making else mode_of_letter letter
+mode_of ((letter ∷ word) ∷ words) = if length word == 2 then making else mode_of_letter letter (length word)
 
 mode_is : (plan : Plan) (words : List (List ℕ)) → IsPlan plan words → mode_of words ≡ mode plan
 mode_is (Replay rows ids) words h = ap mode_of h.spelled
 mode_is (Node told base turns ids) words h = ap mode_of h.spelled
 mode_is (Soak told seed rounds size) words h = ap mode_of h.spelled
 mode_is (New ids) words h = ap mode_of h.spelled
+mode_is (Replace lost ids) words h = ap mode_of h.spelled
 mode_is (Audit ids) words h = ap mode_of h.spelled
 mode_is (Watch form lines ids) words h = ap mode_of h.spelled
 mode_is (Convert from to lines) words h = ap mode_of h.spelled
@@ -100,6 +107,7 @@ IsOf replaying plan = (rows : ℕ) × (ids : ArrayVec ℕ) × (plan ≡ Replay r
 IsOf running plan = (told : Told) × (base turns : ℕ) × (ids : ArrayVec ℕ) × (plan ≡ Node told base turns ids)
 IsOf soaking plan = (told : Bool) × (seed rounds size : ℕ) × (plan ≡ Soak told seed rounds size)
 IsOf making plan = (ids : ArrayVec ℕ) × (plan ≡ New ids)
+IsOf replacing plan = (lost : ℕ) × (ids : ArrayVec ℕ) × (plan ≡ Replace lost ids)
 IsOf auditing plan = (ids : ArrayVec ℕ) × (plan ≡ Audit ids)
 IsOf watching plan = (form : Form) × (lines : ℕ) × (ids : ArrayVec ℕ) × (plan ≡ Watch form lines ids)
 IsOf converting plan = (from to : Form) × (lines : ℕ) × (plan ≡ Convert from to lines)
@@ -110,6 +118,7 @@ is_of (Replay rows ids) = (rows, ids, refl)
 is_of (Node told base turns ids) = (told, base, turns, ids, refl)
 is_of (Soak told seed rounds size) = (told, seed, rounds, size, refl)
 is_of (New ids) = (ids, refl)
+is_of (Replace lost ids) = (lost, ids, refl)
 is_of (Audit ids) = (ids, refl)
 is_of (Watch form lines ids) = (form, lines, ids, refl)
 is_of (Convert from to lines) = (from, to, lines, refl)
@@ -127,7 +136,7 @@ kept list = record { items = list }
 same_number : (a b : ℕ) → a < 2 ^ 64 → b < 2 ^ 64 → decimal a ≡ decimal b → a ≡ b
 same_number a b low high e = decimal_injective a b low high e
 
-one_number : (a b : ℕ) → a ≤ 1000000000 → b ≤ 1000000000 → decimal a ≡ decimal b → a ≡ b
+pub one_number : (a b : ℕ) → a ≤ 1000000000 → b ≤ 1000000000 → decimal a ≡ decimal b → a ≡ b
 one_number a b a_most b_most e = decimal_injective a b (omega arith) (omega arith) e
 
 nodes_of_few : (ids : List ℕ) → AreFew ids → (n : ℕ) → In n ids → n ≤ 255
@@ -138,6 +147,18 @@ nodes_of_few ids few n here = elim few [
 
 same_few : (xs ys : List ℕ) → AreFew xs → AreFew ys → map decimal xs ≡ map decimal ys → xs ≡ ys
 same_few xs ys p q e = same_numbers xs ys (nodes_of_few xs p) (nodes_of_few ys q) e
+
+in_list_at : (xs : List ℕ) (x i : ℕ) → i < length xs → slice_index_or xs i x ≡ x → In x xs
+in_list_at [] x i low e = absurd (omega (arith, low))
+in_list_at (y ∷ ys) x zero low e = inl (sym e)
+in_list_at (y ∷ ys) x (suc i) low e = inr (in_list_at ys x i (omega (arith, low)) e)
+
+-- a member that is listed has a node ID
+pub in_list : (xs : List ℕ) (x : ℕ) → Contains xs x → In x xs
+in_list xs x has = in_list_at xs x has.0 has.1 has.2
+
+pub small_member : (ids : List ℕ) (id : ℕ) → AreMembers ids → Contains ids id → id ≤ 1000000000
+small_member ids id members has = let most = (members.nodes id (in_list ids id has)).1 in omega (arith, most)
 
 same_members : (xs ys : List ℕ) → AreMembers xs → AreMembers ys → map decimal xs ≡ map decimal ys → xs ≡ ys
 same_members xs ys p q e = same_few xs ys (inr p) (inr q) e
@@ -161,7 +182,7 @@ same_payload (x ∷ xs) (y ∷ ys) word p q = let same = sym p ∙ q in cc
 first : {a x : List ℕ} {l m : List (List ℕ)} → a ∷ l ≡ x ∷ m → a ≡ x
 first e = cc
 
-second : {a b x y : List ℕ} {l m : List (List ℕ)} → a ∷ b ∷ l ≡ x ∷ y ∷ m → b ≡ y
+pub second : {a b x y : List ℕ} {l m : List (List ℕ)} → a ∷ b ∷ l ≡ x ∷ y ∷ m → b ≡ y
 second e = cc
 
 third : {a b c x y z : List ℕ} {l m : List (List ℕ)} → a ∷ b ∷ c ∷ l ≡ x ∷ y ∷ z ∷ m → c ≡ z
@@ -173,7 +194,7 @@ fourth e = cc
 after_one : {a x : List ℕ} {l m : List (List ℕ)} → a ∷ l ≡ x ∷ m → l ≡ m
 after_one e = cc
 
-after_two : {a b x y : List ℕ} {l m : List (List ℕ)} → a ∷ b ∷ l ≡ x ∷ y ∷ m → l ≡ m
+pub after_two : {a b x y : List ℕ} {l m : List (List ℕ)} → a ∷ b ∷ l ≡ x ∷ y ∷ m → l ≡ m
 after_two e = cc
 
 after_three : {a b c x y z : List ℕ} {l m : List (List ℕ)} → a ∷ b ∷ c ∷ l ≡ x ∷ y ∷ z ∷ m → l ≡ m
@@ -240,6 +261,15 @@ module _ (plan : Plan) (words : List (List ℕ)) (planned : IsPlan plan words) w
       let is = by (New own.0) own.1 in
       own.1 ∙ ap (λ l. New (kept l)) (same_members own.0.items ids is.members asks.members (after_one (sym is.spelled ∙ asks.spelled)))
 
+  pub only_replace : (lost : ℕ) (ids : List ℕ) → IsReplace lost ids words → plan ≡ Replace lost (kept ids)
+  only_replace lost ids asks =
+      let own = of_mode plan (Replace lost (kept ids)) words planned asks in
+      let is = by (Replace own.0 own.1) own.2 in
+      let same = sym is.spelled ∙ asks.spelled in
+      own.2 ∙ ap (λ n. Replace n own.1)
+      (one_number own.0 lost (small_member own.1.items own.0 is.members is.may.listed) (small_member ids lost asks.members asks.may.listed) (second same))
+      ∙ ap (λ l. Replace lost (kept l)) (same_members own.1.items ids is.members asks.members (after_two same))
+
   pub only_audit : (ids : List ℕ) → IsAudit ids words → plan ≡ Audit (kept ids)
   only_audit ids asks =
       let own = of_mode plan (Audit (kept ids)) words planned asks in
@@ -284,6 +314,7 @@ module _ (plan : Plan) (words : List (List ℕ)) (planned : IsPlan plan words) w
   only (Node told base turns ids) asks = only_node told base turns ids.items asks
   only (Soak told seed rounds size) asks = only_soak told seed rounds size asks
   only (New ids) asks = only_new ids.items asks
+  only (Replace lost ids) asks = only_replace lost ids.items asks
   only (Audit ids) asks = only_audit ids.items asks
   only (Watch form lines ids) asks = only_watch form lines ids.items asks
   only (Convert from to lines) asks = only_convert from to lines asks

@@ -9,9 +9,10 @@ use Rattle.cmd_logs.specs.Watched.{Watches}
 use Rattle.cmd_new.specs.Made.{MakesStores}
 use Rattle.cmd_node.specs.Nodes.{RunsNodes}
 use Rattle.cmd_io.specs.declared.status.Status.{Status}
+use Rattle.cmd_replace.specs.Replaced.{Replaces}
 use Rattle.store_audit.specs.Audits.{Audits}
 use Rattle.allocator_app.specs.declared.plans.Plan.{Plan}
-use Rattle.allocator_app.specs.declared.plans.Plan.TheVariants.{Replay, Node, Soak, New, Audit, Watch, Convert, Decode}
+use Rattle.allocator_app.specs.declared.plans.Plan.TheVariants.{Replay, Node, Soak, New, Replace, Audit, Watch, Convert, Decode}
 use Rattle.allocator_app.specs.Rows.{Replays}
 use Rattle.allocator_app.specs.Soaking.{Soaks}
 use Rattle.allocator_app.specs.Told.{told_rules}
@@ -28,6 +29,7 @@ module _ {L D : Type 0} (coming : L → Option (List Received)) (sent : L → Op
       links_old links disks_old disks readings_old readings sink_old sink before now status
   IsFollowed (Soak told seed rounds size) = Soaks told seed rounds size sink_old sink before now status
   IsFollowed (New ids) = MakesStores disk ids.items disks_old disks before now status
+  IsFollowed (Replace lost ids) = Replaces disk ids.items lost disks_old disks before now status
   IsFollowed (Audit ids) = Audits disk ids.items disks_old disks before now status
   IsFollowed (Watch form lines ids) =
       Watches form lines ids.items left_old left source_old source sink_old sink before now status

@@ -1,5 +1,6 @@
 -- The words of the program.
 use Rattle.std.specs.Prelude.{◌≡◌, ◌≤◌, ◌<◌, ◌⊎◌, ◌^◌, ℕ, Bool, true, false, IsTrue, List, [], ◌∷◌, ◌++◌, codes, decimal, length, map, EachIndex, slice_index_or, Option, None, IsNone, IsSome}
+use Rattle.std.specs.List.{Contains}
 use Rattle.can_frame.specs.Sizes.{longest_payload, most_members}
 use Rattle.can_logs.specs.declared.form.Form.{Form}
 use Rattle.can_logs.specs.Forms.{form_word}
@@ -9,7 +10,7 @@ use Rattle.alloc_spec.specs.ClusterMembers.{AreMembers}
 use Rattle.allocator_app.specs.declared.plans.Plan.{Plan}
 use Rattle.allocator_app.specs.declared.told.Told.{Told}
 use Rattle.allocator_app.specs.Told.{AreAmong, IsCluster, Spells, size_of}
-use Rattle.allocator_app.specs.declared.plans.Plan.TheVariants.{Replay, Node, Soak, New, Audit, Watch, Convert, Decode}
+use Rattle.allocator_app.specs.declared.plans.Plan.TheVariants.{Replay, Node, Soak, New, Replace, Audit, Watch, Convert, Decode}
 
 -- the words `replay <rows> <id>..`: how many rows the schedule may have, and the members of the cluster
 pub record IsReplay (rows : ℕ) (ids : List ℕ) (words : List (List ℕ)) : Type 0 where
@@ -56,6 +57,17 @@ pub record IsNew (ids : List ℕ) (words : List (List ℕ)) : Type 0 where
   pub spelled : words ≡ codes "new" ∷ map decimal ids
   pub members : AreMembers ids
 
+-- one of two members or more
+pub record MayLose (ids : List ℕ) (lost : ℕ) : Type 0 where
+  pub two : 2 ≤ length ids
+  pub listed : Contains ids lost
+
+-- the words `replace <lost> <id>..`: whose store is made, and all members of the cluster
+pub record IsReplace (lost : ℕ) (ids : List ℕ) (words : List (List ℕ)) : Type 0 where
+  pub spelled : words ≡ codes "replace" ∷ decimal lost ∷ map decimal ids
+  pub members : AreMembers ids
+  pub may : MayLose ids lost
+
 -- the words `audit <id>..`: whose stores are compared
 pub record IsAudit (ids : List ℕ) (words : List (List ℕ)) : Type 0 where
   pub spelled : words ≡ codes "audit" ∷ map decimal ids
@@ -101,6 +113,7 @@ IsPlan (Replay rows ids) words = IsReplay rows ids.items words
 IsPlan (Node told base turns ids) words = IsNode told base turns ids.items words
 IsPlan (Soak told seed rounds size) words = IsSoak told seed rounds size words
 IsPlan (New ids) words = IsNew ids.items words
+IsPlan (Replace lost ids) words = IsReplace lost ids.items words
 IsPlan (Audit ids) words = IsAudit ids.items words
 IsPlan (Watch form lines ids) words = IsWatch form lines ids.items words
 IsPlan (Convert from to lines) words = IsConvert from to lines words
@@ -113,6 +126,7 @@ IsSound (Node told base turns ids) =
     (1 ≤ size_of told) × (size_of told ≤ most_members) × (turns ≤ 1000000000) × AreMembers ids.items
 IsSound (Soak told seed rounds size) = (rounds ≤ 20000) × (1 ≤ size) × (size ≤ most_members)
 IsSound (New ids) = AreMembers ids.items
+IsSound (Replace lost ids) = AreMembers ids.items × MayLose ids.items lost
 IsSound (Audit ids) = AreMembers ids.items
 IsSound (Watch form lines ids) = (1 ≤ lines) × (lines ≤ 1000000) × AreFew ids.items
 IsSound (Convert from to lines) = (1 ≤ lines) × (lines ≤ 1000000)
@@ -148,6 +162,7 @@ pub record AreStored {L D : Type 0} (ids : List ℕ) (links : List L) (disks : L
 abbrev pub HasObjects : {L D : Type 0} → Plan → List L → List (Option D) → Type 0
 HasObjects (Node told base turns ids) links disks = AreGiven ids.items links disks
 HasObjects (New ids) links disks = AreStored ids.items links disks
+HasObjects (Replace lost ids) links disks = AreStored ids.items links disks
 HasObjects (Audit ids) links disks = AreStored ids.items links disks
 HasObjects _ links disks = AreNone links disks
 
@@ -162,6 +177,7 @@ abbrev pub Reads : Plan → Type 0
 Reads (Node told base turns ids) = ⊥
 Reads (Soak told seed rounds size) = ⊥
 Reads (New ids) = ⊥
+Reads (Replace lost ids) = ⊥
 Reads (Audit ids) = ⊥
 Reads _ = Unit {0}
 
@@ -172,6 +188,7 @@ UsesLinks _ = ⊥
 abbrev pub UsesDisks : Plan → Type 0
 UsesDisks (Node told base turns ids) = Unit {0}
 UsesDisks (New ids) = Unit {0}
+UsesDisks (Replace lost ids) = Unit {0}
 UsesDisks (Audit ids) = Unit {0}
 UsesDisks _ = ⊥
 

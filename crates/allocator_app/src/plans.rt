@@ -39,6 +39,12 @@ pub enum Plan {
         ids: ArrayVec<u8, MOST_MEMBERS>,
     },
 
+    /// To make the store of the lost one of these nodes, 2 to 5 of 1 to 125 each, from the leader's.
+    Replace {
+        lost: u8,
+        ids: ArrayVec<u8, MOST_MEMBERS>,
+    },
+
     /// To compare the stores of these nodes, 1 to 5 of 1 to 125 each.
     Audit {
         ids: ArrayVec<u8, MOST_MEMBERS>,

@@ -7,6 +7,7 @@ ghost use Rattle.outside.specs.Faults.{Rose};
 ghost use Rattle.bus_rows.specs.declared.row.Row.{Row};
 ghost use Rattle.replay_text.specs.Lines.{ReadsRows};
 ghost use Rattle.cmd_new.specs.Made.{MakesStores};
+ghost use Rattle.cmd_replace.specs.Replaced.{Replaces};
 ghost use Rattle.cmd_soak.specs.Rounds.{members, soaked};
 ghost use Rattle.store_audit.specs.Audits.{Audits};
 ghost use Rattle.bus_spec.specs.Cluster.{cluster};
@@ -20,7 +21,7 @@ ghost use Rattle.allocator_app.specs.Rows.{IsTold, Replays};
 ghost use Rattle.allocator_app.specs.Soaking.{Soaks};
 ghost use Rattle.allocator_app.specs.Words.{AreAbsent, AreGiven, AreNone, ArePresent, AreStored, Asks, HasObjects, Reads, UsesDisks, UsesLinks};
 ghost use Rattle.allocator_app.specs.Told.{told_rules};
-ghost use Rattle.allocator_app.specs.Words.{IsAsked, IsAudit, IsConvert, IsDecode, IsNew, IsNode, IsReplay, IsSoak, IsSound, IsWatch};
+ghost use Rattle.allocator_app.specs.Words.{IsAsked, IsAudit, IsConvert, IsDecode, IsNew, IsNode, IsReplace, IsReplay, IsSoak, IsSound, IsWatch};
 ghost use Rattle.allocator_app.specs.declared.told.Told.{Told};
 
 use crate::plans::Plan;
@@ -35,6 +36,7 @@ use cmd_logs::{convert, watch};
 use cmd_new::make_stores;
 use cmd_node::node;
 use cmd_node_laws::laws::{runs_of_node_are_rows, traces_do_no_harm};
+use cmd_replace::replace;
 use cmd_soak::laws::rows_are_lawful;
 use cmd_soak::soak;
 use disk_model::Disk;
@@ -77,6 +79,10 @@ use store_audit::audit_stores;
 /// `new <id>..` makes a new store of each of the disks that are handed in, one for each of these members: an
 /// image with its version alone, synced (`MakesStores` of `cmd_new`).
 ///
+/// `replace <lost> <id>..` makes the store of the lost one of these members from the leader's, where the stores of the
+/// others allow it, a disk for each; only that of the lost one is written (`Replaces` of `cmd_replace`). Else it is
+/// `NoLeader`, or `Uncommitted` with the leader.
+///
 /// `audit <id>..` compares the stores of these members, a disk for each, and changes none of them: the lines of
 /// what they agree on, or `Differ` with the line that names two that differ (`Audits` of `store_audit`).
 ///
@@ -84,10 +90,10 @@ use store_audit::audit_stores;
 /// `cmd_logs`), and `convert <format> <format> <lines>` writes the log in the other form or the same
 /// (`Converts`). `decode <name> <part> <hex>` writes the numbers of a payload under the part of a type that the
 /// text of the source describes (`Decodes` of `cmd_decode`); it is `NoPart` where the text has no such part, and
-/// `NoValue` where the payload has no reading. `new`, `audit`, `watch`, `convert` and `decode` take no memory,
+/// `NoValue` where the payload has no reading. `new`, `replace`, `audit`, `watch`, `convert` and `decode` take no memory,
 /// and come to the end that their input has unless something fails.
 ///
-/// Links are handed in for `node` alone, and disks for `node`, `new` and `audit`; with other words or objects
+/// Links are handed in for `node` alone, and disks for `node`, `new`, `replace` and `audit`; with other words or objects
 /// the status is `Usage`. With `Usage` and `Memory` nothing is touched.
 ///
 /// The promise (`KeepsPromise`) holds along the rows of a report that no fault ended, of a soak and of such a
@@ -108,7 +114,7 @@ use store_audit::audit_stores;
 /// whose lines are all written (`IsWrittenInPart`).
 ///
 /// The other modes do what their calls say: `soak` of `cmd_soak`, `make_stores` of `cmd_new`, `node` of `cmd_node`,
-/// `audit_stores` of `store_audit`, `watch` and `convert` of `cmd_logs`, and `decode` of `cmd_decode`. What a run of
+/// `replace` of `cmd_replace`, `audit_stores` of `store_audit`, `watch` and `convert` of `cmd_logs`, and `decode` of `cmd_decode`. What a run of
 /// `node` is in each trace of processes in which it stands (`RunsInTraces`: `done`, `cut`, `output_failed`), is in
 /// words in docs/PROOFS.md, "Processes".
 pub fn run<S: Source, K: Sink, L: Link, D: Disk, C: Clock>(
@@ -181,6 +187,10 @@ pub fn run<S: Source, K: Sink, L: Link, D: Disk, C: Clock>(
     ensures new { (ids : List ℕ) → IsNew ids (map string_bytes words.now) →
         (result ≡ Status.Usage) ⊎ MakesStores D.Disk ids disks.old disks.new
         (K.written sink.old) (K.written sink.new) result }
+    // A store that is made from the leader's: what is written, or what stands in the way.
+    ensures replace { (lost : ℕ) (ids : List ℕ) → IsReplace lost ids (map string_bytes words.now) →
+        (result ≡ Status.Usage) ⊎ Replaces D.Disk ids lost disks.old disks.new
+        (K.written sink.old) (K.written sink.new) result }
     // Stores that are compared: what is written, and that they stay as they are.
     ensures audit { (ids : List ℕ) → IsAudit ids (map string_bytes words.now) →
         (result ≡ Status.Usage) ⊎ Audits D.Disk ids disks.old disks.new
@@ -229,6 +239,7 @@ fn has_objects<L: Link, D: Disk>(plan: &Plan, links: &[L], disks: &[Option<D>]) 
     match plan {
         Plan::Node { ids, .. } => are_given(ids, links, disks),
         Plan::New { ids } => are_stored(ids, links, disks),
+        Plan::Replace { ids, .. } => are_stored(ids, links, disks),
         Plan::Audit { ids } => are_stored(ids, links, disks),
         Plan::Replay { .. }
         | Plan::Soak { .. }
@@ -323,6 +334,7 @@ fn follow<S: Source, K: Sink, L: Link, D: Disk, C: Clock>(
             size,
         } => soak(alloc, told, seed, rounds, size, sink),
         Plan::New { ids } => make_stores(&ids, disks, sink),
+        Plan::Replace { lost, ids } => replace(&ids, lost, disks, sink),
         Plan::Audit { ids } => audit_stores(&ids, disks, sink),
         Plan::Watch { form, lines, ids } => watch(form, lines, &ids, source, sink),
         Plan::Convert { from, to, lines } => convert(from, to, lines, source, sink),

@@ -1,11 +1,11 @@
-ghost use Rattle.std.specs.Prelude.{◌≡◌, ◌≤◌, ◌<◌, ◌⊎◌, [], ℕ, Bool, List, map, string_bytes, decimal, length, slice_index, EachIndex, IfSome, IsNone, IsTrue};
+ghost use Rattle.std.specs.Prelude.{◌≡◌, ◌≤◌, ◌<◌, ◌↔◌, ◌⊎◌, [], ℕ, Bool, List, map, string_bytes, decimal, length, slice_index, EachIndex, IfSome, IsNone, IsTrue};
 ghost use Rattle.can_frame.specs.Sizes.{longest_payload, most_members};
 ghost use Rattle.can_logs.specs.declared.form.Form.{Form as FormValue};
 ghost use Rattle.dsdl_text.specs.Words as text_words;
 ghost use Rattle.raft_model.specs.Lists.{In};
 ghost use Rattle.alloc_spec.specs.ClusterMembers.{AreMembers};
 ghost use Rattle.allocator_app.specs.declared.told.Told.{Told};
-ghost use Rattle.allocator_app.specs.Words.{AreFew, IsAudit, IsConvert, IsDecode, IsNew, IsNode, IsPlan, IsReplay, IsSize, IsSoak, IsWatch, SpellsPayload};
+ghost use Rattle.allocator_app.specs.Words.{AreFew, IsAudit, IsConvert, IsDecode, IsNew, IsNode, IsPlan, IsReplace, IsReplay, IsSize, IsSoak, IsWatch, MayLose, SpellsPayload};
 
 use crate::plans::Plan;
 use crate::told::read_told;
@@ -18,8 +18,8 @@ use replay_text::{read_bytes, read_number};
 
 /// The plan of the words, without the program's name; `None` where they are none of
 /// `replay <rows> <id>..`, `node <members> <base> <turns> <id>..`, `soak <seed> <rounds> <size>`,
-/// `soak <seed> <rounds> configured <size>`, `new <id>..`, `audit <id>..`, `watch <format> <lines> <id>..`,
-/// `convert <format> <format> <lines>` and `decode <name> <part> <hex>`.
+/// `soak <seed> <rounds> configured <size>`, `new <id>..`, `replace <lost> <id>..`, `audit <id>..`,
+/// `watch <format> <lines> <id>..`, `convert <format> <format> <lines>` and `decode <name> <part> <hex>`.
 pub fn plan(words: &[String]) -> Option<Plan>
     ensures some { IfSome result (λ plan. IsPlan plan (map string_bytes words.now)) }
     ensures none { IsNone result → (plan : Plan) → IsPlan plan (map string_bytes words.now) → ⊥ }
@@ -34,6 +34,9 @@ pub fn plan(words: &[String]) -> Option<Plan>
         return Some(plan);
     }
     if let Some(plan) = new_plan(words) {
+        return Some(plan);
+    }
+    if let Some(plan) = replace_plan(words) {
         return Some(plan);
     }
     if let Some(plan) = audit_plan(words) {
@@ -145,6 +148,32 @@ fn new_plan(words: &[String]) -> Option<Plan>
     }
     let ids = read_members(ids)?;
     Some(Plan::New { ids })
+}
+
+fn replace_plan(words: &[String]) -> Option<Plan>
+    ensures some { IfSome result (λ plan. IsPlan plan (map string_bytes words.now)) }
+    ensures none { IsNone result → (lost : ℕ) (ids : List ℕ) →
+        IsReplace lost ids (map string_bytes words.now) → ⊥ }
+{
+    let [mode, lost, ids @ ..] = words else {
+        return None;
+    };
+    if mode.as_str() != "replace" {
+        return None;
+    }
+    let lost = number_within(lost.as_bytes(), 1, 125)? as u8;
+    let ids = read_members(ids)?;
+    if !may_lose(&ids, lost) {
+        return None;
+    }
+    Some(Plan::Replace { lost, ids })
+}
+
+/// Whether these members are two at least, and this node is one of them.
+fn may_lose(ids: &[u8], lost: u8) -> bool
+    ensures { IsTrue result ↔ MayLose ids.now lost }
+{
+    ids.len() >= 2 && ids.contains(&lost)
 }
 
 fn audit_plan(words: &[String]) -> Option<Plan>

@@ -5,7 +5,7 @@ use Rattle.allocator_app.specs.Told.{told_rules}
 use Rattle.allocator_app.specs.declared.plans.Plan.TheVariants.{Replay}
 use Rattle.allocator_app.proofs.Ending.{all_lawful, completed, holds_along}
 use Rattle.allocator_app.proofs.Needs.{no_disks_used, no_links_used}
-use Rattle.allocator_app.proofs.OnePlan.{only_audit, only_convert, only_decode, only_new, only_node, only_replay, only_soak, only_watch}
+use Rattle.allocator_app.proofs.OnePlan.{only_audit, only_convert, only_decode, only_new, only_node, only_replace, only_replay, only_soak, only_watch}
 use Rattle.allocator_app.proofs.Traces.{in_traces}
 use Rattle.allocator_app.proofs.program.run.Goals as goal
 
@@ -67,6 +67,10 @@ returns-clause-nodes g c = λ told base turns ids asks.
 pub returns-clause-new : goal.returns-clause-new
 returns-clause-new g c = λ ids asks.
     inr (rw (only_new c.in-Some.plan _ c.in-Some.ensures.some ids asks) at c.follow.ensures.followed)
+
+pub returns-clause-replace : goal.returns-clause-replace
+returns-clause-replace g c = λ lost ids asks.
+    inr (rw (only_replace c.in-Some.plan _ c.in-Some.ensures.some lost ids asks) at c.follow.ensures.followed)
 
 pub returns-clause-audit : goal.returns-clause-audit
 returns-clause-audit g c = λ ids asks.
