@@ -22,7 +22,9 @@ def serves(program: str, processes: List[List[int]]) -> bool:
     subprocess.run([program, "new", *names], stdout=subprocess.DEVNULL, check=True)
 
     def command(process: int, _socket: int) -> List[str]:
-        return [program, "can", ",".join(names), "1000000000", *map(str, processes[process])]
+        ids = list(map(str, processes[process]))
+        turns = ["1000000000"] if len(ids) > 1 else []  # (one member has them where they are left out)
+        return [program, "can", ",".join(names), *turns, *ids]
 
     bus = packets.Bus(os.getcwd(), command, at_input=True)
     for process in range(len(processes)):
