@@ -1,5 +1,5 @@
 -- How a new store is marked as used.
-use Rattle.std.specs.Prelude.{◌≡◌, ℕ, ◌<◌, ◌≤◌, List, [], ◌∷◌, slice_index}
+use Rattle.std.specs.Prelude.{◌≡◌, ℕ, ◌≤◌, List, [], ◌∷◌, slice_index}
 use Rattle.disk_model.specs.Contents.{Contents, HasBytes, IsSettled}
 
 -- the version again, in copy A, which nobody reads while the selector before it names copy B

@@ -1,4 +1,4 @@
-use Rattle.std.proofs.Common.{◌≡◌, ℕ, List}
+use Rattle.std.proofs.Common.{ℕ, List}
 use Rattle.raft_log.specs.declared.stored.Stored.{Stored}
 use Rattle.cmd_replace.specs.Guard.{MayReplace, StandsInWay}
 use Rattle.cmd_replace.specs.declared.guard.Obstacle.{Obstacle}

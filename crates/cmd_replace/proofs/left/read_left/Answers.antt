@@ -1,5 +1,5 @@
 use Rattle.std.proofs.Common.{◌≡◌, ◌<◌, ◌+◌, [], ◌∷◌, length, sym, ap, subst, ◌∙◌, arith}
-use Rattle.std.specs.Prelude.{None, Some, slice_index, slice_index_or}
+use Rattle.std.specs.Prelude.{None, slice_index, slice_index_or}
 use Rattle.std.proofs.lemmas.List.{get_or-set_other, get_or_default, length-append, length-set}
 use Rattle.store_audit.proofs.Disks.{counts_one, stay_more, there_is}
 use Rattle.cmd_replace.specs.Replaced.{AreRead, EndsAtDamage}

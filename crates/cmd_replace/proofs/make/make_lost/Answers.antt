@@ -1,5 +1,5 @@
-use Rattle.std.proofs.Common.{◌≡◌, ◌<◌, length, refl, ap, subst, ◌∙◌, arith}
-use Rattle.std.specs.Prelude.{None, Some, slice_index, slice_index_or}
+use Rattle.std.proofs.Common.{◌<◌, length, refl, ap, subst, ◌∙◌, arith}
+use Rattle.std.specs.Prelude.{None, slice_index, slice_index_or}
 use Rattle.std.proofs.lemmas.List.{get_or-set_same, get_or_default}
 use Rattle.store_audit.proofs.Disks.{there_is}
 use Rattle.cmd_replace.specs.Guard.{MayReplace, StandsInWay}
