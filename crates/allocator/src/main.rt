@@ -24,8 +24,8 @@ mod refusal;
 mod stranger;
 
 use crate::opened::{
-    held_streams, known_stores, link_of, listening_link, made_stores, old_stores, stores_but_lost, stores_of,
-    take_away,
+    held_streams, known_stores, link_of, listening_link, made_stores, old_stores, stores_but_lost,
+    stores_of, take_away,
 };
 use crate::refusal::Refusal;
 use crate::stranger::write_stranger;
