@@ -1,5 +1,5 @@
-"""Checks of the documents against the sources, and of the numbers that tools have against the program's, for
-`tests/documents`."""
+"""Checks of the documents against the sources, of the numbers that tools have against the program's, and of the times
+that the documents state against the definitions, for `tests/documents`."""
 from __future__ import annotations
 
 import os
@@ -11,6 +11,7 @@ import unittest
 from typing import Callable, Dict, Iterable, Iterator, List, NamedTuple, Set, Tuple
 
 import support
+from definitions import Definitions
 from support import ROOT, Ended
 
 from caldrouz import table
@@ -47,6 +48,25 @@ FACTS = [
     Fact("the entries of a log", r"\b127 (entries|places)\b", "OPERATING"),
     Fact("the days of turns", r"\b12 days\b", "OPERATING"),
 ]
+
+
+class Time(NamedTuple):
+    """The definition of the time in which a law comes true, and that of the time from which PROOFS counts it."""
+
+    law: str
+    within: str
+    behind: str = ""
+
+
+TIMES = [
+    Time("elections_end", "election_within"),
+    Time("leaders_come", "led_within"),
+    Time("clusters_come_back", "back_within", "led_within"),
+    Time("devices_are_served", "served_within", "led_within"),
+    Time("known_devices_are_told_in_calm", "time_to_be_told"),
+    Time("new_devices_are_served_in_calm", "time_to_be_served"),
+]
+COUNTS = {word: count for count, word in enumerate("one two three four five six seven eight nine ten".split(), 1)}
 WORD = re.compile(r"[A-Za-z_][A-Za-z0-9_']*")
 SPAN = re.compile(r"`([^`\n]+)`")
 LINK = re.compile(r"\[[^\]\n]*\]\(([^)\s]+)\)")
@@ -335,6 +355,76 @@ class Numbers(Checked):
             there = {int(number): word for number, word in re.findall(r'\[(\d+)\] = "(\w+)"', found[1])}
             here = {of.data_type.number: of.data_type.name for of in kinds if of.kind == kind}
             self.assertEqual(there, here, name)
+
+
+class Times(unittest.TestCase):
+    """What README and PROOFS say of times is computed from the definitions that the laws use."""
+
+    def setUp(self) -> None:
+        self.service = Definitions(["service_*/specs/*.antt", "can_frame/specs/Timing.antt"])
+        self.readme, self.proofs, self.premises = (
+            " ".join(text_of(ROOT / name).split("\n")) for name in ("README.md", "docs/PROOFS.md", "docs/PREMISES.md")
+        )
+
+    def found(self, pattern: str, text: str) -> Tuple[int, ...]:
+        """The numbers of a sentence, in figures or in words."""
+        found = re.search(pattern, text)
+        assert found is not None, f"nothing stands there of this form: {pattern}"
+        return tuple(COUNTS[word] if word in COUNTS else int(word) for word in found.groups())
+
+    def time(self, name: str, period: int, delay: int, size: int, longest: int) -> int:
+        pace = {"period": period, "delay": delay}
+        return self.service.value(name, {"pace": pace, "size": size, "longest": longest})
+
+    def row(self, law: str) -> Tuple[str, str]:
+        """By when the law comes true, as an expression of P, d, n and L, and its instance."""
+        by_then = r"([^|:]*?)(?: more| after `\w+`)?: [^|]*"
+        found = re.search(rf"\| `{law}`[^|]*\|[^|]*\| {by_then}\| ([^|]*) \|", self.proofs)
+        assert found is not None, law
+        text = re.sub(r"([\d.]+) s\b", lambda it: str(round(1000 * float(it[1]))), found[1])
+        return re.sub(r"([nL]) \(", r"\1 * (", re.sub(r"(\d)([Pd])", r"\1 * \2", text)), found[2]
+
+    def test_the_times_of_the_laws_are_those_of_the_definitions(self) -> None:
+        instance = self.found(r"instance has (\w+) members, (\w+) ms, (\w+) ms and (\w+) entries", self.proofs)
+        size, period, delay, longest = instance
+        for law, within, behind in TIMES:
+            by_then, stated = self.row(law)
+            for P, d, n, L in ((0, 0, 0, 0), (1, 0, 0, 0), (0, 1, 0, 0), (0, 0, 1, 0), (0, 0, 0, 1), (3, 5, 7, 11)):
+                told = self.time(within, P, d, n, L) - (self.time(behind, P, d, n, L) if behind else 0)
+                with self.subTest(law=law, P=P, d=d, n=n, L=L):
+                    self.assertEqual(self.service.value_of(by_then, {"P": P, "d": d, "n": n, "L": L}), told)
+            with self.subTest(law=law):
+                tenths = (self.time(within, period, delay, size, longest) + 50) // 100
+                self.assertEqual(stated, f"{tenths // 10}.{tenths % 10} s")
+
+    def test_the_readme_has_the_times_of_a_calm(self) -> None:
+        size, longest, served = self.found(
+            r"(\w+) members that know each other, with at most (\w+) entries in a log, give .* within (\w+) s,",
+            self.readme,
+        )
+        period, waits, travels = self.found(
+            r"every (\w+) ms; frames wait (\w+) ms at most, and travel (\w+) ms", self.readme
+        )
+        (apart,) = self.found(r"stand for election within (\w+) ms of each other", self.readme)
+        (delays,) = self.found(r"`leaders_come`[^|]*\|[^|]*stand within (\w+)d of", self.proofs)
+        self.assertEqual((waits, apart), (travels, delays * travels))
+        self.assertEqual(served, -(-self.time("served_within", period, travels, size, longest) // 1000))
+
+    def test_the_premises_have_the_numbers_of_a_vehicle(self) -> None:
+        """Those of the law `the_numbers_of_a_vehicle_are_enough`."""
+        vehicle = Definitions(
+            ["allocator_app/specs/Vehicle.antt", "host_pace/specs/*.antt", "bus_physics/specs/Physics.antt"]
+            + ["can_frame/specs/Timing.antt"]
+        )
+        hold, drift, turn, wait = (
+            vehicle.value(name, {}) / 1000 for name in ("longest_hold", "most_drift", "vote_round", "election_wait")
+        )
+        self.assertIn(f"a frame arrives within {hold:g} s of its making", self.readme)
+        self.assertIn("a clock gains or loses less than half a second in a minute", self.readme)
+        self.assertEqual(drift, 0.499)
+        said = f"Two holds of {hold:g} s and a drift of 0.5 s are below the rest and {wait:g} s, and below {turn:g} s"
+        self.assertIn(said, self.premises)
+        self.assertIn(f"A member is opened {table.REST / 1000:g} s after its last transfer", self.premises)
 
 
 if __name__ == "__main__":
