@@ -31,6 +31,7 @@ FAILURES = [  # which call fails how, in the words of strace, and how the member
 ECHOES = 10  # frames behind which a call has failed
 APPEND_ENTRIES = 30  # the number of the service
 LATE = 0.5  # seconds until an echo is late
+SOON = 0.02  # seconds for which a frame waits for the echo of the one before it
 STOPPED = 2.5  # seconds for which a process is stopped: what it has to send is too old then
 PATIENCE = 20.0  # seconds until a member has to have sent something, or to have ended
 
@@ -121,6 +122,30 @@ def delayed(program: str) -> Tuple[bool, str]:
         members.close()
 
 
+def behind(program: str) -> Tuple[bool, str]:
+    """A frame waits until the echo of the one before it has come, and is not lost: here the second one of a transfer.
+    A packet that lacks a byte is no echo."""
+    members = Members(program, [1])
+    second = False
+    try:
+        end = time.monotonic() + PATIENCE
+        while time.monotonic() < end:
+            packet = members.packet(PATIENCE)
+            if packet is None:
+                return False, f"it ended with {members.process.poll()}"
+            tail = packets.frame_of(packet)[1][-1]
+            if second:
+                members.give(packet[:-1])
+                early = list(members.packets(SOON))
+                return not tail & packets.FIRST and not early, f"{packet.hex()}, then {[one.hex() for one in early]}"
+            second = bool(tail & packets.FIRST and not tail & packets.LAST)
+            time.sleep(SOON)
+            members.give(packet)
+        return False, "it sent no transfer of several frames"
+    finally:
+        members.close()
+
+
 def stopped(program: str) -> Tuple[bool, str]:
     """What a process has to send when it is stopped for long is not sent any more: here the second frame of a transfer,
     for which it waits until the first one was on the bus."""
@@ -192,6 +217,7 @@ def main() -> int:
         ("an echo that never comes ends the member", lambda: withheld(program, 0)),
         ("a later echo that does not come ends it too", lambda: withheld(program, 5)),
         ("an echo in time, and another's frame", lambda: delayed(program)),
+        ("a frame waits for the echo before it", lambda: behind(program)),
         ("what is old after a stop is not sent", lambda: stopped(program)),
         ("two members of one process hear each other", lambda: two_of_one_process(program)),
     ]

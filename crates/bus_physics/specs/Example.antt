@@ -29,3 +29,8 @@ at_allocatee = record { at = 1050; row = ARx 1 1 1080 0 }
 
 abbrev pub everything : List Timed
 everything = before ++ (at_member ∷ (at_allocatee ∷ []))
+
+-- Two minutes after it was opened member 2 reads its clock again. It was 500 then, so a clock that keeps the pace says
+-- 120,500.
+abbrev pub two_minutes_later : (moment : ℕ) → Timed
+two_minutes_later moment = record { at = 120008; row = Tick 2 moment 0 }

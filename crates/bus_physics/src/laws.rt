@@ -21,7 +21,7 @@ ghost use Rattle.bus_rows.specs.Timed.{Timed};
 ghost use Rattle.bus_physics.specs.Physics.{ClockIsNotFast, HoldsAreShort, Limits, RestsBeforeOpening, UsesIdsApart, WaitsForAnswers, heard_by};
 ghost use Rattle.bus_rows.specs.Timed.{rows_in};
 ghost use Rattle.bus_physics.specs.Physics.{may_be_long};
-ghost use Rattle.bus_physics.specs.Example.{at_allocatee, at_member, before as first_rows, everything, limits as some_limits, two};
+ghost use Rattle.bus_physics.specs.Example.{at_allocatee, at_member, before as first_rows, everything, limits as some_limits, two, two_minutes_later};
 ghost use Rattle.bus_physics.specs.Reuse.{IsStaleAt, IsTornAt, IsTornAtDevice, LacksFrames};
 ghost use Rattle.bus_agreement.specs.Headline.{HasHeadline};
 ghost use Rattle.cmd_node_laws.specs.Traces.{Event, MayAllHappen, all_rows};
@@ -185,7 +185,8 @@ pub fn a_member_puts_nothing_together_of_two()
     rows_are_shown();
 }
 
-/// The premises can be met: in this cluster a member hears a frame of another one, and so does an allocatee.
+/// The premises can be met: in this cluster a member hears a frame of another one, and so does an allocatee. Beyond a
+/// minute a clock may lose (`slow`) and gain (`quick`) more than the drift in all.
 pub fn premises_can_be_met()
     ensures lawful { AreLawful (cluster two) (rows_in first_rows) }
     ensures clock { ClockGoesOn some_limits 2 [] (cluster two) (first_rows ++ at_member ∷ []) }
@@ -198,6 +199,8 @@ pub fn premises_can_be_met()
     ensures frames { ComeInOrder 2 [] (cluster two) (rows_in (first_rows ++ at_member ∷ [])) }
     ensures short { HoldsAreShort some_limits }
     ensures fast { ClockIsNotFast some_limits 2 [] (cluster two) first_rows }
+    ensures slow { ClockGoesOn some_limits 2 [] (cluster two) (first_rows ++ two_minutes_later 120490 ∷ []) }
+    ensures quick { ClockIsNotFast some_limits 2 [] (cluster two) (first_rows ++ two_minutes_later 120510 ∷ []) }
     ensures rests { RestsBeforeOpening some_limits (first_rows ++ at_member ∷ [])
         (transfers_of_rows (cluster two) (rows_in first_rows) []) 2 }
     ensures turns { AllComeInTurn two (cluster two) (rows_in first_rows) }

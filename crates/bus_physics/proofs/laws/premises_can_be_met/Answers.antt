@@ -21,7 +21,7 @@ use Rattle.bus_spec.specs.Lawful.{AreLawful}
 use Rattle.bus_spec.specs.Refinement.{transfers_of_rows}
 use Rattle.bus_physics.specs.Example.{at_allocatee, at_member, before, everything, limits, two}
 use Rattle.bus_rows.specs.Timed.{rows_in}
-use Rattle.bus_physics.specs.Physics.{GoesOn, Reading}
+use Rattle.bus_physics.specs.Physics.{GoesOn, IsNotFast, Reading}
 use Rattle.bus_physics.specs.Schedule.{DeviceHears, LawfulButForBus}
 use Rattle.bus_physics.proofs.laws.premises_can_be_met.Goals as goal
 
@@ -40,6 +40,19 @@ passes at now then moment late more p (inr i) = absurd i
 pub returns-clause-clock : goal.returns-clause-clock
 unfolding step all_nodes queued_frames next_out left_behind frames_of
 returns-clause-clock c = (tt, (tt, (tt, (tt, (tt, (passes 8 500 1050 1541 (omega arith) (omega arith), tt))))))
+
+pub returns-clause-slow : goal.returns-clause-slow
+unfolding step all_nodes queued_frames next_out left_behind frames_of
+returns-clause-slow c = (tt, (tt, (tt, (tt, (tt, (passes 8 500 120008 120490 (omega arith) (omega arith), tt))))))
+
+-- a clock of which nothing is asked any more
+is_long_ago : (at now then moment : ℕ) → at + 60001 ≤ then → IsNotFast limits (record { at = at; now = now } ∷ []) then moment
+is_long_ago at now then moment long p (inl e) soon = absurd (omega (arith, long, soon, ap (λ (r : Reading). r.at) e))
+is_long_ago at now then moment long p (inr i) soon = absurd i
+
+pub returns-clause-quick : goal.returns-clause-quick
+unfolding step all_nodes queued_frames next_out left_behind frames_of
+returns-clause-quick c = (tt, (tt, (tt, (tt, (tt, (is_long_ago 8 500 120008 120510 (omega arith), tt))))))
 
 -- what member 1 made
 made_in : (x : SentTransfer) → In x (transfers_of_rows (cluster two) (rows_in before) []) → (x.step ≡ 4) × (x.by ≡ 1)
