@@ -4,6 +4,7 @@ traceback.
 view         schedules and reports of examples, of which bytes, words and lines are changed, doubled or left out
 follow       logs, broken likewise; `replay` is a stand-in, which answers each row with a line of some form for it
 why, check_vehicle    such logs and stores
+check_settings        settings, broken likewise
 assign       broken tables
 node_status  stores of an example, of which bytes are changed, and random ones; and datagrams, while it listens
 monitor      datagrams, while it listens
@@ -122,7 +123,7 @@ def write_log(draw: random.Random, folder: str) -> List[str]:
 
 def write_why(draw: random.Random, folder: str) -> List[str]:
     store = ["--store", keep(folder, "alloc-1.store", broken_store(draw))] if draw.random() < 0.3 else []
-    members = draw.choice(["", "--members 1,2,3", "--members 1,x", "--size 3", "--seconds 5"]).split()
+    members = draw.choice(["", "--members 1,2,3", "--members 1,x", "--size 3", "--seconds 5 --json"]).split()
     return [broken_log(draw, folder), *members, *store]
 
 
@@ -133,6 +134,13 @@ def write_vehicle(draw: random.Random, folder: str) -> List[str]:
     return ["--log", broken_log(draw, folder), *given, *draw.choice(["", "--members 1,2,3", "--hold x"]).split()]
 
 
+def write_settings(draw: random.Random, folder: str) -> List[str]:
+    """Settings of one or two machines, of which bytes are changed."""
+    text = b'# a comment\nCLUSTER=1,2,3\nBASE=5000\nMEMBERS="1 2"\nBITRATE=1000000\n'
+    files = [keep(folder, f"settings{at}", broken(draw, text, 5)) for at in range(draw.choice([1, 1, 2]))]
+    return files + draw.choice([[], ["--json"]])
+
+
 def write_table(draw: random.Random, folder: str) -> List[str]:
     """A table that no allocator is asked for: its last line is none."""
     rows = b"\n".join(b"%d %s" % (draw.randrange(130), b"%032x" % draw.getrandbits(128)) for _ in range(5))
@@ -140,13 +148,13 @@ def write_table(draw: random.Random, folder: str) -> List[str]:
 
 
 def broken_store(draw: random.Random) -> bytes:
-    image = bytearray(draw.choice(STORES))
+    image = bytearray(draw.choice([it for it in STORES if len(it) == table.IMAGE]))
     for _ in range(draw.randrange(8)):
         at = draw.randrange(table.KEY_SIZE * 12) if draw.randrange(4) else draw.randrange(len(image))
         image[at] = draw.choice([0, 1, 2, 3, 21, 22, 33, draw.randrange(256)])
     if draw.random() < 0.1:
         image = bytearray(random_bytes(draw, table.IMAGE))
-    return bytes(image[: draw.choice([len(image)] * 9 + [draw.randrange(len(image))])])
+    return bytes(image[: draw.choice([len(image)] * 9 + [draw.randrange(len(image) + 1)])])  # (it may be empty)
 
 
 def write_stores(draw: random.Random, folder: str) -> List[str]:
@@ -353,7 +361,8 @@ STORES = [read(path) for path in sorted(glob.glob(os.path.join(EXAMPLES, "**", "
 RUN_ONCE = [
     Tool("view", {0, 1, 2, 3}, write_run),
     Tool("follow", {0, 1, 2, 3, 4}, write_log),
-    Tool("why", {0, 1, 2, 3}, write_why),
+    Tool("why", {0, 1, 2, 3, 5}, write_why),
+    Tool("check_settings", {0, 1, 2, 3}, write_settings),
     Tool("check_vehicle", {0, 1, 2, 3}, write_vehicle),
     Tool("assign", {2}, write_table),
     Tool("node_status", {0, 1, 2}, write_stores),

@@ -165,6 +165,28 @@ class Case(unittest.TestCase):
         return [self.bridge.counts[name] for name in names]
 
 
+class Counts(Case):
+    def test_they_are_written_now_and_then(self) -> None:
+        with tempfile.TemporaryDirectory() as folder:
+            path = os.path.join(folder, "bridge.prom")
+            journal = bridge.Journal(self.bridge.counts, "can0", path)
+            self.bridge.counts["own"] = 7
+            journal.write_counts()
+            with open(path, encoding="utf-8") as file:
+                text = file.read()
+            self.assertIn('caldrouz_bridge_frames_total{bus="can0",count="own"} 7\n', text)
+            self.assertIn("# TYPE caldrouz_bridge_frames_total counter\n", text)
+            os.remove(path)
+            journal.write_counts()
+            self.assertFalse(os.path.exists(path))
+
+    def test_a_file_that_cannot_be_written_ends_nothing(self) -> None:
+        journal = bridge.Journal(self.bridge.counts, "can0", "/none/bridge.prom")
+        with redirect_stderr(self.errors):
+            journal.write_counts()
+        self.assertIn("/none/bridge.prom: No such file or directory", self.errors.getvalue())
+
+
 class FromMembers(Case):
     def test_a_frame_of_a_member_goes_to_the_bus(self) -> None:
         self.says(1, datagram(NODE_STATUS_OF_1))

@@ -1,19 +1,22 @@
 """Tests of tools/check_vehicle: what a machine, a bus and a log tell of what the promise assumes."""
 from __future__ import annotations
 
+import importlib.machinery
+import importlib.util
 import itertools
+import json
 import os
 import pathlib
 import tempfile
 import time
 import unittest
-from typing import Dict, List, Tuple
+from typing import Any, Dict, List, Tuple
 from unittest import mock
 
 import images
-from support import EXAMPLES, TESTS, Ended, run_tool, write_lines
+from support import EXAMPLES, ROOT, TESTS, Ended, run_tool, write_lines
 
-from caldrouz import lists, logs, machine, stores, timing, wire
+from caldrouz import causes, lists, logs, machine, stores, timing, wire
 
 MOUNTS = r"""21 1 254:0 / / rw,relatime - ext4 /dev/vda rw
 22 21 0:21 / /proc rw - proc proc rw
@@ -22,6 +25,16 @@ MOUNTS = r"""21 1 254:0 / / rw,relatime - ext4 /dev/vda rw
 32 21 0:32 / /net rw - nfs4 host:/x rw
 33 21 0:33 / /run rw - tmpfs tmpfs rw
 """
+
+
+def vehicle_tool() -> Any:
+    """The script as a module."""
+    loader = importlib.machinery.SourceFileLoader("check_vehicle", str(ROOT / "tools/check_vehicle"))
+    spec = importlib.util.spec_from_loader("check_vehicle", loader)
+    assert spec is not None
+    module = importlib.util.module_from_spec(spec)
+    loader.exec_module(module)
+    return module
 
 
 def check(*words: object, **environment: str) -> Ended:
@@ -162,6 +175,7 @@ class Processes(unittest.TestCase):
                 (proc / str(number) / "cwd").symlink_to(name)
             found = machine.members_running(name)
         self.assertEqual([(it.process, it.members) for it in found], [(7, [1]), (8, [1, 2]), (10, [3])])
+        self.assertEqual([(it.mode, it.told) for it in found], [("node", "3"), ("node", "1,2,3"), ("can", "1,2,3")])
 
 
 class Interfaces(unittest.TestCase):
@@ -192,6 +206,19 @@ class Interfaces(unittest.TestCase):
         )
         self.assertEqual(found, machine.Interface(True, False, "can", 1000, 100, 500000, "ERROR-PASSIVE"))
         self.assertEqual(self.journal, "to_bus=5 own=3\n")
+
+    def test_error_counters(self) -> None:
+        text = """echo '[{"flags":["UP"],"linkinfo":{"info_kind":"can","info_data":{"state":"BUS-OFF",
+        "berr_counter":{"tx":248,"rx":3}},"info_xstats":{"restarts":1,"bus_off":2}}}]'"""
+        found = self.told({"ip": text})
+        self.assertEqual((found.errors, found.bus_off), (248, 2))
+        said = list(causes.interface("can0", found))
+        self.assertEqual([(it.name, it.stops) for it in said], [("bad-interface", True)])
+        self.assertIn("can0 left the bus (BUS-OFF), with error counters up to 248", said[0].text)
+        passive = list(causes.interface("can0", found._replace(state="ERROR-PASSIVE")))
+        self.assertEqual([(it.name, it.stops) for it in passive], [("bad-interface", False)])
+        self.assertEqual(list(causes.interface("can0", found._replace(state="ERROR-ACTIVE", bus_off=0))), [])
+        self.assertEqual(list(causes.interface("can0", None)), [])
 
     def test_who_tells_when_a_frame_was_on_the_bus(self) -> None:
         for flags, kind, echo in (('"ECHO"', "can", True), ("", "slcan", False), ("", "vcan", True)):
@@ -275,11 +302,54 @@ class Logs(unittest.TestCase):
     def test_words(self) -> None:
         self.assertEqual(run_tool("check_vehicle", "--help").status, 0)
         self.assertEqual(check("--log", self.log).status, 2)
+        self.assertEqual(check("--log", self.log, "--members", "3").status, 2)  # (how many there are)
         self.assertEqual(check("--log", self.log, "--members", "8,9").status, 3)
-        self.assertEqual(check("--log", "no such log", "--members", "1").status, 3)
+        self.assertEqual(check("--log", "no such log", "--members", "1,").status, 3)
         self.assertEqual(check("--members", "0").status, 2)
         self.assertEqual(run_tool("check_vehicle", "--settings", "no such file").status, 3)
         self.assertEqual(check("nocan0", "--seconds", "1").status, 3)
+
+
+class Processed(unittest.TestCase):
+    """What processes of this machine tell."""
+
+    def test_lists_of_processes(self) -> None:
+        report = vehicle_tool().Report(True)
+        running = [machine.Running(7, [1], "/", "node", "1,2,3"), machine.Running(8, [3], "/", "node", "1,3,4")]
+        with mock.patch.object(machine, "members_running", lambda: running):
+            vehicle_tool().check_told(report, [1, 2, 3], None)
+        self.assertEqual([it["state"] for it in report.premises], ["NOT SO"])
+        self.assertIn("(process 8), told the members 1,3,4", report.premises[0]["text"])
+
+    def test_why_tells_of_processes_with_another_list(self) -> None:
+        one = machine.Running(7, [1], "/", "node", "1,2,3", 5000)
+        other = machine.Running(8, [3], "/", "node", "1,3,4", 5000)
+        beside = machine.Running(9, [4], "/", "node", "4,5,6", 5200)
+        found = list(causes.lists_here([one, other, beside], [1, 2, 3], 5000))
+        self.assertEqual([it.name for it in found], ["another-list"])
+        self.assertIn("Member 3 runs here (process 8), told the members 1,3,4", found[0].text)
+        self.assertEqual(list(causes.lists_here([one, beside], [1, 2, 3], 5000)), [])
+        self.assertEqual(list(causes.lists_here([one, beside], [1, 2, 3], None)), [])
+        self.assertEqual(list(causes.lists_here([one], (), None)), [])
+        self.assertEqual(list(causes.lists_here([one, beside._replace(base=5000)], [1, 2, 3], 5000)), [])
+
+    def test_counts_of_a_bridge_that_members_left(self) -> None:
+        report = vehicle_tool().Report(True)
+        running = [machine.Running(7, [1], "/", "can", "1,2,3")]
+        with mock.patch.object(machine, "members_running", lambda: running), mock.patch.object(
+            machine, "journal", lambda _: "own=787"
+        ):
+            vehicle_tool().check_own(report, "can0")
+        self.assertEqual([it["state"] for it in report.premises], ["not tested"])
+
+
+class AsJson(unittest.TestCase):
+    def test_the_object(self) -> None:
+        said = check("--stores", "/dev/shm", "--json")
+        told = json.loads(said.written)
+        self.assertEqual((told["status"], said.status), ("bad", 1))
+        self.assertIn(("A1", "NOT SO"), [(it["number"], it["state"]) for it in told["premises"]])
+        self.assertTrue(told["person"])
 
 
 class Timings(unittest.TestCase):

@@ -92,6 +92,16 @@ class Told(unittest.TestCase):
         recorded = next(event for event in events if event["event"] == "recorded")
         self.assertEqual(recorded["entry"], {"term": 3, "unique_id": ONE, "node": 42})
 
+    def test_a_number_says_how_many_members_there_are(self) -> None:
+        """As CLUSTER=3 of the settings: 1 and 2 are members, which find each other."""
+        written = self.watch("--members", "3")
+        self.assertIn("member 1 leads in term 3", written)
+        self.assertNotIn("is no member", written)
+
+    def test_the_unit_leaves_the_members_to_the_settings(self) -> None:
+        unit = (ROOT / "packaging/caldrouz-monitor@.service").read_text(encoding="utf-8")
+        self.assertNotIn("--members", unit)
+
     def test_a_screen_on_a_terminal(self) -> None:
         ours, its = pty.openpty()
         environment = {**os.environ, "COLUMNS": "120", "LINES": "40"}

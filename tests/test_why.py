@@ -22,16 +22,17 @@ def why(*words: object) -> Ended:
 
 def named(said: Ended) -> List[str]:
     """The names of the causes, but for warnings."""
-    first = [line.split(": ")[0] for line in said.written.splitlines()]
+    first = [line.replace("guess: ", "", 1).split(": ")[0] for line in said.written.splitlines()]
     return [name for name in first if name in NAMES]
 
 
 NAMES = (
     "silence no-members missing-members another-size strange-member no-majority no-leader not-committed "
     "unidentified-node second-server log-full ids-full crossed-requests never-goes-on unheard-answer unanswered "
-    "wrong-address one-id-twice one-unique-id"
+    "wrong-address one-id-twice one-unique-id bad-interface ended-member terms-used-up frames-twice "
+    "two-clusters another-list ids-run-out lossy-bus another-log wrong-request zero-unique-id"
 ).split()
-WARNINGS = "deaf-member many-blanks log-nearly-full lost-store".split()
+WARNINGS = "deaf-member two-unique-ids many-blanks log-nearly-full lost-store".split()
 
 
 class RecordedCauses(unittest.TestCase):
@@ -247,6 +248,7 @@ class WhatIsHeard(unittest.TestCase):
         heard.take(0.1, 0, "alloc", b"\1" + bytes.fromhex(ONE)[:6])
         heard.take(0.2, 1, "alloc", bytes([70 << 1]) + bytes.fromhex(ONE))
         for second in range(1, 6):
+            heard.status(second, 1, 10 + second)
             heard.take(second, 0, "alloc", b"\1" + bytes([9] * 6))
         self.assertEqual(heard.names(), ["unanswered"])
 

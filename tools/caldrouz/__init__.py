@@ -11,7 +11,9 @@ matters, the program is the judge.
     page      the page of a run, which tools/view writes
     follow    from a log to the run that it shows: recording, partner, member, cluster, plans, search, story
     buses     a bus that is there now: buses.open_bus(word), with receive and send
-    scene     what is heard on a bus, and the events of it; causes: why devices get no node ID; asking: asks for one
+    scene     what is heard on a bus, and the events of it; causes: why devices get no node ID; health: how a cluster
+              is, for people, programs and alarms; asking: asks for an ID
+    vehicle   the settings of the units: the members of a cluster, and what of it runs on this machine
     timing    how late frames of a log are; machine: what a machine tells of its disks, processes and interfaces
     words     the command lines of the tools: their parser, their exit codes, how they end, and the buses, logs and
               stores that they are given

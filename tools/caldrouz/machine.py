@@ -68,6 +68,9 @@ class Running(NamedTuple):
     process: int
     members: List[int]
     folder: str
+    mode: str  # node or can
+    told: str  # the list of all members, or their number
+    base: Optional[int] = None  # of node
 
 
 def members_running(proc: str = "/proc") -> List[Running]:
@@ -86,12 +89,14 @@ def members_running(proc: str = "/proc") -> List[Running]:
         ids = [int(word) for word in words[BEFORE_IDS[words[1]]:] if word.isascii() and word.isdigit()]
         if not ids:
             continue
-        found.append(Running(int(name), ids, folder))
+        base = int(words[3]) if words[1] == "node" and buses.is_base(words[3]) else None
+        found.append(Running(int(name), ids, folder, words[1], words[2], base))
     return found
 
 
 class Interface(NamedTuple):
-    """A CAN interface, as `ip` tells it; None where it does not. `echo`: a frame comes back once it was on the bus."""
+    """A CAN interface, as `ip` tells it; None where it does not. `echo`: a frame comes back once it was on the bus.
+    `errors` are the controller's error counters, the greater of both; `bus_off` how often it left the bus."""
 
     up: bool
     echo: bool
@@ -100,6 +105,8 @@ class Interface(NamedTuple):
     restart: Optional[int]
     bit_rate: Optional[int]
     state: Optional[str]
+    errors: Optional[int] = None
+    bus_off: Optional[int] = None
 
 
 def _said(*words: str) -> Optional[str]:
@@ -113,11 +120,12 @@ def _said(*words: str) -> Optional[str]:
 
 def interface(name: str) -> Optional[Interface]:
     try:
-        told = json.loads(_said("ip", "-json", "-details", "link", "show", "dev", name) or "")[0]
+        told = json.loads(_said("ip", "-json", "-details", "-statistics", "link", "show", "dev", name) or "")[0]
     except (ValueError, LookupError):
         return None
     info = _part(told, "linkinfo")
     data = _part(info, "info_data")
+    counters = [count for count in map(_number, _part(data, "berr_counter").values()) if count is not None]
     flags = told.get("flags") if isinstance(told, dict) else None
     if not isinstance(flags, list):
         return None
@@ -130,6 +138,8 @@ def interface(name: str) -> Optional[Interface]:
         _number(data.get("restart_ms")),
         _number(_part(data, "bittiming").get("bitrate")),
         str(data["state"]) if "state" in data else None,
+        max(counters, default=None),
+        _number(_part(info, "info_xstats").get("bus_off")),
     )
 
 
@@ -181,3 +191,14 @@ def journal(unit: str) -> Optional[str]:
 def unit_value(unit: str, name: str) -> Optional[str]:
     """A property of a unit of systemd, or None where that is not told."""
     return _said("systemctl", "show", "-p", name, "--value", unit)
+
+
+def member_end(member: int) -> Optional[int]:
+    """The exit code of a member that a unit of this machine has started and that does not run now, or None."""
+    for unit in (f"caldrouz-node@{member}", f"caldrouz-can-node@{member}"):
+        told = _said("systemctl", "show", "-p", "ActiveState,ExecMainCode,ExecMainStatus", unit) or ""
+        values = dict(line.split("=", 1) for line in told.splitlines() if "=" in line)
+        is_away = values.get("ActiveState") in ("failed", "activating")
+        if is_away and values.get("ExecMainCode") == "1" and values.get("ExecMainStatus", "").isdigit():
+            return int(values["ExecMainStatus"])
+    return None

@@ -23,7 +23,10 @@ LATE = 5.0  # seconds by which a NodeStatus may be late
 REPEATS = 4  # so many more transfer IDs that do not go on than half of all are those of two nodes
 KEPT = 256  # of requests and answers
 FEW = 32  # of what is kept of each node
+TWICE_WITHIN = 0.1  # seconds within which the same frame is no new one
 ALLOCATOR_NAME = "uavcan.allocator"  # what a member answers to GetNodeInfo
+HIGHEST_TERM = (1 << 32) - 1
+WILD_STEP = 1_000_000  # by so much no term rises at once
 HEALTH = "ok", "warning", "error", "critical"
 MODES = {0: "operational", 1: "initialization", 2: "maintenance", 3: "software update", 7: "offline"}
 
@@ -175,12 +178,59 @@ class Lead(NamedTuple):
     moment: float
 
 
+@dataclass
+class Caller:
+    """Whom a node calls, as a candidate or a leader, and how often each. Members call all others of their list."""
+
+    since: float
+    last: float
+    term: int
+    peers: Dict[int, int] = field(default_factory=dict)
+    led: Optional[float] = None  # when it last called as a leader
+    first_led: float = 0.0
+
+
+@dataclass
+class Exchange:
+    """The requests of one member to another of one kind: the transfer IDs of those that were heard and not answered,
+    that of the last answer, and when answers came that refuse, since the last one that agreed."""
+
+    asked: Deque[int] = field(default_factory=lambda: deque(maxlen=FEW))
+    answered: Optional[int] = None
+    refused: Deque[float] = field(default_factory=lambda: deque(maxlen=KEPT))
+
+
+class Grown(NamedTuple):
+    """A leader has a new entry: when it was first handed on, at which place, and what it is."""
+
+    moment: float
+    place: int
+    entry: wire.Entry
+
+
+class Wild(NamedTuple):
+    """A frame with a term that no cluster comes to by itself: in whose name it is, and whom it is to."""
+
+    moment: float
+    node: int
+    term: int
+
+
 class Request(NamedTuple):
     """A request of a device: its stage, 0 to 2, and the bytes of the unique ID that it tells."""
 
     moment: float
     stage: int
     part: str
+
+
+class Malformed(NamedTuple):
+    """A request of a device that no allocator takes: its source (0: none), its bytes, and what is wrong with it."""
+
+    moment: float
+    source: int
+    part: str
+    wrong: str
 
 
 class Answer(NamedTuple):
@@ -210,9 +260,16 @@ class Scene:
         self.answers: Deque[Answer] = deque(maxlen=KEPT)
         self.log: Dict[int, wire.Entry] = {}  # by place, as leaders handed it on
         self.strangers: Set[Tuple[int, str]] = set()  # nodes, and the kinds of their transfers
+        self.callers: Dict[int, Caller] = {}
+        self.grown: Deque[Grown] = deque(maxlen=KEPT)
+        self.wild: Deque[Wild] = deque(maxlen=FEW)
+        self.malformed: Deque[Malformed] = deque(maxlen=KEPT)
+        self.gaps: Deque[float] = deque(maxlen=KEPT)  # when a member answered that had left out an answer
+        self.exchanges: Dict[Tuple[int, int, str], Exchange] = {}
         self._transfers = wire.Transfers()
-        self._led: Set[int] = set()  # leaders, and whom they call: all members
-        self._stood: Set[int] = set()  # who asks for votes, and who is asked: may be of another cluster
+        self._anchor: Optional[int] = None  # who was heard leading last
+        self._before: Dict[wire.Frame, float] = {}  # frames of the last moments
+        self._sent: Dict[int, List[int]] = {}  # by source: its frames, and those of them that came twice
 
     # --- what is asked of it
 
@@ -228,7 +285,7 @@ class Scene:
         sizes = [listing.size for listing in self.listings.values()]
         if sizes:
             return max(sorted(set(sizes)), key=sizes.count)
-        return len(self._led or self._stood) or None
+        return len(self._called()) or None
 
     def members(self) -> Set[int]:
         """The nodes that are taken for members: those of the words, or those that do what only members do."""
@@ -237,14 +294,25 @@ class Scene:
         strange = {node for node, _ in self.strangers}
         listings = {node: listing for node, listing in self.listings.items() if node not in strange}
         listed = {node for listing in listings.values() for node in listing.known}
-        known = listed | set(listings) | (self._led or self._stood)
+        known = listed | set(listings) | self._called()
         named = {node for node, it in self.nodes.items() if it.identity and it.identity.name == ALLOCATOR_NAME}
         return known or named
+
+    def called_by(self, node: int) -> Set[int]:
+        """A node and whom it calls: its list, once it called each."""
+        caller = self.callers.get(node)
+        return {node, *caller.peers} if caller else set()
+
+    def _called(self) -> Set[int]:
+        """The list of who led last; where nobody led, the lists of all who stood for election."""
+        if self._anchor is not None:
+            return self.called_by(self._anchor)
+        return {node for caller in self.callers for node in self.called_by(caller)}
 
     def strange(self) -> Set[int]:
         """The nodes that do what members do, and are none of those that are known."""
         strange = {node for node, kind in self.strangers if kind in ("disc", "voteq", "appq")}
-        return strange | (self._stood - self.members() if self._all_called() else set())
+        return (strange | (set(self.callers) if self._all_called() else set())) - self.members()
 
     def _all_called(self) -> bool:
         """Whether a leader is known for so long that it has called each member."""
@@ -259,6 +327,12 @@ class Scene:
     def leader(self) -> Optional[Lead]:
         """Who leads now, as far as it was heard; a cluster of one calls nobody."""
         return self.lead if self.lead and self.now - self.lead.moment <= LEADS_FOR else None
+
+    def comes_twice(self) -> bool:
+        """Whether each frame comes twice, of more than one node: not those of two devices with one node ID."""
+        many = [of for of in self._sent.values() if of[0] >= 8]
+        twice = sum(copies > 0.35 * count for count, copies in many)
+        return twice >= 2 and 2 * twice > len(many)
 
     # --- what comes
 
@@ -283,11 +357,37 @@ class Scene:
         self.begin = moment if self.begin is None else self.begin
         self.frames += 1
         heading = frame.heading
+        self._count(frame)
+        if heading.kind == "alloc" and not heading.source and self._is_malformed(frame):
+            return events
         if heading.kind != wire.OTHER:
             payload = self._transfers.take(heading.source, frame)
             if payload is not None and len(payload) in wire.SIZES[heading.kind]:
                 events += getattr(self, f"_{heading.kind}")(heading, payload, frame.tail.transfer_id)
         return events
+
+    def _count(self, frame: wire.Frame) -> None:
+        """Counts the frames of a source, and those that came just before."""
+        of = self._sent.setdefault(frame.heading.source, [0, 0])
+        of[0] += 1
+        of[1] += self.now - self._before.get(frame, -1.0) <= TWICE_WITHIN
+        self._before[frame] = self.now
+        if len(self._before) > 4 * KEPT:
+            self._before = {it: then for it, then in self._before.items() if self.now - then <= TWICE_WITHIN}
+
+    def _is_malformed(self, frame: wire.Frame) -> bool:
+        """Whether a frame without a source, of a device that asks, is one that no allocator takes."""
+        tail, length = frame.tail, len(frame.data) - 2
+        wrong = ""
+        if not (tail.starts and tail.ends):
+            wrong = "is one of several frames"
+        elif tail.toggle:
+            wrong = "has its toggle bit set"
+        elif length not in (4, 6):
+            wrong = f"has {max(0, length)} bytes of its unique ID, where 6, 6 and 4 are to come"
+        if wrong:
+            self.malformed.append(Malformed(self.now, 0, frame.data[1:-1].hex(), wrong))
+        return bool(wrong)
 
     def _stat(self, heading: wire.Heading, payload: bytes, transfer_id: int) -> List[Event]:
         events: List[Event] = []
@@ -366,48 +466,87 @@ class Scene:
         node.told = [it for it in node.told if it.unique_id != told.unique_id][-3:] + [told]
         return [told] if is_new else []
 
-    def _voteq(self, heading: wire.Heading, payload: bytes, __: int) -> List[Event]:
+    def _calls(self, heading: wire.Heading, term: int, transfer_id: int) -> bool:
+        """A node calls another one. Whether it is a call of a cluster, and not one with a wild term."""
+        usual = self.lead.term if self.leader() and self.lead else term
+        if term == HIGHEST_TERM or term - usual > WILD_STEP:
+            self.wild.append(Wild(self.now, heading.source, term))
+            return False
+        caller = self.callers.setdefault(heading.source, Caller(self.now, self.now, term))
+        caller.last, caller.term = self.now, max(term, caller.term)
+        caller.peers[heading.destination] = caller.peers.get(heading.destination, 0) + 1
+        exchange = self.exchanges.setdefault((heading.source, heading.destination, heading.kind), Exchange())
+        if transfer_id != exchange.answered:
+            exchange.asked.append(transfer_id)
+        return True
+
+    def _answered(self, heading: wire.Heading, granted: bool, transfer_id: int) -> None:
+        """A member answers. Where requests before were heard, and not answered, it left them out. (In a log that was
+        made of datagrams an answer may stand before its request.)"""
+        key = heading.destination, heading.source, wire.REQUESTS[heading.kind]
+        exchange = self.exchanges.setdefault(key, Exchange())
+        later = [it for it in exchange.asked if 0 < (it - transfer_id) % table.TRANSFER_IDS < table.TRANSFER_IDS // 2]
+        if any(it != transfer_id and it not in later for it in exchange.asked):
+            self.gaps.append(self.now)
+        exchange.asked, exchange.answered = deque(later, maxlen=FEW), transfer_id
+        if granted:
+            exchange.refused.clear()
+        else:
+            exchange.refused.append(self.now)
+
+    def _voteq(self, heading: wire.Heading, payload: bytes, transfer_id: int) -> List[Event]:
+        if not self._calls(heading, wire.number(payload), transfer_id):
+            return []
         events = self._strange(heading)
-        if not events and (heading.source, heading.kind) not in self.strangers:
-            self._stood |= {heading.source, heading.destination}
         stood = Stood(heading.source, wire.number(payload))
         if not any(before == stood for _, before in self.elections):
             self.elections.append((self.now, stood))
             events.append(stood)
         return events
 
-    def _vote(self, heading: wire.Heading, payload: bytes, __: int) -> List[Event]:
+    def _vote(self, heading: wire.Heading, payload: bytes, transfer_id: int) -> List[Event]:
         self.votes.append((self.now, bool(payload[4] & 0x80)))
+        self._answered(heading, True, transfer_id)
         return []
 
-    def _appq(self, heading: wire.Heading, payload: bytes, __: int) -> List[Event]:
-        events = self._strange(heading)
-        if not events and (heading.source, heading.kind) not in self.strangers:
-            self._led |= {heading.source, heading.destination}
+    def _appq(self, heading: wire.Heading, payload: bytes, transfer_id: int) -> List[Event]:
         term, place, commit = wire.number(payload), payload[8], payload[9]
+        if not self._calls(heading, term, transfer_id):
+            return []
+        events = self._strange(heading)
+        caller = self.callers[heading.source]
+        if caller.led is None or self.now - caller.led > LEADS_FOR:
+            caller.first_led = self.now
+        caller.led = self.now
         if len(payload) >= 31:
             place += 1
             entry = wire.read_entry(payload[10:31])
             if self.log.get(place) != entry:
                 self.log[place] = entry
                 events.append(Recorded(place, entry))
+                if entry.node and place > commit:  # (what is committed already is handed on to one who had it not)
+                    self.grown.append(Grown(self.now, place, entry))
         call = self.calls.get((heading.source, heading.destination))
         if call is None or call.term != term:
             call = self.calls[heading.source, heading.destination] = Call(term)
         call.place, call.commit, call.unanswered = place, commit, call.unanswered + 1
+        if self.given and heading.source not in self.given:
+            return events
         if self.lead is None or (term, heading.source) != (self.lead.term, self.lead.node):
             if self.lead is None or term > self.lead.term:
                 events.append(Led(heading.source, term))
                 self.lead = Lead(heading.source, term, self.now, self.now)
+                self._anchor = heading.source
         else:
             self.lead = self.lead._replace(moment=self.now)
         return events
 
-    def _app(self, heading: wire.Heading, payload: bytes, __: int) -> List[Event]:
+    def _app(self, heading: wire.Heading, payload: bytes, transfer_id: int) -> List[Event]:
         call = self.calls.get((heading.destination, heading.source))
         if call is not None:
             call.unanswered = 0
             call.agreed = self.now if payload[4] & 0x80 else call.agreed
+        self._answered(heading, bool(payload[4] & 0x80), transfer_id)
         return []
 
     def _alloc(self, heading: wire.Heading, payload: bytes, __: int) -> List[Event]:
@@ -416,6 +555,9 @@ class Scene:
             asked = wire.asked_part(heading, payload)
             if asked is not None:
                 self.requests.append(Request(self.now, asked[0] // 6, asked[1]))
+            return []
+        if payload[0] & 1 and heading.source not in self.members():
+            self.malformed.append(Malformed(self.now, heading.source, part, "has a source"))
             return []
         events = self._strange(heading)
         pair = wire.told(heading, payload)

@@ -51,44 +51,155 @@ DROPS = {
 # the causes that `why` names, and what was heard
 CAUSES: Dict[str, str] = {
     "silence": "nothing at all: \"Bring-up of a bus\"",
-    "no-members": "frames, none of a member. Where members do run: their terms are used up",
+    "bad-interface": (
+        "an interface of this machine is down, or left the bus (BUS-OFF): \"Bring-up of a bus\". A warning "
+        "where its controller saw errors"
+    ),
+    "ended-member": "a member of this machine ended: its exit code, in words. A warning where the others go on",
+    "terms-used-up": (
+        "a store or a frame has the highest term; or, as a guess, members are there and none stands for "
+        "election: \"Terms are used up\", below"
+    ),
+    "frames-twice": "each frame comes twice (A7): a second bridge or gateway, an echo, a log of two interfaces",
+    "no-members": "frames, none of a member. One that is alone in its cluster shows itself only when a device asks",
     "missing-members": (
         "members tell each second that they search for others, and who is missing. Where a majority is there, "
         "they were told their number alone (examples/node)"
     ),
     "another-size": "Discovery with two sizes",
+    "two-clusters": (
+        "two leaders, whose lists have no node in common. Both answer devices: one node ID may be given twice"
+    ),
+    "another-list": (
+        "a member calls other nodes than the leader does, or than CLUSTER says (A3). Where it follows, "
+        "nothing shows it: compare the settings"
+    ),
     "strange-member": "a node does what members do, and is none; or there are more members than the size says",
-    "no-majority": "most members are away, or do not answer the leader",
+    "second-server": "a node that is no member answers devices: \"Autopilots and tools\"",
+    "log-full": "no place is left; or none, and not all committed: \"A full log\"",
+    "ids-full": "no node ID is left: the same. Without --store a guess, since blanks use none",
+    "ids-run-out": (
+        "many new pairs within a minute, of nodes that are not there or do not answer. A warning where they "
+        "are there"
+    ),
+    "lossy-bus": "members leave out answers, and answer again: mend the bus first",
+    "no-majority": "most members are away, and which; or they do not answer the leader",
     "no-leader": (
         "all are there, and nobody wins an election: frames between members are lost or late, or waits end "
         "together (node IDs 15, 50 or 65 apart). Beside many calls a second: the leader has another log"
     ),
     "not-committed": "the leader has entries that the others do not get",
+    "another-log": (
+        "a member refuses more calls of the leader than a log has places: \"A leader has another log\", below"
+    ),
     "unidentified-node": (
-        "a node that is there answers no query for its unique ID. No new device is served until it is gone or "
-        "set aside, which takes 6 s where it stays: then its ID is kept back. One NodeStatus each second is "
-        "standard"
+        "a node that is there answers no query for its unique ID; or many node IDs within a minute. No new "
+        "device is served until it is gone or set aside, which takes 6 s where it stays: then its ID is kept "
+        "back. One NodeStatus each second is standard"
     ),
-    "second-server": "a node that is no member answers devices: \"Autopilots and tools\"",
-    "log-full": "no place is left; or none, and not all committed: \"A full log\"",
-    "ids-full": "no node ID is left (needs --store): the same",
-    "crossed-requests": (
-        "several devices ask, and begin each other's exchange anew. Those that keep the standard's times are "
-        "served one after the other. Look first for another name beside it"
-    ),
-    "never-goes-on": "a device asks, is answered, and never sends its second request: it does not hear, or is broken",
-    "unheard-answer": "a device was told its ID again and again, and asks on",
-    "wrong-address": "a node has an ID that the log gives to another unique ID (often needs --store and --ask)",
     "one-id-twice": (
         "the uptimes or transfer IDs of a node's NodeStatus are those of two; or it told two unique IDs. Of a "
         "member: it is started twice. Audit the stores"
     ),
     "one-unique-id": "two nodes tell one unique ID: to the allocators clones are one device, with one ID",
-    "unanswered": "a device asks, and nobody answers, though all looks well. A unique ID of zeros gets nothing",
-    "deaf-member": "a warning: a member does not answer, and the cluster bears no further loss",
+    "wrong-address": "a node has an ID that the log gives to another unique ID (often needs --store and --ask)",
+    "wrong-request": (
+        "a request that no allocator takes: it has a source, several frames, a toggle bit, another length, or "
+        "no flag of the first part"
+    ),
+    "zero-unique-id": "a device asks with a unique ID of zeros, and is given nothing",
+    "never-goes-on": (
+        "a device asks, is answered, and sends its second request never, or later than 500 ms: it does not "
+        "hear, or is broken"
+    ),
+    "unheard-answer": "a device was told its ID again and again, and asks on",
+    "crossed-requests": (
+        "a guess, where nothing else is found: several devices ask, and begin each other's exchange anew. "
+        "Those that keep the standard's times are served one after the other"
+    ),
+    "unanswered": "a guess: a device asks, and nobody answers, though all looks well",
+    "deaf-member": (
+        "a warning: a member is away, or shows itself and does not answer; and how many more losses the "
+        "cluster bears"
+    ),
+    "two-unique-ids": (
+        "a warning, as a guess: two nodes are there in turn, and never both: a boot loader and its "
+        "application"
+    ),
     "many-blanks": "a warning: 16 blanks or more in the log. Each is a place for good",
     "log-nearly-full": "a warning: 8 places or IDs are left: \"A full log\", before it is",
     "lost-store": "a warning: a store without a version (needs --store): its first block was lost",
+}
+# why a member ended, by its exit code: what it means, and what to do
+MEMBER_EXITS: Dict[int, Tuple[str, str]] = {
+    0: (
+        "its turns are over",
+        "nothing: it is started again",
+    ),
+    2: (
+        "the words are none that it reads; nothing was read or written",
+        (
+            "caldrouz-check-settings says what is wrong (as spaces in CLUSTER); or the number behind @ does not "
+            "stand in CLUSTER"
+        ),
+    ),
+    6: (
+        "standard output could not be written",
+        "look at the journal, or at where you sent it",
+    ),
+    7: (
+        "there is not enough memory to begin with",
+        "it needs 2 MB",
+    ),
+    9: (
+        "the link of the member in the last line failed: its socket took or gave no frame any more",
+        (
+            "of can: look whether the interface is there and up; setting it down ends its members so. Of node, "
+            "once: nothing; if it comes again, look at the limits and filters of the system"
+        ),
+    ),
+    10: (
+        "the disk of the member in the last line failed: its store could not be written or synced",
+        (
+            "look at the kernel's log. A disk that failed once may have lost what later reads show: replace it, "
+            "as a machine, or restart the machine where the cause is known and gone"
+        ),
+    ),
+    11: (
+        (
+            "the store of the member in the last line is damaged, first at the key there; nothing was sent. Key 0 "
+            "also stands for a store without a version, as zeros"
+        ),
+        "replace the store, as that of a machine",
+    ),
+    12: (
+        "a link or a disk was not opened",
+        "look at the list below, and at the journal, which has the cause where it is still seen",
+    ),
+    17: (
+        "the echo of a frame is half a second late: no other node acknowledged it, and it waits in the interface",
+        "its unit takes the interface down and up. By hand do so before the cable is mended",
+    ),
+    18: (
+        (
+            "the member in the last line heard a stranger, by the frame there: another node has its node ID, or "
+            "does what members do and is not on its list"
+        ),
+        (
+            "compare CLUSTER on all machines. The low seven bits of the identifier say who it was: itself, from a "
+            "cloned card, a second process or a fixed address; or a server that does not belong here. Then audit"
+        ),
+    ),
+    19: (
+        (
+            "member the first in the last line has committed another entry than the one that the second sent it: "
+            "one of the two has the log of another cluster, or an old store"
+        ),
+        (
+            "stop all members and audit all stores: which machine came from another vehicle, or was away when the "
+            "cluster was begun anew? Replace that one; else begin anew"
+        ),
+    ),
 }
 
 

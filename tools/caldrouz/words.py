@@ -11,11 +11,12 @@ import shutil
 import signal
 import sys
 import time
-from typing import Callable, Iterator, List, NoReturn, Optional, Sequence, Tuple
+from typing import Callable, Iterator, List, NamedTuple, NoReturn, Optional, Sequence, Tuple
 
-from . import buses, logs, stores, table, wire
+from . import buses, causes, health, logs, machine, stores, table, vehicle, wire
 
-DONE, FOUND, WORDS, CANNOT, PROGRAM, WRITE = 0, 1, 2, 3, 4, 6  # exit codes
+DONE, FOUND, WORDS, CANNOT, PROGRAM, WARNING, WRITE = 0, 1, 2, 3, 4, 5, 6  # exit codes
+OF_HEALTH = {health.WELL: DONE, health.WARNING: WARNING, health.BAD: FOUND}
 MEMBERS_ARE = f"a cluster has 1 to {table.MOST_MEMBERS} different members, of 1 to {table.LAST}"
 
 
@@ -77,6 +78,52 @@ def node_ids(text: str) -> List[int]:
     if not are_members(nodes):
         raise argparse.ArgumentTypeError(MEMBERS_ARE)
     return nodes
+
+
+class Cluster(NamedTuple):
+    """Whom a cluster has, as far as it is told: its members, or their number alone, or nothing. `of`: by whom."""
+
+    members: Sequence[int] = ()
+    size: Optional[int] = None
+    of: str = ""
+
+
+def cluster(text: str) -> Cluster:
+    """What CLUSTER of the settings may say, for argparse: a list with a comma, or how many members there are."""
+    if text.isascii() and text.isdigit() and 1 <= len(text) <= 3:
+        if not 1 <= int(text) <= table.MOST_MEMBERS:
+            raise argparse.ArgumentTypeError(MEMBERS_ARE)
+        return Cluster(size=int(text))
+    nodes = node_ids(text)
+    return Cluster(nodes, len(nodes))
+
+
+def add_cluster(parser: argparse.ArgumentParser) -> None:
+    """The words by which a tool knows the cluster of a bus."""
+    what = "the node IDs of all members; a number alone is how many there are; else as the settings say"
+    parser.add_argument("--members", type=cluster, metavar="ID,ID..", help=what)
+    what = "the settings of the units; else those of this bus on this machine"
+    parser.add_argument("--settings", metavar="FILE", help=what)
+
+
+def vehicle_of(told: argparse.Namespace, bus: Optional[str]) -> Optional[vehicle.Vehicle]:
+    """The settings that are named; else those of this bus on this machine, where there are some; an empty name is any
+    bus."""
+    if told.settings:
+        with naming(told.settings):
+            return vehicle.read([told.settings])
+    return vehicle.of_bus(bus) if bus is not None else None
+
+
+def cluster_of(told: argparse.Namespace, settings: Optional[vehicle.Vehicle]) -> Cluster:
+    """The cluster of the words, or that of the settings, as far as these are right."""
+    if told.members:
+        return Cluster(told.members.members, told.members.size)
+    if settings is None or not settings.size or not (are_members(settings.members) or not settings.members):
+        return Cluster()
+    if settings.size > table.MOST_MEMBERS:
+        return Cluster()
+    return Cluster(settings.members, settings.size, settings.source)
 
 
 def seconds(text: str) -> float:
@@ -146,6 +193,23 @@ def read_stores(paths: Sequence[str]) -> List[Tuple[str, stores.Store]]:
             with naming(file):
                 found.append((os.path.basename(file), stores.read(file)))
     return found
+
+
+def readable_stores(settings: Optional[vehicle.Vehicle]) -> List[Tuple[str, stores.Store]]:
+    """The stores of the members of this machine by its settings, as far as they are there and may be read."""
+    found = []
+    for member, folder in zip(settings.here, settings.folders) if settings else ():
+        name = f"alloc-{member}.store"
+        with contextlib.suppress(OSError, stores.Damaged):
+            found.append((name, stores.read(os.path.join(folder, name))))
+    return found
+
+
+def seen_here(bus: str, members: Sequence[int] = ()) -> List[causes.Cause]:
+    """What the machine tells of a bus: its CAN interface, and the lists that processes of members were told."""
+    base = int(bus) if buses.is_base(bus) else None
+    found = list(causes.lists_here(machine.members_running(), members, base))
+    return found if base is not None else [*causes.interface(bus, machine.interface(bus)), *found]
 
 
 def default_program() -> str:

@@ -1,0 +1,212 @@
+"""The causes of devices that ask: requests that nobody takes, and exchanges that come to no end. Not proved."""
+from __future__ import annotations
+
+from typing import Dict, List, NamedTuple, Optional, Sequence, Tuple
+
+from .. import table
+from ..scene import Answer, Malformed, Request, Scene
+from .common import LATELY, RECENT, Cause, Found, Stores, age, ids, times
+
+MANY_ASKED = 3  # requests that are told
+FIRST_BYTES = 12  # of a unique ID, in hexadecimal digits: those of the first request
+SOON = 15.0  # seconds within which one device starts again as another
+
+
+def wrong_requests(scene: Scene, _: Stores) -> Found:
+    """Requests that no allocator takes."""
+    kinds: Dict[Tuple[int, str], List[Malformed]] = {}
+    for it in scene.malformed:
+        if age(scene, it.moment) <= 2 * RECENT:
+            kinds.setdefault((it.source, it.wrong), []).append(it)
+    for (source, wrong), requests in sorted(kinds.items()):
+        if len(requests) >= MANY_ASKED:
+            who = f"Node {source} asks for a node ID, and its request" if source else "A request of a device"
+            yield Cause(
+                "wrong-request",
+                f"{who} {wrong} ({times(len(requests), 'time')}, bytes {requests[-1].part}): no allocator takes it",
+                "mend the device's firmware: it asks without a source node ID, in single frames, with 6, 6 and 4 bytes "
+                "(PROTOCOL.md)",
+            )
+    lone = _without_a_first(scene)
+    if lone:
+        yield Cause(
+            "wrong-request",
+            f"A device sent {lone[-1].part} {times(len(lone), 'time')} without the flag of the first part, and nobody "
+            "had answered it before: no allocator takes that",
+            "mend the device's firmware: its first request has the flag first_part_of_unique_id",
+        )
+
+
+def _without_a_first(scene: Scene) -> List[Request]:
+    """Requests of a later stage, where no device is in the middle of an exchange."""
+    recent = [it for it in scene.requests if age(scene, it.moment) <= 2 * RECENT]
+    if any(it.stage == 0 for it in recent):
+        return []
+    lone = [it for it in recent if it.stage == 1]
+    return lone if len(lone) >= MANY_ASKED else []
+
+
+def zeros(scene: Scene, _: Stores) -> Found:
+    """A unique ID of zeros is given nothing."""
+    asked = [it for it in scene.requests if age(scene, it.moment) <= 2 * RECENT and _is_zero(it.part)]
+    if any(it.stage == 0 for it in asked) and len(asked) >= MANY_ASKED and not _told_zeros(scene):
+        yield Cause(
+            "zero-unique-id",
+            f"A device asks with a unique ID that begins with zeros ({times(len(asked), 'request')}): one of zeros "
+            "alone is given nothing, since it stands for no device",
+            "give the device a unique ID of its own (its maker's tools), or a fixed address",
+        )
+
+
+def _is_zero(part: str) -> bool:
+    return bool(part) and not part.strip("0")
+
+
+def _told_zeros(scene: Scene) -> bool:
+    """Whether a device whose unique ID begins with zeros was told an ID."""
+    return any(it.node and _is_zero(it.part[:FIRST_BYTES]) for it in scene.answers)
+
+
+class Asking(NamedTuple):
+    """A device as far as its requests tell: the first bytes of its unique ID, and what came of it."""
+
+    part: str
+    firsts: List[float]  # the moments of its requests of the first stage
+    answered: int  # how many bytes an answer had at the most
+    went_on: bool  # it sent a second stage in time
+    late: Optional[float]  # seconds after the answer at which its second stage came, where that was too late
+    told: List[Answer]  # those with a node ID
+
+
+def askers(scene: Scene) -> List[Asking]:
+    since = scene.now - 2 * RECENT
+    requests = [it for it in scene.requests if it.moment >= since]
+    answers = [it for it in scene.answers if it.moment >= since]
+    parts = dict.fromkeys(it.part for it in requests if it.stage == 0)
+    return [_asker(part, requests, answers, len(parts) == 1) for part in parts if not _is_zero(part)]
+
+
+def _asker(part: str, requests: Sequence[Request], answers: Sequence[Answer], is_alone: bool) -> Asking:
+    firsts = [it.moment for it in requests if it.stage == 0 and it.part == part]
+    mine = [it for it in answers if it.part.startswith(part)]
+    longer = [it.part for it in mine if len(it.part) >= 2 * FIRST_BYTES]
+    begun = [it.moment for it in mine if len(it.part) == FIRST_BYTES]
+    seconds = [it.moment for it in requests if it.stage == 1]
+    in_time = table.STAGE_TIMEOUT / 1000
+    waits = [second - max(moment for moment in begun if moment <= second) for second in seconds if begun
+             and begun[0] <= second]
+    went_on = bool(longer) or any(wait <= in_time for wait in waits)
+    late = min(waits) if waits and not went_on and is_alone else None
+    answered = max((len(it.part) // 2 for it in mine), default=0)
+    return Asking(part, firsts, answered, went_on, late, [it for it in mine if it.node])
+
+
+def recent_askers(scene: Scene) -> List[Asking]:
+    return [it for it in askers(scene) if age(scene, it.firsts[-1]) <= RECENT]
+
+
+def _is_stuck(it: Asking) -> bool:
+    return not it.told and len(it.firsts) > MANY_ASKED and it.answered >= 6 and not it.went_on
+
+
+def unheard(scene: Scene, _: Stores) -> Found:
+    for it in recent_askers(scene):
+        if it.told and not _starts_as_two(scene) and sum(moment > it.told[0].moment for moment in it.firsts) > 2:
+            last = it.told[-1]
+            yield Cause(
+                "unheard-answer",
+                f"The device {last.part} was told {len(it.told)} times that it has node ID {last.node}, and asks on: "
+                "it does not hear the answer, or does not take it",
+                "look at the device: it has to receive frames of other nodes (its acceptance filters, its bit timing, "
+                "its end of the bus), and to take an Allocation that it did not ask for by itself",
+            )
+
+
+def stuck(scene: Scene, _: Stores) -> Found:
+    for it in filter(_is_stuck, recent_askers(scene)):
+        went = "never sent its second request"
+        if it.late is not None:
+            went = (
+                f"sent its second request {round(1000 * it.late, -2):.0f} ms after the answer, and a member takes it "
+                f"within {table.STAGE_TIMEOUT} ms"
+            )
+        yield Cause(
+            "never-goes-on",
+            f"A device whose unique ID begins with {it.part} asked {len(it.firsts)} times, was answered, and "
+            f"{went}: each of its requests begins everybody's exchange anew",
+            "look at this device: does it hear the answers, and answer at once? Where others wait for it, unplug it",
+        )
+
+
+def crossed(scene: Scene) -> Found:
+    """Several devices that ask at a time, where somebody could be served."""
+    recent = recent_askers(scene)
+    stuck_ones = [it for it in recent if _is_stuck(it)]
+    others = [it for it in recent if not it.told and it not in stuck_ones]
+    # (one that was told before another one began to ask was in nobody's way)
+    those = [
+        it
+        for it in recent
+        if not it.told or any(one.firsts[0] < it.told[0].moment for one in recent if one is not it)
+    ]
+    if len(those) > 1 and (others or len(stuck_ones) > 1):
+        told = {True: " and was told", False: ""}
+        said = ", ".join(f"{it.part}.. {len(it.firsts)} times{told[bool(it.told)]}" for it in those[:6])
+        yield Cause(
+            "crossed-requests",
+            f"{len(those)} devices ask at a time ({said}): the requests of one begin the exchange of the other anew",
+            "wait: devices that keep the standard's times are served one after the other. Where it goes on, unplug all "
+            "but one, and look which of them asks too often",
+            guess=True,
+        )
+
+
+def unanswered(scene: Scene) -> Found:
+    """A device that asks and is not told, where nothing else is seen."""
+    for it in recent_askers(scene):
+        if not it.told and len(it.firsts) > MANY_ASKED:
+            how = f"is answered up to {it.answered} of 16 bytes" if it.answered else "nobody answers"
+            yield Cause(
+                "unanswered",
+                f"A device whose unique ID begins with {it.part} asked {len(it.firsts)} times, {how}, and it is told "
+                "no ID",
+                "give `why` the stores (--store): is the log full, or no node ID left? Does the leader hear the "
+                "devices (its bridge)?",
+                guess=True,
+            )
+            return
+
+
+def _starts_as_two(scene: Scene) -> Optional[Tuple[Answer, Answer]]:
+    """Two pairs of which one was told soon after the node of the other had gone, and again the other way round: one
+    device with two unique IDs, or two that are plugged in turn."""
+    told = {it.part: it for it in scene.answers if it.node and age(scene, it.moment) <= LATELY}
+    for first in told.values():
+        for second in told.values():
+            if first.part < second.part and _in_turn(scene, first.node, second.node):
+                return (first, second) if first.moment < second.moment else (second, first)
+    return None
+
+
+def _in_turn(scene: Scene, one: int, other: int) -> bool:
+    """Whether one of two nodes came after the other, and that one again, each soon after."""
+    nodes = [scene.nodes.get(node) for node in (one, other)]
+    came = [(moment, at) for at, node in enumerate(nodes) if node for moment in node.came]
+    order = [at for _, at in sorted(came)]
+    both_now = all(scene.is_online(node) for node in (one, other))
+    close = all(later - earlier <= SOON for (earlier, _), (later, _) in zip(sorted(came), sorted(came)[1:]))
+    return sum(a != b for a, b in zip(order, order[1:])) >= 2 and not both_now and close
+
+
+def two_unique_ids(scene: Scene) -> Found:
+    pair = _starts_as_two(scene)
+    if pair:
+        first, second = pair
+        yield Cause(
+            "two-unique-ids",
+            f"Nodes {ids((first.node, second.node))} are there in turn, and never both: {first.part} and {second.part} "
+            "seem to be one device, whose boot loader and application tell two unique IDs",
+            "have its maker use one unique ID; else it has two node IDs here, of which each takes its place in the log",
+            stops=False,
+            guess=True,
+        )
