@@ -1,6 +1,7 @@
-ghost use Rattle.std.specs.Prelude.{◌≡◌, ◌≤◌, ◌+◌, ℕ, false, OnOk, if◌then◌else◌};
+ghost use Rattle.std.specs.Prelude.{◌≡◌, ◌≤◌, ◌+◌, ℕ, false, is_ok, OnOk, if◌then◌else◌};
 ghost use Rattle.outside.specs.Faults.{HasCause, counted, one_more};
 
+use crate::calls::{Posix, reads_all, syncs, writes_all};
 use disk_model::Disk;
 use outside::Failed;
 
@@ -22,6 +23,7 @@ impl FdDisk {
 
     /// Counts a call that failed.
     fn answer(&mut self, is_done: bool) -> Result<(), Failed>
+        ensures done { is_ok result ≡ is_done }
         ensures cause { HasCause self.old.faults self.new.faults result }
         ensures no_fault { OnOk result (self.new.faults ≡ self.old.faults) }
         ensures faults { self.new.faults ≡ counted result self.old.faults }
@@ -52,19 +54,18 @@ impl Disk for FdDisk {
     ghost sound = { λ d told. absurd (false≢true told) };
 
     fn read(&mut self, at: usize, buf: &mut [u8]) -> Result<(), Failed> {
-        let wanted = buf.len() as isize;
-        let count = libc::pread(self.fd, buf, at as i64);
-        self.answer(count == wanted)
+        let is_done = reads_all(&mut Posix::new(self.fd), at, buf);
+        self.answer(is_done)
     }
 
     fn write(&mut self, at: usize, bytes: &[u8]) -> Result<(), Failed> {
-        let count = libc::pwrite(self.fd, bytes, at as i64);
-        self.answer(count == bytes.len() as isize)
+        let is_done = writes_all(&mut Posix::new(self.fd), at, bytes);
+        self.answer(is_done)
     }
 
     fn sync(&mut self) -> Result<(), Failed> {
-        let status = libc::fdatasync(self.fd);
-        self.answer(status == 0)
+        let is_done = syncs(&mut Posix::new(self.fd));
+        self.answer(is_done)
     }
 
     fn faults(&self) -> u64 {
