@@ -11,9 +11,11 @@
 #![tactic(auto)]
 
 mod disk;
+mod open;
 mod place;
 mod watch;
 
 pub use disk::WatchedDisk;
+pub use open::open_watched;
 pub use place::FileAtPath;
 pub use watch::Watch;

@@ -24,12 +24,12 @@ pub struct FileAtPath<'a, R> {
 }
 
 impl<'a, R: Files> FileAtPath<'a, R> {
-    /// The file at this path. It fails where there is none, and where others than the user with this number may write it.
-    pub fn of_user(files: &'a R, path: String, user: u32) -> Result<FileAtPath<'a, R>, Failed> {
+    /// The file at this path. It fails where there is none, and where others than the user of this process may write it.
+    pub fn new(files: &'a R, path: String) -> Result<FileAtPath<'a, R>, Failed> {
         let Ok(metadata) = fs::metadata(files, path.as_str()) else {
             return Err(Failed);
         };
-        if others_write(user, metadata.uid(), metadata.mode()) {
+        if others_write(libc::geteuid(), metadata.uid(), metadata.mode()) {
             return Err(Failed);
         }
         Ok(FileAtPath {
@@ -38,6 +38,11 @@ impl<'a, R: Files> FileAtPath<'a, R> {
             device: metadata.dev(),
             number: metadata.ino(),
         })
+    }
+
+    /// The path.
+    pub fn path(&self) -> &str {
+        self.path.as_str()
     }
 }
 
