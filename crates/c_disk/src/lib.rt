@@ -9,5 +9,4 @@
 mod calls;
 mod disk;
 
-
 pub use disk::FdDisk;
