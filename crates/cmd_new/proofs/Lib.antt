@@ -1,3 +1,4 @@
 pub mod Disks
 pub mod Looking
+pub mod Marking
 pub mod NewImage

@@ -1,7 +1,8 @@
-ghost use Rattle.std.specs.Prelude.{◌≡◌, true, OnOk, IfErr};
+ghost use Rattle.std.specs.Prelude.{◌≡◌, ◌≤◌, ◌<◌, ℕ, length, true, false, Some, OnOk, IfErr};
 ghost use Rattle.cmd_io.specs.Counting.{CountsFaults};
 ghost use Rattle.cmd_new.specs.Made.{HasLine};
-ghost use Rattle.cmd_new.specs.Marked.{IsMarked};
+ghost use Rattle.cmd_new.specs.Marked.{IsKnown, IsKnownAt, IsMarked, IsUntouched, MarksNew, StopsMarking};
+ghost use Rattle.outside.specs.Faults.{Rose};
 
 use crate::found::{Found, find_store};
 use cmd_io::Status;
@@ -16,8 +17,12 @@ const MARK: [u8; 2] = [1, 2];
 
 /// Marks those stores of these nodes that are new as used, before a member runs on them: so a later process knows that
 /// one ran, also where that put nothing. A store that is used, and a place without a disk, stay as they are. The first
-/// disk that fails is `DiskFault`.
+/// disk that fails is `DiskFault`; those behind it are as before.
 pub fn mark_new_stores<D: Disk>(ids: &[u8], disks: &mut [Option<D>]) -> Result<(), Status>
+    ensures count { length disks.new ≡ length disks.old }
+    ensures known { OnOk result ((k : ℕ) → k < length ids.now → IsKnownAt D.Disk disks.old disks.new k) }
+    ensures others { OnOk result ((k : ℕ) → length ids.now ≤ k → IsUntouched D.Disk disks.old disks.new k) }
+    ensures failed { IfErr result (λ status. StopsMarking D.Disk disks.old disks.new ids.now status) }
     ensures line { IfErr result (λ status. HasLine status) }
 {
     for place in 0..ids.len().min(disks.len()) {
@@ -30,14 +35,38 @@ pub fn mark_new_stores<D: Disk>(ids: &[u8], disks: &mut [Option<D>]) -> Result<(
 }
 
 /// Marks the store at a place, where one is there that is new.
-fn mark_at<D: Disk>(place: &mut Option<D>) -> Result<(), Failed> {
-    let Some(disk) = place else {
-        return Ok(());
-    };
-    match find_store(disk) {
-        Ok(Found::NewStore) => mark_as_used(disk),
-        Ok(Found::NoStore | Found::UsedStore) => Ok(()),
-        Err(Failed) => Err(Failed),
+fn mark_at<D: Disk>(place: &mut Option<D>) -> Result<(), Failed>
+    ensures known { OnOk result ((before : D) → place.old ≡ Some before → IsKnown D.Disk before place.new) }
+    ensures failed { IfErr result (λ _. (before after : D) → place.old ≡ Some before →
+        place.new ≡ Some after → Rose (D.faults before) (D.faults after)) }
+{
+    match place {
+        Some(disk) => mark_if_new(disk),
+        None => Ok(()),
+    }
+}
+
+/// Marks the store on a disk, where it is new. It fails only where the disk does.
+fn mark_if_new<D: Disk>(disk: &mut D) -> Result<(), Failed>
+    ensures marks { OnOk result (D.tells disk.old ≡ true →
+        MarksNew (D.contents disk.old) (D.contents disk.new)) }
+    ensures tells { D.tells disk.new ≡ D.tells disk.old }
+    ensures faults { CountsFaults (D.faults disk.old) (D.faults disk.new) result }
+{
+    let found = find_store(disk)?;
+    if is_new(found) {
+        return mark_as_used(disk);
+    }
+    Ok(())
+}
+
+fn is_new(found: Found) -> bool
+    ensures yes { result ≡ true → found ≡ Found.NewStore }
+    ensures no { result ≡ false → found ≡ Found.NewStore → ⊥ }
+{
+    match found {
+        Found::NewStore => true,
+        Found::NoStore | Found::UsedStore => false,
     }
 }
 
