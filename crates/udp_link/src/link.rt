@@ -1,4 +1,4 @@
-ghost use Rattle.std.specs.Prelude.{◌≡◌, ◌≤◌, ◌+◌, ℕ, List, None, length, IfOk, IfSome, IsErr, IsSome, OnOk};
+ghost use Rattle.std.specs.Prelude.{◌≡◌, ◌↔◌, ◌⊎◌, ◌≤◌, ◌+◌, ℕ, List, None, true, length, IfOk, IfSome, IsErr, IsSome, OnOk};
 ghost use Rattle.can_frame.specs.Sizes.{most_members};
 ghost use Rattle.outside.specs.Contents.{WhereTold};
 ghost use Rattle.outside.specs.Faults.{HasCause, counted, one_more};
@@ -15,8 +15,8 @@ use std::net::{Ipv4Addr, Net, UdpSocket};
 /// The highest node ID that has a port.
 const LAST: u8 = 125;
 
-/// How often a call is made again that told of another one: a port without a listener may be told of at
-/// a later call, which then neither sent nor received.
+/// How often a call is made that told of something else: a port without a listener may be told of at a later call, and
+/// a signal may come first. Such a call neither sent nor received.
 const TRIES: u8 = 3;
 
 /// The link of a node over UDP on this machine. It tells no contents.
@@ -106,7 +106,7 @@ impl UdpLink {
                     return Some(frame_from(self.base, &self.here, &from, &datagram[..count]));
                 }
                 Err(error) if error.kind() == ErrorKind::WouldBlock => break,
-                Err(error) if error.kind() == ErrorKind::ConnectionRefused => {}
+                Err(error) if may_be_made_again(error.kind()) => {}
                 Err(_) => return None,
             }
         }
@@ -122,15 +122,15 @@ impl UdpLink {
         for _ in 0..TRIES {
             match self.socket.send_to(datagram, (Ipv4Addr::LOCALHOST, port)) {
                 Ok(_) => break,
-                Err(error) if error.kind() == ErrorKind::ConnectionRefused => {}
+                Err(error) if may_be_made_again(error.kind()) => {}
                 Err(_) => return false,
             }
         }
         true
     }
 
-    /// Sends a datagram to the port of each other node, up to the first where the socket fails, and
-    /// tells whether it works.
+    /// Sends a datagram to the port of each other node, up to the first where the socket fails, and tells whether it
+    /// works. Where it does not, the nodes before have the datagram.
     fn send_to_others(&self, datagram: &[u8]) -> bool {
         for node in 1..=LAST {
             if node != self.id && !self.send_to(node, datagram) {
@@ -139,6 +139,13 @@ impl UdpLink {
         }
         true
     }
+}
+
+/// Whether a call that failed so says nothing of the socket: std tells `ECONNREFUSED` and `EINTR` by these kinds.
+fn may_be_made_again(kind: ErrorKind) -> bool
+    ensures { (result ≡ true) ↔ (kind ≡ ErrorKind.ConnectionRefused) ⊎ (kind ≡ ErrorKind.Interrupted) }
+{
+    matches!(kind, ErrorKind::ConnectionRefused | ErrorKind::Interrupted)
 }
 
 impl Link for UdpLink {
