@@ -15,11 +15,11 @@ all_done (Write at bytes) = pos (length bytes)
 all_done Sync = pos 0
 
 -- the call is made once, and nothing else is
-abbrev pub Adds : DeviceCall → ℤ → List Answered → List Answered → Type 0
-Adds call answer old new = new ≡ record { call = call; answer = answer } ∷ old
+abbrev pub AddsCall : DeviceCall → ℤ → List Answered → List Answered → Type 0
+AddsCall call answer old new = new ≡ record { call = call; answer = answer } ∷ old
 
 -- the call is made once, and it is done exactly where its answer says so
-pub record IsJudged (call : DeviceCall) (done : Bool) (old new : List Answered) : Type 0 where
+pub record IsToldByAnswer (call : DeviceCall) (done : Bool) (old new : List Answered) : Type 0 where
   pub answer : ℤ
-  pub made : Adds call answer old new
+  pub made : AddsCall call answer old new
   pub judged : (done ≡ true) ↔ (answer ≡ all_done call)

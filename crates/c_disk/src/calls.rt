@@ -1,5 +1,5 @@
 ghost use Rattle.std.specs.Prelude.{◌≡◌, ◌+◌, ◌≤◌, List, Option, None, length};
-ghost use Rattle.c_disk.specs.Calls.{Adds, Answered, IsJudged};
+ghost use Rattle.c_disk.specs.Calls.{AddsCall, Answered, IsToldByAnswer};
 ghost use Rattle.disk_model.specs.Contents.{image_size};
 ghost use Rattle.disk_model.specs.Device.DeviceCall.{Read, Write, Sync};
 ghost use Rattle.outside.specs.Contents.{WhereTold};
@@ -12,16 +12,16 @@ pub trait Calls {
     /// Reads from this place on, and answers how many bytes came, or -1.
     fn pread(&mut self, at: usize, buf: &mut [u8]) -> isize
         requires { at + length buf.old ≤ image_size }
-        ensures made { WhereTold (Adds (Read at (length buf.old)) result) (made self.old) (made self.new) };
+        ensures made { WhereTold (AddsCall (Read at (length buf.old)) result) (made self.old) (made self.new) };
 
     /// Writes from this place on, and answers how many bytes were written, or -1.
     fn pwrite(&mut self, at: usize, bytes: &[u8]) -> isize
         requires { at + length bytes.now ≤ image_size }
-        ensures made { WhereTold (Adds (Write at bytes.now) result) (made self.old) (made self.new) };
+        ensures made { WhereTold (AddsCall (Write at bytes.now) result) (made self.old) (made self.new) };
 
     /// Makes what was written last, and answers 0, or -1.
     fn fdatasync(&mut self) -> i32
-        ensures made { WhereTold (Adds Sync result) (made self.old) (made self.new) };
+        ensures made { WhereTold (AddsCall Sync result) (made self.old) (made self.new) };
 }
 
 /// POSIX's calls on a descriptor. They tell nothing of what they did.
@@ -58,7 +58,7 @@ impl Calls for Posix {
 /// Reads all of these bytes by one call, and tells whether it did.
 pub fn reads_all<C: Calls>(calls: &mut C, at: usize, buf: &mut [u8]) -> bool
     requires { at + length buf.old ≤ image_size }
-    ensures { WhereTold (IsJudged (Read at (length buf.old)) result) (C.made calls.old) (C.made calls.new) }
+    ensures { WhereTold (IsToldByAnswer (Read at (length buf.old)) result) (C.made calls.old) (C.made calls.new) }
 {
     let wanted = buf.len() as isize;
     calls.pread(at, buf) == wanted
@@ -67,14 +67,14 @@ pub fn reads_all<C: Calls>(calls: &mut C, at: usize, buf: &mut [u8]) -> bool
 /// Writes all of these bytes by one call, and tells whether it did.
 pub fn writes_all<C: Calls>(calls: &mut C, at: usize, bytes: &[u8]) -> bool
     requires { at + length bytes.now ≤ image_size }
-    ensures { WhereTold (IsJudged (Write at bytes.now) result) (C.made calls.old) (C.made calls.new) }
+    ensures { WhereTold (IsToldByAnswer (Write at bytes.now) result) (C.made calls.old) (C.made calls.new) }
 {
     calls.pwrite(at, bytes) == bytes.len() as isize
 }
 
 /// Syncs by one call, and tells whether it did.
 pub fn syncs<C: Calls>(calls: &mut C) -> bool
-    ensures { WhereTold (IsJudged Sync result) (C.made calls.old) (C.made calls.new) }
+    ensures { WhereTold (IsToldByAnswer Sync result) (C.made calls.old) (C.made calls.new) }
 {
     calls.fdatasync() == 0
 }
