@@ -52,7 +52,7 @@ const Facts = (() => {
     [8, ["watch", "convert"], "limit <r>", "{line <r>|the line in the last line} is one more than the words allow"],
     [8, ["decode"], "limit <r>", "{line <r>|the line in the last line} is one more than a text may have"],
     [9, ["node", "can"], "link fault <id>", "the link of {member <id>|the member in the last line} failed: its socket took or gave no frame any more"],
-    [10, ["node", "can"], "disk fault <id>", "the disk of {member <id>|the member in the last line} failed: its store could not be written or synced"],
+    [10, ["node", "can"], "disk fault <id>", "the disk of {member <id>|the member in the last line} failed: its store could not be written or synced, or was replaced"],
     [10, ["new"], "disk fault <id>", "the disk of {member <id>|the member in the last line} failed, and no store was made"],
     [10, ["replace"], "disk fault <id>", "the store of {node <id>|the member in the last line} could not be read or written, or somebody wrote to it meanwhile; none was made"],
     [10, ["audit"], "disk fault <id>", "the store of {node <id>|the member in the last line} could not be read, or somebody wrote to it meanwhile"],
