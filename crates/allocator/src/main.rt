@@ -5,9 +5,9 @@
 //! `alloc-<id>.store`. The words of `can` are those of `node` without a base, and `can <members> <id>` takes the most
 //! turns: standard input is a raw CAN socket then (`can_link`), and the links of all members are on it. Where the
 //! members are told a list of them, links are strict and listen for strangers ([`ToldLink`]), a missing file is
-//! refused, and so is one without a version, as one of zeros ([`look_for_stores`]); and a process whose members ran
-//! before rests first ([`Told::rest`]). Where they are told a number, a missing file is made, and nothing rests. The
-//! words of `new` have the disks alone, in files that are made for them: where one is there already, or `run` does
+//! refused, and so is one that others may write, or without a version, as one of zeros ([`look_for_stores`]). Their
+//! stores are watched ([`WatchedDisk`]), and a process whose members ran before rests first ([`Told::rest`]). Where
+//! they are told a number, a missing file is made, and nothing rests. The words of `new` have the disks alone, in files that are made for them: where one is there already, or `run` does
 //! not come to its end, none of those that were made stays. Those of `replace` have the disk of the lost member alone
 //! so, and those of the others as `audit` has them. The words of `audit` have the disks alone, in files that are
 //! there, and only read them. Where one of these cannot be opened the exit code is 12. A standard stream that is
@@ -25,14 +25,14 @@ mod stranger;
 
 use crate::opened::{
     held_streams, known_stores, link_of, listening_link, made_stores, old_stores, stores_but_lost,
-    stores_of, take_away,
+    stores_of, take_away, watched_stores,
 };
 use crate::refusal::Refusal;
 use crate::stranger::write_stranger;
 use allocator_app::{Plan, Status, Told, plan, run};
 use can_link::{CanBus, CanLink, RawSocket};
 use cmd_new::write_end;
-use disk_model::FileDisk;
+use disk_model::{Disk, FileDisk};
 use host_pace::{PacedClock, TimelyLink};
 use outside::{Clock, Link, StdClock, StdSink, StdSource};
 use std::alloc::{AllocError, Global};
@@ -75,7 +75,7 @@ fn answer(rt: &HostRuntime) -> Result<Status, Refusal> {
         Some(Plan::New { ids }) => run_on_new_stores(rt, &words, &ids),
         Some(Plan::Replace { lost, ids }) => run_on_lost_store(rt, &words, lost, &ids),
         Some(Plan::Audit { ids }) => run_on_old_stores(rt, &words, &ids),
-        _ => Ok(follow::<UdpLink>(rt, &words, &mut [], &mut [], &Cell::new(0))),
+        _ => Ok(follow::<UdpLink, FileDisk>(rt, &words, &mut [], &mut [], &Cell::new(0))),
     }
 }
 
@@ -186,17 +186,34 @@ fn run_members<L: Link>(
     links: &mut [L],
     idle: &Cell<usize>,
 ) -> Result<Status, Refusal> {
-    let mut stores = stores_of(rt, told, ids)?;
-    let ran_before = match told {
+    match told {
         // A missing store is made of zeros then, so zeros are a new one.
-        Told::Size(_) => false,
-        Told::Members(_) => match known_stores(ids, &mut stores) {
-            Ok(used) => used,
-            Err(status) => return Ok(write_end(status, &[], &mut StdSink::new(rt.stdout()))),
-        },
-    };
+        Told::Size(_) => {
+            let mut stores = stores_of(rt, ids)?;
+            Ok(rest_and_follow(rt, words, told, false, links, &mut stores, idle))
+        }
+        Told::Members(_) => {
+            let mut stores = watched_stores(rt, ids)?;
+            match known_stores(ids, &mut stores) {
+                Ok(used) => Ok(rest_and_follow(rt, words, told, used, links, &mut stores, idle)),
+                Err(status) => Ok(write_end(status, &[], &mut StdSink::new(rt.stdout()))),
+            }
+        }
+    }
+}
+
+/// Runs members, one of which ran before or none, once the process has rested for that.
+fn rest_and_follow<L: Link, D: Disk>(
+    rt: &HostRuntime,
+    words: &[String],
+    told: &Told,
+    ran_before: bool,
+    links: &mut [L],
+    stores: &mut [Option<D>],
+    idle: &Cell<usize>,
+) -> Status {
     thread::sleep(rt, Duration::from_millis(told.rest(ran_before)));
-    Ok(follow(rt, words, links, &mut stores, idle))
+    follow(rt, words, links, stores, idle)
 }
 
 /// Makes the stores of these members. None stays where one was not made, or `run` does not come to its end.
@@ -205,7 +222,7 @@ fn run_on_new_stores(rt: &HostRuntime, words: &[String], ids: &[u8]) -> Result<S
     let mut stores = Vec::new(rt.alloc());
     let mut paths = Vec::new(rt.alloc());
     let outcome = match made_stores(rt, ids, &mut stores, &mut paths) {
-        Ok(()) => Ok(follow::<UdpLink>(rt, words, &mut [], &mut stores, &Cell::new(0))),
+        Ok(()) => Ok(follow::<UdpLink, FileDisk>(rt, words, &mut [], &mut stores, &Cell::new(0))),
         Err(refusal) => Err(refusal),
     };
     if outcome != Ok(Status::Done) {
@@ -225,7 +242,7 @@ fn run_on_lost_store(
     let _streams = held_streams(rt)?;
     let mut paths = Vec::new(rt.alloc());
     let outcome = match stores_but_lost(rt, lost, ids, &mut paths) {
-        Ok(mut stores) => Ok(follow::<UdpLink>(rt, words, &mut [], &mut stores, &Cell::new(0))),
+        Ok(mut stores) => Ok(follow::<UdpLink, FileDisk>(rt, words, &mut [], &mut stores, &Cell::new(0))),
         Err(refusal) => Err(refusal),
     };
     if outcome != Ok(Status::Done) {
@@ -238,16 +255,16 @@ fn run_on_lost_store(
 fn run_on_old_stores(rt: &HostRuntime, words: &[String], ids: &[u8]) -> Result<Status, Refusal> {
     let _streams = held_streams(rt)?;
     let mut stores = old_stores(rt, ids)?;
-    Ok(follow::<UdpLink>(rt, words, &mut [], &mut stores, &Cell::new(0)))
+    Ok(follow::<UdpLink, FileDisk>(rt, words, &mut [], &mut stores, &Cell::new(0)))
 }
 
 /// Does what the words say with these links and disks, and the standard streams. The clock sleeps where no link
 /// has anything.
-fn follow<L: Link>(
+fn follow<L: Link, D: Disk>(
     rt: &HostRuntime,
     words: &[String],
     links: &mut [L],
-    disks: &mut [Option<FileDisk>],
+    disks: &mut [Option<D>],
     idle: &Cell<usize>,
 ) -> Status {
     let mut source = StdSource::new(rt.stdin());

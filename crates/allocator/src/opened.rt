@@ -1,22 +1,31 @@
 ghost use Rattle.std.specs.Prelude.{◌≡◌, ◌≤◌, [], length, IfErr, IfOk, IfSome, IsSome, Ok};
 ghost use Rattle.can_frame.specs.Sizes.{most_members};
 ghost use Rattle.allocator_app.specs.Told.{list_of};
+ghost use Rattle.cmd_new.specs.Looks.{HaveStores};
 ghost use Rattle.cmd_new.specs.Made.{HasLine};
 
 use crate::refusal::Refusal;
 use allocator_app::{Status, Told};
 use cmd_new::{look_for_stores, mark_new_stores};
-use disk_model::FileDisk;
+use disk_model::{Disk, FileDisk};
 use outside::{Failed, Link, StdClock};
 use std::alloc::{AllocError, Global};
 use std::fs;
-use std::fs::File;
+use std::fs::{File, Permissions};
+use std::os::unix::fs::PermissionsExt;
 use std::rt::Files;
 use told_link::ToldLink;
 use udp_link::UdpLink;
+use watched_disk::{FileAtPath, WatchedDisk, open_watched};
+
+/// The store of a member that is told a list of them.
+type WatchedStore<'a> = WatchedDisk<FileDisk, FileAtPath<'a, HostRuntime>>;
 
 /// The descriptors of the standard streams are those below this.
 const STREAMS: usize = 3;
+
+/// The mode of a new store: its user may read and write it, and nobody else.
+const FOR_ITS_USER: u32 = 0o600;
 
 /// Files that take the descriptors of those standard streams that are closed, as long as they live: an opened file
 /// gets the lowest free descriptor. They are only read, so a report for a closed output still fails.
@@ -76,21 +85,27 @@ pub fn listening_link<'a, L: Link>(
     ToldLink::new(link, StdClock::new(rt), id, told.list())
 }
 
-/// The stores of these members, each in its file. Where the members are told a list of them, each file is there
-/// already; where they are told their number, a missing file is made.
-pub fn stores_of(
-    rt: &HostRuntime,
-    told: &Told,
-    ids: &[u8],
-) -> Result<Vec<Option<FileDisk>>, Refusal> {
+/// The stores of these members, each in its file. A missing file is made.
+pub fn stores_of(rt: &HostRuntime, ids: &[u8]) -> Result<Vec<Option<FileDisk>>, Refusal> {
     let mut stores = Vec::new(rt.alloc());
     for id in ids {
-        let path = path_of(rt.alloc(), *id)?;
-        let opened = match told {
-            Told::Size(_) => FileDisk::open(rt, path.as_str()),
-            Told::Members(_) => FileDisk::open_made(rt, path.as_str()),
-        };
-        match opened {
+        match FileDisk::open(rt, path_of(rt.alloc(), *id)?.as_str()) {
+            Ok(disk) => stores.push(Some(disk))?,
+            Err(_) => return Err(Refusal::NotOpened),
+        }
+    }
+    Ok(stores)
+}
+
+/// The stores of these members, which are told a list of them. Each file is there already, and nobody else may write it;
+/// before each sync it is looked for.
+pub fn watched_stores<'a>(
+    rt: &'a HostRuntime,
+    ids: &[u8],
+) -> Result<Vec<Option<WatchedStore<'a>>>, Refusal> {
+    let mut stores = Vec::new(rt.alloc());
+    for id in ids {
+        match open_watched(rt, path_of(rt.alloc(), *id)?) {
             Ok(disk) => stores.push(Some(disk))?,
             Err(_) => return Err(Refusal::NotOpened),
         }
@@ -100,7 +115,8 @@ pub fn stores_of(
 
 /// Whether one of these stores, of members that are told a list of them, was used before; those that are new are marked
 /// as used. Where one is none, or a disk fails, it is the status that says so.
-pub fn known_stores(ids: &[u8], stores: &mut Vec<Option<FileDisk>>) -> Result<bool, Status>
+pub fn known_stores<D: Disk>(ids: &[u8], stores: &mut [Option<D>]) -> Result<bool, Status>
+    ensures used { IfOk result (λ used. HaveStores D.Disk ids.now stores.old used) }
     ensures line { IfErr result (λ status. HasLine status) }
 {
     let used = look_for_stores(ids, stores)?;
@@ -144,8 +160,8 @@ pub fn stores_but_lost(
     Ok(stores)
 }
 
-/// Makes a file for the store of each of these members, up to the first that cannot be made, and puts those that are
-/// made, and their paths, behind the others.
+/// Makes a file for the store of each of these members, for their user alone, up to the first that cannot be made, and
+/// puts those that are made, and their paths, behind the others.
 pub fn made_stores(
     rt: &HostRuntime,
     ids: &[u8],
@@ -157,6 +173,8 @@ pub fn made_stores(
         let Ok(disk) = FileDisk::make(rt, path.as_str()) else {
             return Err(Refusal::NotOpened);
         };
+        // Where the file system has no such mode, an opening looks at the one that it has.
+        let _ = fs::set_permissions(rt, path.as_str(), Permissions::from_mode(FOR_ITS_USER));
         paths.push(path)?;
         stores.push(Some(disk))?;
     }

@@ -1,4 +1,4 @@
-//! A disk over another one, in a file that may be taken away.
+//! A disk that looks for its file before each sync.
 //!
 //! A member keeps its store in a file that it opened once. Somebody may move that file, or put another one at its
 //! path, which a second process then opens: two processes of one member, each with a store. [`WatchedDisk`] looks before
