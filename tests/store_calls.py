@@ -1,7 +1,7 @@
 """Looks at the system calls by which the program keeps its stores, under strace.
 
-store_calls.py WAY PROGRAM BASE: in an empty folder. WAY is `order`, `write`, `sync`, `opening` or `twice`. The status is 0 where
-all is as it has to be, 1 where it is not, and 77 where there is no strace that may trace.
+store_calls.py WAY PROGRAM BASE: in an empty folder. WAY is `order`, `write`, `sync`, `opening`, `twice` or `signal`. The
+status is 0 where all is as it has to be, and 1 where it is not, or where there is no strace that may trace.
 """
 from __future__ import annotations
 
@@ -16,7 +16,6 @@ TOP = pathlib.Path(__file__).resolve().parent.parent
 sys.path.insert(0, str(TOP / "examples" / "node"))
 import device  # noqa: E402 (it stands beside the examples)
 
-SKIPPED = 77
 MEMBERS = (1, 2, 3)
 KEY_BYTES = 67  # a key of the store: its selector, and two copies of 33 bytes
 UNIQUE_ID = bytes(range(16))
@@ -26,6 +25,7 @@ STORE = re.compile(r'openat\(AT_FDCWD, "alloc-(\d+)\.store", .*\) = (\d+)$')
 SOCKET = re.compile(r"bind\((\d+), .*sin_port=htons\((\d+)\).*\) = 0$")
 CALL = re.compile(r"(pwrite64|fdatasync|sendto)\((\d+)[,)]")
 PLACE = re.compile(r", (\d+), (\d+)\) += ")
+PORT = re.compile(r"sendto\(.*sin_port=htons\((\d+)\).*\) = \d+$")
 # A new store is marked by these two bytes, before its member runs.
 MARK = (1, 2)
 
@@ -152,12 +152,33 @@ def twice(program: str, _base: int) -> List[str]:
     return faults
 
 
+def signal(program: str, base: int) -> List[str]:
+    """A signal that comes first ends neither a call that receives nor one that sends: each is made again."""
+    subprocess.run([program, "new", "1"], check=True, stdout=subprocess.DEVNULL)
+    # The frames of a lone member: each goes to 124 ports.
+    injected = [word for call in ("recvfrom", "sendto") for word in ("-e", f"inject={call}:error=EINTR:when=2+5")]
+    traced = ["strace", "-qq", "-o", "log", "-e", "trace=recvfrom,sendto", *injected]
+    done = subprocess.run([*traced, program, "node", "1,", str(base), "3000", "1"], check=False, stdout=subprocess.PIPE)
+    lines = pathlib.Path("log").read_text(encoding="ascii", errors="replace").splitlines()
+    ports = [int(found[1]) - base for found in map(PORT.search, lines) if found]
+    faults = []
+    if done.returncode or not done.stdout.endswith(b"end 3000\n"):
+        faults.append(f"the status is {done.returncode}, and this was written: {done.stdout[-99:]!r}")
+    for call in ("recvfrom", "sendto"):
+        if not any(line.startswith(call) and "(INJECTED)" in line for line in lines):
+            faults.append(f"no {call} was interrupted")
+    if not ports or ports != list(range(2, 126)) * (len(ports) // 124):
+        faults.append(f"{len(ports)} datagrams went out, and not each frame once to each port")
+    return faults
+
+
 def main() -> int:
     way, program, base = sys.argv[1], sys.argv[2], int(sys.argv[3])
     if not can_trace():
-        return SKIPPED
-    if way in ("order", "twice"):
-        faults = {"order": order, "twice": twice}[way](program, base)
+        print("strace is not installed, or may not trace")
+        return 1
+    if way in ("order", "twice", "signal"):
+        faults = {"order": order, "twice": twice, "signal": signal}[way](program, base)
     else:
         call = {"write": "pwrite64", "sync": "fdatasync", "opening": "fsync"}[way]
         faults = fails(program, base, call)
