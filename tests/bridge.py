@@ -652,23 +652,33 @@ class OwnProcesses(unittest.TestCase):
         self.assertEqual(self.errors.getvalue().count("reads nothing"), 1)
 
 
-class Vehicle(unittest.TestCase):
+class OnAnAdapter(unittest.TestCase):
     """The bridge and the program as processes, behind an adapter that the test plays on a bus of its own."""
 
     def setUp(self) -> None:
         members.need_program(self)
-        room = tempfile.TemporaryDirectory()
-        self.addCleanup(room.cleanup)
+        self.room = tempfile.TemporaryDirectory()
+        self.addCleanup(self.room.cleanup)
         self.adapter, line = pty.openpty()
         tty.setraw(self.adapter)
-        subprocess.run([members.program(), "new", "1", "2"], cwd=room.name, check=True, stdout=subprocess.DEVNULL)
-        words = [BRIDGE, os.ttyname(line), "--members", "1,2", "1", "2", "--", members.program()]
-        self.running = subprocess.Popen(words, cwd=room.name, stdout=subprocess.DEVNULL, stderr=subprocess.DEVNULL)
+        self.line = os.ttyname(line)
         self.addCleanup(os.close, line)
-        self.addCleanup(self.running.wait)
-        self.addCleanup(self.running.terminate)
         self.frames: list[bytes] = []  # of members, as the adapter was told them
         self.begun, self.acknowledges = b"", True
+
+    def start(self, *words: str) -> subprocess.Popen[bytes]:
+        quiet = subprocess.DEVNULL
+        running = subprocess.Popen(words, cwd=self.room.name, stdin=quiet, stdout=quiet, stderr=quiet)
+        self.addCleanup(running.wait)
+        self.addCleanup(running.terminate)
+        return running
+
+    def served(self, device: packets.Device) -> int | None:
+        """The node ID that the device is given."""
+        end = time.monotonic() + PATIENCE
+        while device.node is None and time.monotonic() < end:
+            self.turn(device)
+        return device.node
 
     def turn(self, device: packets.Device) -> bytes:
         """Plays the adapter for a while: each frame of a member is answered, and heard by the device. What is no frame
@@ -691,15 +701,20 @@ class Vehicle(unittest.TestCase):
             os.write(self.adapter, b"T%08X%d%s\r" % (identifier, len(data), data.hex().encode()))
         return other
 
+
+class Vehicle(OnAnAdapter):
+    def setUp(self) -> None:
+        super().setUp()
+        subprocess.run([members.program(), "new", "1", "2"], cwd=self.room.name, check=True, stdout=subprocess.DEVNULL)
+        self.running = self.start(BRIDGE, self.line, "--members", "1,2", "1", "2", "--", members.program())
+
     def children(self) -> list[int]:
         listed = subprocess.run(["ps", "-o", "pid=", "--ppid", str(self.running.pid)], capture_output=True, text=True)
         return [int(word) for word in listed.stdout.split()]
 
     def test_two_members_serve_a_device_have_no_port_and_end_where_no_frame_is_answered(self) -> None:
-        device, end = packets.Device(1), time.monotonic() + PATIENCE
-        while device.node is None and time.monotonic() < end:
-            self.turn(device)
-        self.assertEqual(device.node, 125)
+        device = packets.Device(1)
+        self.assertEqual(self.served(device), 125)
         for process in (self.running.pid, *self.children()):
             self.assertEqual(members.ports_of(process), [])
         self.acknowledges, other, before = False, b"", len(self.frames)
@@ -709,6 +724,20 @@ class Vehicle(unittest.TestCase):
         self.assertEqual((self.running.returncode, len(self.frames) - before), (17, 1))
         self.assertEqual((other + self.turn(device))[-2:], b"C\r")
         self.assertEqual(self.children(), [])
+
+
+class OverUdp(OnAnAdapter):
+    """The bridge over UDP, and a lone member of the program behind it."""
+
+    def setUp(self) -> None:
+        super().setUp()
+        subprocess.run([members.program(), "new", "1"], cwd=self.room.name, check=True, stdout=subprocess.DEVNULL)
+        base = str(members.free_base())
+        self.start(members.program(), "node", "1,", base, "1000000000", "1")
+        self.start(BRIDGE, base, self.line, "1", "--interface", "slcan")
+
+    def test_a_device_on_the_adapter_is_served(self) -> None:
+        self.assertEqual(self.served(packets.Device(1)), 125)
 
 
 class AdapterOfPythonCan(Case):
