@@ -77,6 +77,14 @@ def there(*names: str) -> List[str]:
     return found
 
 
+def compilers() -> List[str]:
+    """Those of C that are there. The tests of syncs need one: they are not passed over."""
+    found = [name for name in ("gcc", "clang") if shutil.which(name)]
+    if not found:
+        raise AssertionError("there is no gcc and no clang, so no sync is tried")
+    return found
+
+
 def done(*words: object, **options: Any) -> str:
     """What a command wrote that ended well."""
     ended = Ended(words, **options)
@@ -200,7 +208,7 @@ class WorkedSchedules(unittest.TestCase):
         """Of each worked schedule without a refused row, the nodes of the library have the roles and numbers, send the
         frames and keep the logs of the report; and no frame is taken while its store waits for a sync."""
         tried = set()
-        for compiler, flags in zip(there("gcc", "clang"), (SANITIZED, ["-O2"])):
+        for compiler, flags in zip(compilers(), (SANITIZED, ["-O2"])):
             program = built(compiler, TESTS / "c" / "replay.c", flags=flags)
             for path in sorted(EXAMPLES.glob("*/words")):
                 folder, words = path.parent, support.read(path).split()
@@ -211,6 +219,28 @@ class WorkedSchedules(unittest.TestCase):
                 self.assertEqual(wrote, lines_of_nodes(folder), folder.name)
                 tried.add(folder)
         self.assertGreaterEqual(len(tried), 20)
+
+
+class CallsThatFail(unittest.TestCase):
+    """What the library makes of a call on the store that fails, by the rows of a schedule of a lone member."""
+
+    def setUp(self) -> None:
+        self.program = built(compilers()[0], TESTS / "c" / "replay.c", flags=SANITIZED)
+
+    def comes_to(self, *rows: str) -> List[str]:
+        return done(self.program, "1", input="".join(row + "\n" for row in rows).encode()).splitlines()
+
+    def test_each_call_of_an_opening(self) -> None:
+        """A sync, a read, and the put of the version: each of them fails once, and the next opening goes well."""
+        for call in range(1, 7):
+            lines = self.comes_to(f"fault 1 {call}", "open 1 0 0", "open 1 0 0")
+            self.assertEqual(lines, ["1 fault", "1 open 0 0 0 0", "log 1 0"], call)
+
+    def test_each_call_of_a_put(self) -> None:
+        """The two writes and the two syncs by which a term is stored: no call of the member goes well from then on."""
+        for call in range(1, 5):
+            lines = self.comes_to("open 1 0 0", f"fault 1 {call}", "tick 1 2000 0", "tick 1 2001 0")
+            self.assertEqual(lines, ["1 open 0 0 0 0", "1 fault", "1 fault"], call)
 
 
 class Start(unittest.TestCase):
