@@ -72,6 +72,15 @@ class Disks(unittest.TestCase):
         self.assertEqual(said.status, 1)
         self.assertRegex(said.written, r"A9 +NOT SO: .*damaged at key 0")
 
+    def test_a_store_that_others_may_write(self) -> None:
+        with tempfile.TemporaryDirectory(dir=TESTS) as folder:
+            store = pathlib.Path(folder) / "alloc-1.store"
+            store.write_bytes(bytes(8844))
+            for mode, told in ((0o600, False), (0o620, True), (0o602, True)):
+                store.chmod(mode)
+                said = check("--stores", folder).written
+                self.assertEqual("others than its user may write it" in said, told, said)
+
     def test_a_store_without_a_version_is_told(self) -> None:
         with tempfile.TemporaryDirectory(dir=TESTS) as folder:
             (pathlib.Path(folder) / "alloc-1.store").write_bytes(bytes(8844))
