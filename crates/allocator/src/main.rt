@@ -242,7 +242,13 @@ fn run_on_lost_store(
     let _streams = held_streams(rt)?;
     let mut paths = Vec::new(rt.alloc());
     let outcome = match stores_but_lost(rt, lost, ids, &mut paths) {
-        Ok(mut stores) => Ok(follow::<UdpLink, FileDisk>(rt, words, &mut [], &mut stores, &Cell::new(0))),
+        Ok(mut stores) => Ok(follow::<UdpLink, FileDisk>(
+            rt,
+            words,
+            &mut [],
+            &mut stores,
+            &Cell::new(0),
+        )),
         Err(refusal) => Err(refusal),
     };
     if outcome != Ok(Status::Done) {
