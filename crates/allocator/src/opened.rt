@@ -82,7 +82,11 @@ pub fn listening_link<'a, L: Link>(
     ensures me { result.me ≡ id }
     ensures list { result.ids.items ≡ list_of told.now }
 {
-    ToldLink::new(link, StdClock::new(rt), id, told.list())
+    let clock = StdClock::new(rt);
+    match told {
+        Told::Size(_) => ToldLink::new(link, clock, id, &[]),
+        Told::Members(members) => ToldLink::new(link, clock, id, members),
+    }
 }
 
 /// The stores of these members, each in its file. A missing file is made.
