@@ -1,5 +1,6 @@
 pub mod AnotherLog
 pub mod Outside
+pub mod Repeats
 pub mod Unchanged
 pub mod Unlisted
 pub mod Verdicts

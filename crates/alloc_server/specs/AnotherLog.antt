@@ -1,9 +1,10 @@
 -- Whether an event brings a call of another log: an append request that contradicts what the member has committed.
 --
 -- A leader whose term is not below that of a member has in its log what the member has committed, so its requests agree
--- with it (`raft_model::laws::law_one_log`). Those of a lower term may differ lawfully, and do not count: a leader of an
--- earlier term calls late, with an entry that was never committed.
-use Rattle.std.specs.Prelude.{ℕ, ◌+◌, Bool, true, false, not, ◌&&◌, ◌||◌, max, nat_eq, nat_le, Option, None, Some, if◌then◌else◌}
+-- with it (`raft_model::laws::law_one_log`). And no two entries of a log give one node ID, or one unique ID
+-- (`IsInjective`), so its entry behind the committed ones repeats none of them. Those of a lower term may differ
+-- lawfully, and do not count: a leader of an earlier term calls late, with an entry that was never committed.
+use Rattle.std.specs.Prelude.{ℕ, ◌+◌, Bool, true, false, not, ◌&&◌, ◌||◌, max, nat_eq, nat_le, nat_lt, take, Option, None, Some, if◌then◌else◌}
 use Rattle.std.specs.Str.{bytes_eq}
 use Rattle.can_frame.specs.declared.entry.Entry.{Entry}
 use Rattle.can_frame.specs.declared.identifier.Ident.{Ident}
@@ -15,6 +16,7 @@ use Rattle.dsdl_codec.specs.declared.append_request.AppendRequest.{AppendRequest
 use Rattle.dsdl_codec.specs.AppendRequest.{append_request_of}
 use Rattle.node_discovery.specs.declared.counting.Counting.{Counting}
 use Rattle.node_discovery.specs.declared.counting.Counting.TheVariants.{OfSpell, SinceAnswer}
+use Rattle.raft_model.specs.Decisions.{is_distinct_from_all}
 use Rattle.raft_model.specs.Server.{Store}
 use Rattle.transfer_rx.specs.Reassembly.{Arrival, Delivery, answer, delivered}
 use Rattle.alloc_spec.specs.Accepted.{setting_for}
@@ -40,9 +42,17 @@ abbrev pub differs_at : Store → ℕ → Option Entry → Bool
 differs_at store place None = false
 differs_at store place (Some entry) = has_committed store place && not (is_same_entry (entry_at store.log place) entry)
 
+-- the place of the new entry is behind the committed ones, and it may not stand in one log with one of them: both give,
+-- or keep back, one node ID, or both give to one unique ID
+abbrev pub repeats : Store → ℕ → Option Entry → Bool
+repeats store place None = false
+repeats store place (Some entry) = nat_lt store.commit place
+    && not (is_distinct_from_all entry (take store.commit store.log))
+
 abbrev pub contradicts : Store → AppendRequest → Bool
 contradicts store request = nat_le store.term request.term
-    && (differs_before store request || differs_at store (request.prev_index + 1) request.entry)
+    && (differs_before store request || (differs_at store (request.prev_index + 1) request.entry
+    || repeats store (request.prev_index + 1) request.entry))
 
 -- ---- what a frame brings
 

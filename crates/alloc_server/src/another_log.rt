@@ -3,13 +3,14 @@
 ghost use Rattle.std.specs.Prelude.{◌≡◌, ◌+◌, None, Some, IsSome};
 ghost use Rattle.raft_core.specs.StoredPuts.{store_of};
 ghost use Rattle.raft_log.specs.DurableViews.{durable_state};
+ghost use Rattle.raft_model.specs.Decisions.{is_distinct_from_all};
 ghost use Rattle.transfer_rx.specs.Acceptance.{AnswersByRows};
 ghost use Rattle.transfer_rx.specs.Reassembly.{arrival_of};
 ghost use Rattle.transfer_rx.specs.Told.{delivery_of};
 ghost use Rattle.alloc_spec.specs.Accepted as accepted;
 ghost use Rattle.alloc_spec.specs.Accepted.{AllocatorReceiverFitsInMemory};
 ghost use Rattle.alloc_spec.specs.AllocatorState.{AllocatorState};
-ghost use Rattle.alloc_server.specs.AnotherLog.{another_log, caller_by, caller_in, contradicts, counts_as_told, differs_at, differs_before, is_append_request, is_same_entry};
+ghost use Rattle.alloc_server.specs.AnotherLog.{another_log, caller_by, caller_in, contradicts, counts_as_told, differs_at, differs_before, is_append_request, is_same_entry, repeats};
 
 use crate::server::Server;
 use alloc_spec::Event;
@@ -25,8 +26,8 @@ impl<D: Disk, F: Fn(Kind, u16) -> Option<u64> + Copy> Server<D, F> {
 
     /// The member whose log is another one, where the event brings a call of it: in its own term or a later one
     /// a member of the list calls it to append, and what the call has of a place that this member has committed
-    /// differs from what stands there. A server that was not told its list, or that has failed, answers `None`.
-    /// Nothing changes.
+    /// differs from what stands there, or its entry behind those places repeats a node ID or a unique ID of theirs.
+    /// A server that was not told its list, or that has failed, answers `None`. Nothing changes.
     pub fn another_log(&self, event: &Event) -> Option<u8>
         requires memory { AllocatorReceiverFitsInMemory F.row }
         requires callable { F.IsAlwaysCallable (accepts self.now) }
@@ -105,7 +106,8 @@ fn is_append_request(ident: &Ident) -> bool
 fn contradicts<D: Disk>(d: &Durable<D>, request: &AppendRequest) -> bool
     ensures { result ≡ contradicts (store_of (durable_state d.now)) request.now }
 {
-    d.term() <= request.term && (differs_before(d, request) || differs_at(d, request))
+    d.term() <= request.term
+        && (differs_before(d, request) || differs_at(d, request) || repeats(d, request))
 }
 
 /// The place of the previous entry is committed, and the term there is another one.
@@ -127,6 +129,27 @@ fn differs_at<D: Disk>(d: &Durable<D>, request: &AppendRequest) -> bool
         }
         None => false,
     }
+}
+
+/// The place of the new entry is not committed, and a committed entry has its node ID or its unique ID.
+fn repeats<D: Disk>(d: &Durable<D>, request: &AppendRequest) -> bool
+    ensures { result ≡ repeats (store_of (durable_state d.now)) (request.now.prev_index + 1)
+        request.now.entry }
+{
+    match &request.entry {
+        Some(entry) => {
+            d.commit() <= request.prev_index
+                && !is_distinct_from_all(entry, &d.log()[..usize::from(d.commit())])
+        }
+        None => false,
+    }
+}
+
+/// Whether an entry may stand in one log with each of these.
+fn is_distinct_from_all(entry: &Entry, log: &[Entry]) -> bool
+    ensures { result ≡ is_distinct_from_all entry.now log.now }
+{
+    log.iter().all(|earlier| entry.is_distinct_from(earlier))
 }
 
 fn is_same(a: &Entry, b: &Entry) -> bool
