@@ -159,7 +159,7 @@ MEMBER_EXITS: Dict[int, Tuple[str, str]] = {
         ),
     ),
     10: (
-        "the disk of the member in the last line failed: its store could not be written or synced",
+        "the disk of the member in the last line failed: its store could not be written or synced, or was replaced",
         (
             "look at the kernel's log. A disk that failed once may have lost what later reads show: replace it, "
             "as a machine, or restart the machine where the cause is known and gone"
@@ -174,7 +174,7 @@ MEMBER_EXITS: Dict[int, Tuple[str, str]] = {
     ),
     12: (
         "a link or a disk was not opened",
-        "look at the list below, and at the journal, which has the cause where it is still seen",
+        "look at the journal, and at the list below",
     ),
     17: (
         "the echo of a frame is half a second late: no other node acknowledged it, and it waits in the interface",

@@ -44,15 +44,15 @@ differs_at store place (Some entry) = has_committed store place && not (is_same_
 
 -- the place of the new entry is behind the committed ones, and it may not stand in one log with one of them: both give,
 -- or keep back, one node ID, or both give to one unique ID
-abbrev pub repeats : Store → ℕ → Option Entry → Bool
-repeats store place None = false
-repeats store place (Some entry) = nat_lt store.commit place
+abbrev pub repeats_committed : Store → ℕ → Option Entry → Bool
+repeats_committed store place None = false
+repeats_committed store place (Some entry) = nat_lt store.commit place
     && not (is_distinct_from_all entry (take store.commit store.log))
 
 abbrev pub contradicts : Store → AppendRequest → Bool
 contradicts store request = nat_le store.term request.term
     && (differs_before store request || (differs_at store (request.prev_index + 1) request.entry
-    || repeats store (request.prev_index + 1) request.entry))
+    || repeats_committed store (request.prev_index + 1) request.entry))
 
 -- ---- what a frame brings
 

@@ -10,7 +10,7 @@ ghost use Rattle.transfer_rx.specs.Told.{delivery_of};
 ghost use Rattle.alloc_spec.specs.Accepted as accepted;
 ghost use Rattle.alloc_spec.specs.Accepted.{AllocatorReceiverFitsInMemory};
 ghost use Rattle.alloc_spec.specs.AllocatorState.{AllocatorState};
-ghost use Rattle.alloc_server.specs.AnotherLog.{another_log, caller_by, caller_in, contradicts, counts_as_told, differs_at, differs_before, is_append_request, is_same_entry, repeats};
+ghost use Rattle.alloc_server.specs.AnotherLog.{another_log, caller_by, caller_in, contradicts, counts_as_told, differs_at, differs_before, is_append_request, is_same_entry, repeats_committed};
 
 use crate::server::Server;
 use alloc_spec::Event;
@@ -107,7 +107,7 @@ fn contradicts<D: Disk>(d: &Durable<D>, request: &AppendRequest) -> bool
     ensures { result ≡ contradicts (store_of (durable_state d.now)) request.now }
 {
     d.term() <= request.term
-        && (differs_before(d, request) || differs_at(d, request) || repeats(d, request))
+        && (differs_before(d, request) || differs_at(d, request) || repeats_committed(d, request))
 }
 
 /// The place of the previous entry is committed, and the term there is another one.
@@ -132,8 +132,8 @@ fn differs_at<D: Disk>(d: &Durable<D>, request: &AppendRequest) -> bool
 }
 
 /// The place of the new entry is not committed, and a committed entry has its node ID or its unique ID.
-fn repeats<D: Disk>(d: &Durable<D>, request: &AppendRequest) -> bool
-    ensures { result ≡ repeats (store_of (durable_state d.now)) (request.now.prev_index + 1)
+fn repeats_committed<D: Disk>(d: &Durable<D>, request: &AppendRequest) -> bool
+    ensures { result ≡ repeats_committed (store_of (durable_state d.now)) (request.now.prev_index + 1)
         request.now.entry }
 {
     match &request.entry {
