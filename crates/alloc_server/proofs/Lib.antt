@@ -1,4 +1,5 @@
 pub mod AnotherLog
+pub mod OneLog
 pub mod Outside
 pub mod Repeats
 pub mod Unchanged

@@ -1,2 +1,3 @@
 pub mod AnotherLog
+pub mod OneLog
 pub mod Server

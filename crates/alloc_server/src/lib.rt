@@ -10,11 +10,13 @@
 //! in `alloc_spec_laws`.
 //!
 //! [`Server::another_log`] says whether an event brings a call that contradicts what the member has committed.
+//! In a run of the Raft model no call does ([`laws::no_call_contradicts`]).
 //! [`Server::judge`] says whether a frame may be given to a server under test.
 #![tactic(auto)]
 
 mod another_log;
 mod judge;
+pub mod laws;
 mod server;
 mod take;
 
