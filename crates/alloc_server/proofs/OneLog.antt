@@ -7,7 +7,7 @@ use Rattle.std.proofs.lemmas.Slice.Eq.{bytes_eq-Decides}
 use Rattle.can_frame.specs.declared.entry.Entry.{Entry}
 use Rattle.can_frame.specs.Log.{AreDistinct, blank, entry_at}
 use Rattle.dsdl_codec.specs.declared.append_request.AppendRequest.{AppendRequest}
-use Rattle.raft_model.specs.Decisions.{are_distinct, is_distinct_from_all}
+use Rattle.raft_model.specs.Decisions.{is_distinct_from_all}
 use Rattle.raft_model.specs.Invariants.{CommitsSettled, IsSettled, LeadersComplete, LeadersElected, LogsMatch, StoresSound}
 use Rattle.raft_model.specs.Lists.{In}
 use Rattle.raft_model.specs.Log.{term_at}
@@ -16,8 +16,8 @@ use Rattle.raft_model.specs.Messages.Message.{Requests}
 use Rattle.raft_model.specs.OneLog.{HasOneLog, HasOnePast}
 use Rattle.raft_model.specs.Runs.{World}
 use Rattle.raft_model.specs.Server.{Store, committed}
-use Rattle.alloc_server.specs.AnotherLog.{contradicts, differs_at, differs_before, has_committed, is_same_entry, repeats_committed}
-use Rattle.alloc_server.specs.OneLog.{ContradictsNothing, IsSaid, RepeatsNothing}
+use Rattle.alloc_server.specs.AnotherLog.{differs_at, differs_before, has_committed, is_same_entry, repeats_committed}
+use Rattle.alloc_server.specs.OneLog.{ContradictsNothing, RepeatsNothing}
 use Rattle.alloc_server.proofs.Repeats.{distinct_decided}
 
 turned : (a b : Entry) → AreDistinct a b → AreDistinct b a
