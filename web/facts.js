@@ -64,7 +64,7 @@ const Facts = (() => {
     [14, ["audit"], "differ <i> <a> <b>", "{nodes <a> and <b> have committed different entries at place <i>|the two members in the last line have committed different entries at the place there}; none before it differ"],
     [15, ["decode"], "-", "the text has no such type, or the type has no such part"],
     [16, ["decode"], "-", "the bytes are no value of this part"],
-    [19, ["node", "can"], "another log <id> <node>", "member {<id> has committed another entry than the one that member <node> sent it|the first in the last line has committed another entry than the one that the second sent it}: one of the two has the log of another cluster, or an old store"],
+    [19, ["node", "can"], "another log <id> <node>", "{what member <node> sent contradicts what member <id> has committed|what the second member in the last line sent contradicts what the first has committed}: one of the two has the log of another cluster, or an old store"],
   ];
   const STORE_BYTES = 8844;
   const DROPS = {

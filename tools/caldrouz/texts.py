@@ -192,8 +192,8 @@ MEMBER_EXITS: Dict[int, Tuple[str, str]] = {
     ),
     19: (
         (
-            "member the first in the last line has committed another entry than the one that the second sent it: "
-            "one of the two has the log of another cluster, or an old store"
+            "what the second member in the last line sent contradicts what the first has committed: one of the "
+            "two has the log of another cluster, or an old store"
         ),
         (
             "stop all members and audit all stores: which machine came from another vehicle, or was away when the "
