@@ -69,6 +69,12 @@ class Machines(Case):
     def said(self, *of: Dict[str, str]) -> Ended:
         return run_tool("check_settings", *(self.keep(f"m{at}", **{**WELL, **one}) for at, one in enumerate(of)))
 
+    def test_a_lost_store_is_not_made_anew(self) -> None:
+        self.keep("default", **{**WELL, "CLUSTER": "115,116,117", "MEMBERS": "117"})
+        said = self.of_machine("--stores")
+        self.assertEqual(said.status, 1)
+        self.assertIn("117 has no store: caldrouz-new@117 makes it for one that never had any", said.written)
+
     def test_three_machines_that_agree(self) -> None:
         self.assertEqual(self.said({}, {"MEMBERS": "2"}, {"MEMBERS": "3"}).status, 0)
 
