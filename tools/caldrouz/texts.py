@@ -186,8 +186,9 @@ MEMBER_EXITS: Dict[int, Tuple[str, str]] = {
             "does what members do and is not on its list"
         ),
         (
-            "compare CLUSTER on all machines. The low seven bits of the identifier say who it was: itself, from a "
-            "cloned card, a second process or a fixed address; or a server that does not belong here. Then audit"
+            "compare CLUSTER on all machines. echo $((0xidentifier & 127)) tells who it was: itself, by a cloned "
+            "card, a second process or a fixed address; or a server that does not belong here. Then audit, and "
+            "replace the store of one that had another list"
         ),
     ),
     19: (
@@ -196,8 +197,8 @@ MEMBER_EXITS: Dict[int, Tuple[str, str]] = {
             "two has the log of another cluster, or an old store"
         ),
         (
-            "stop all members and audit all stores: which machine came from another vehicle, or was away when the "
-            "cluster was begun anew? Replace that one; else begin anew"
+            "stop all members and audit all stores: which machine came from another vehicle, ran with another "
+            "list, or was away when the cluster was begun anew? Replace that one; else begin anew"
         ),
     ),
 }
