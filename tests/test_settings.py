@@ -10,7 +10,7 @@ from typing import Dict, List
 from acts import Act
 from support import ROOT, Ended, run_tool, write_lines
 
-from caldrouz import vehicle
+from caldrouz import table, vehicle
 
 WELL = {"CLUSTER": "1,2,3", "BASE": "5000", "MEMBERS": '"1"', "BITRATE": "1000000"}
 
@@ -141,6 +141,11 @@ class TwoBuses(Case):
 
 
 class Units(unittest.TestCase):
+    def test_a_plug_may_be_loose_for_hours(self) -> None:
+        text = (ROOT / "packaging/caldrouz-can-node@.service").read_text(encoding="utf-8")
+        pause, most = (int(text.partition(f"\n{name}=")[2].split()[0]) for name in ("RestartSec", "StartLimitBurst"))
+        self.assertGreater(most, 3600 / (pause + table.REST / 1000))  # (each life ends with a late echo after the rest)
+
     def test_a_member_on_the_interface_ends_the_bridge(self) -> None:
         """Beside it the bridge would drop the member's frames as those of a member behind it."""
         text = (ROOT / "packaging/caldrouz-can-node@.service").read_text(encoding="utf-8")
