@@ -197,8 +197,9 @@ MEMBER_EXITS: Dict[int, Tuple[str, str]] = {
             "two has the log of another cluster, or an old store"
         ),
         (
-            "stop all members and audit all stores: which machine came from another vehicle, ran with another "
-            "list, or was away when the cluster was begun anew? Replace that one; else begin anew"
+            "stop all members: those that go on may be the wrong ones. Audit all stores: which machine came from "
+            "another vehicle, ran with another list, or was away when all was begun anew? Replace that one; else "
+            "begin anew. Switch devices off and on"
         ),
     ),
 }
