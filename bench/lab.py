@@ -204,6 +204,7 @@ class Lab:
         """Kills members, those that are not there any more left out."""
         for name in names:
             self.back.pop(name, None)
+            self.leads.pop(name, None)
             member = self.members.pop(name, None)
             if member is not None:
                 member.process.kill()
@@ -277,6 +278,9 @@ class Lab:
         ends = {member.end: member for member in self.members.values()}
         for end in select.select(list(ends), [], [], 0.005)[0]:
             self._take(ends[end])
+        for member in list(self.members.values()):
+            if isinstance(member.end, SerialEnd) and member.process.poll() is not None:
+                self._ends(member)  # (whose line tells nothing, as this side holds both ends)
         for device in self.devices:
             for packet in device.sends():
                 self.put(device.place, packet)
@@ -318,6 +322,7 @@ class Lab:
         status = member.process.wait()
         member.end.close()
         del self.members[member.name]
+        self.leads.pop(member.name, None)
         self.ended.append((member.name, status))
         if status == LATE_ECHO and self.has_units and member.name in self.kept:
             self.kept[member.name].clear()
