@@ -15,10 +15,9 @@
  *         if (has_room() && caldrouz_take(&node, &frame)) transmit(&frame);
  *     }
  *
- * Memory. A node is one object of type `caldrouz`, which the caller keeps: static, on a heap, or on a stack. The
- * library
- *   allocates nothing and has no variables of its own. From caldrouz_init() on a node must not be moved, copied or
- *   written by anybody else. There is nothing to free: a node whose caller stops calling is gone.
+ * Memory. A node is one object of type `caldrouz`, which the caller keeps: static, on a heap, or on a stack.
+ *   The library allocates nothing and has no variables of its own. From caldrouz_init() on a node must not be moved,
+ *   copied or written by anybody else. There is nothing to free: a node whose caller stops calling is gone.
  * Threads. One call on a node at a time. Different nodes share nothing, and may be called from different threads. The
  *   library takes no lock and starts no thread, and is not to be called from an interrupt that may interrupt a call.
  * Time. `now` is in milliseconds, from any start, by a clock that does not fall and does not stand still, as
