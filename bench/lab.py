@@ -26,7 +26,7 @@ import scripts
 sys.path.insert(0, os.path.join(scripts.TOP, "tests"))
 import packets  # noqa: E402 (it stands in tests/)
 
-from caldrouz import table, wire  # noqa: E402
+from caldrouz import machine, table, wire  # noqa: E402
 
 PROGRAM = os.path.abspath(os.environ.get("PROGRAM", scripts.PROGRAM))
 TURNS = "1000000000"
@@ -39,6 +39,7 @@ AT_ONCE = 32  # packets that are taken of one member in a turn
 SPREAD = 0.3  # seconds by which a device's tries differ
 BRIDGE = os.path.join(scripts.TOP, "tools", "can_bridge")
 SLCAN_FRAME = re.compile(rb"T([0-9A-Fa-f]{8})[1-8]((?:[0-9A-Fa-f]{2})*)")
+os.environ[machine.ANY_DISK] = "1"  # of members behind a bridge
 
 
 def store_of(node: int) -> str:
@@ -160,6 +161,7 @@ class Lab:
     ended: List[Tuple[str, int]] = field(default_factory=list)  # by themselves
     back: Dict[str, Tuple[float, Member]] = field(default_factory=dict)  # who is started again, and when
     kept: Dict[str, Deque[bytes]] = field(default_factory=dict)  # by the interfaces whose plug is off
+    front: Dict[str, Sequence[str]] = field(default_factory=dict)  # words of another program that runs a member
     has_units: bool = True  # whether the interface of a member is taken down whose echo was late
     watch: Callable[[str, bytes], None] = lambda name, packet: None  # is told each packet of a member before it comes
 
@@ -186,7 +188,8 @@ class Lab:
             with theirs:
                 for end in (ours, theirs):
                     end.setblocking(False)
-                process = self._run([PROGRAM, *(words or ("can", told, TURNS)), str(node_of(name))], name, theirs)
+                command = [*self.front.get(name, ()), PROGRAM, *(words or ("can", told, TURNS)), str(node_of(name))]
+                process = self._run(command, name, theirs)
             self.members[name] = Member(name, told, words, process, ours)
 
     def start_behind_bridge(self, name: str, told: str = "1,2,3") -> None:

@@ -27,8 +27,10 @@ import members
 import packets
 import support
 
+from caldrouz import machine
 from caldrouz.words import Ended
 
+os.environ[machine.ANY_DISK] = "1"  # (the folders of these tests are in memory maybe)
 BRIDGE = str(support.ROOT / "tools" / "can_bridge")
 MEMBERS = [1, 2]
 NODE_STATUS_OF_7 = 0x10015507
@@ -512,7 +514,7 @@ class OwnProcesses(unittest.TestCase):
         return found
 
     def test_how_members_are_started(self) -> None:
-        words = ["./allocator", "can", "1,2,3", "1000000000"]
+        words = ["./allocator", "can", "1,2,3"]
         self.assertEqual([it.command for it in self.members.processes.values()], [[*words, "1"], [*words, "2"]])
         self.assertEqual({link.type & 0xF for link in self.links.values()}, {socket.SOCK_SEQPACKET})
         self.assertFalse(any(os.get_blocking(link.fileno()) for link in self.links.values()))
@@ -783,6 +785,13 @@ class Words(unittest.TestCase):
         self.assertEqual((status, said), (1, "can_bridge: /dev/no-adapter: No such file or directory\n"))
         status, said = self.ended("33000", "no-interface", "1")
         self.assertEqual((status, said.split(":")[:2]), (1, ["can_bridge", " no-interface"]))
+
+    def test_members_have_no_store_in_memory(self) -> None:
+        words = [sys.executable, BRIDGE, "/dev/no-adapter", "--members", "1,2,3", "1", "--", "true"]
+        environment = {name: value for name, value in os.environ.items() if name != machine.ANY_DISK}
+        done = subprocess.run(words, capture_output=True, text=True, timeout=30, cwd="/dev/shm", env=environment)
+        self.assertEqual(done.returncode, 12)
+        self.assertIn("can_bridge: /dev/shm: tmpfs is in memory", done.stderr)
 
     def test_over_udp_it_says_that_this_is_for_trials(self) -> None:
         adapter, line = pty.openpty()

@@ -63,6 +63,17 @@ class Disks(unittest.TestCase):
         self.assertEqual(said.status, 1)
         self.assertRegex(said.written, r"A1 +NOT SO: +/dev/shm: tmpfs is in memory")
 
+    def test_a_member_that_is_told_its_list_has_no_store_in_memory(self) -> None:
+        def said(*words: object, **environment: str) -> Ended:
+            kept = {name: value for name, value in os.environ.items() if name != machine.ANY_DISK}
+            return run_tool("on_can", "no-such-can", "true", *words, cwd="/dev/shm", env={**kept, **environment})
+
+        refused = said("can", "1,2,3", "1")
+        self.assertEqual(refused.status, 12)
+        self.assertIn("on_can: /dev/shm: tmpfs is in memory", refused.errors)
+        for other in (said("can", "1,2,3", "1", CALDROUZ_ANY_DISK="1"), said("can", "3", "1000", "1")):
+            self.assertTrue(other.errors.startswith("on_can: no-such-can: "), other.errors)
+
     def test_stores_of_a_folder(self) -> None:
         said = check("--stores", EXAMPLES / "a_real_bus")
         self.assertRegex(said.written, r"A9 +ok: +the store of member 1 can be read: term 2, 3 entries, 3 committed")

@@ -1,6 +1,7 @@
 """What a machine tells of itself: the disk below a store, processes of members, a CAN interface, its clock. Not proved.
 
     machine.disk_of(path)                 # a Disk: the kind of its file system, where it is mounted, with which options
+    machine.refusal(".")                  # why a member that is told its list may not have its store there, or nothing
     machine.members_running()             # the processes that run members
     machine.interface("can0")             # an Interface, or None where `ip` cannot tell
     machine.Clocks().error(1.0)           # by which part of itself the clock of the members goes too fast now
@@ -22,6 +23,7 @@ IN_MEMORY = {"tmpfs", "ramfs", "devtmpfs", "rootfs"}
 OF_NETWORK = {"nfs", "nfs4", "cifs", "smb3", "9p", "ceph", "afs", "fuse.sshfs", "glusterfs", "virtiofs"}
 LAYERS = {"overlay", "aufs", "squashfs", "iso9660", "erofs"}
 UNSAFE_OPTIONS = {"nobarrier", "barrier=0"}
+ANY_DISK = "CALDROUZ_ANY_DISK"  # in the environment: whoever tries something says that its stores need not last
 BEFORE_IDS = {"node": 5, "can": 4}  # words before the node IDs, by mode
 SETTING = re.compile(r"\s*([A-Z_]+)=(.*)")
 
@@ -60,6 +62,14 @@ def disk_of(path: str, mounts: str = "/proc/self/mountinfo") -> Optional[Disk]:
     except OSError:
         return None
     return found
+
+
+def refusal(folder: str) -> str:
+    """Why members that are told their list are not started in this folder, or nothing. What the system does not tell is
+    no reason."""
+    disk = None if os.environ.get(ANY_DISK) else disk_of(folder)
+    why = disk.wrong() if disk else ""
+    return f"{os.path.realpath(folder)}: {why}: no place for a store ({ANY_DISK}=1 lets a trial be there)" if why else ""
 
 
 class Running(NamedTuple):
