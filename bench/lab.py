@@ -1,6 +1,6 @@
 """A simulated CAN bus for the scripts beside this one: members of `can`, each a process behind a pair of sockets, and
-devices that ask for node IDs, tell their NodeStatus and answer GetNodeInfo. Parts of the bus may be cut from each other,
-and frames be lost. It notes which node IDs were told and held, who leads, and how members ended.
+devices that ask for node IDs, tell their NodeStatus and answer GetNodeInfo. Parts of the bus may be cut from each
+other, and frames be lost. It notes which node IDs were told and held, who leads, and how members ended.
 
 Like a unit, it starts a member again that ended by itself, unless its status is one that a person has to look at."""
 from __future__ import annotations
@@ -11,7 +11,6 @@ import random
 import re
 import select
 import shutil
-import signal
 import socket
 import subprocess
 import sys
@@ -189,7 +188,7 @@ class Lab:
                 for end in (ours, theirs):
                     end.setblocking(False)
                 command = [*self.front.get(name, ()), PROGRAM, *(words or ("can", told, TURNS)), str(node_of(name))]
-                process = self._run(command, name, theirs)
+                process = self._run(command, name, theirs.fileno())
             self.members[name] = Member(name, told, words, process, ours)
 
     def start_behind_bridge(self, name: str, told: str = "1,2,3") -> None:
@@ -198,7 +197,7 @@ class Lab:
         words = [sys.executable, BRIDGE, end.path, "--members", told, str(node_of(name)), "--", PROGRAM]
         self.members[name] = Member(name, told, (), self._run(words, name, subprocess.DEVNULL), end)
 
-    def _run(self, words: List[str], name: str, stdin: Union[int, socket.socket]) -> "subprocess.Popen[bytes]":
+    def _run(self, words: List[str], name: str, stdin: int) -> "subprocess.Popen[bytes]":
         folder = os.path.join(self.folder, name)
         with open(os.path.join(folder, "said"), "ab") as said:
             return subprocess.Popen(words, cwd=folder, stdin=stdin, stdout=said, stderr=said)
@@ -214,7 +213,7 @@ class Lab:
                 member.process.wait()
                 member.end.close()
 
-    def signal(self, name: str, number: signal.Signals) -> None:
+    def signal(self, name: str, number: int) -> None:
         if name in self.members:
             self.members[name].process.send_signal(number)
 

@@ -1,8 +1,8 @@
 """A stand-in for a serial adapter that speaks SLCAN, for packaging/try_package: a pseudo terminal, with a link to it as
 FILE, beside a CAN interface. Like a good adapter it answers a frame once that was on the bus. At SIGUSR1 its plug comes
 off, and at the next one it is on again: without a plug it hears nothing, answers no frame, and keeps what it was given
-until its channel is closed; what it still has goes out when the plug is on. Each change, and how many frames went out or
-were thrown away, is a line of its output.
+until its channel is closed; what it still has goes out when the plug is on. Each change, and how many frames went out
+or were thrown away, is a line of its output.
 
 serial_adapter.py FILE INTERFACE
 """

@@ -520,7 +520,7 @@ class OwnProcesses(unittest.TestCase):
         self.assertFalse(any(os.get_blocking(link.fileno()) for link in self.links.values()))
         with mock.patch.object(bridge.subprocess, "Popen", Started):
             alone = bridge.Processes(["./allocator"], "7,", [7], self.journal)
-        self.assertEqual(alone.processes[7].command, ["./allocator", "can", "7,", "1000000000", "7"])
+        self.assertEqual(alone.processes[7].command, ["./allocator", "can", "7,", "7"])
         alone.close()
 
     def test_a_member_is_echoed_once_the_adapter_answered_and_the_other_hears_it(self) -> None:
