@@ -455,9 +455,9 @@ class Started:
 
     status = 0
 
-    def __init__(self, command: list[str], stdin: socket.socket) -> None:
+    def __init__(self, command: list[str], stdin: int) -> None:
         self.command = command
-        self.link = socket.socket(fileno=os.dup(stdin.fileno()))
+        self.link = socket.socket(fileno=os.dup(stdin))
 
     def wait(self, _timeout: float) -> int:
         return self.status
