@@ -39,6 +39,9 @@ def lowered(module: bytes) -> bytes:
 
 
 def main() -> None:
+    if sys.argv[1:] in (["-h"], ["--help"]):
+        print(__doc__)
+        return
     source, target = sys.argv[1:]
     with open(source, "rb") as file:
         data = file.read()

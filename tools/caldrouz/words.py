@@ -6,6 +6,7 @@ import contextlib
 import errno
 import math
 import os
+import pathlib
 import re
 import shutil
 import signal
@@ -37,7 +38,18 @@ def parser(name: str, about: str, usage: str) -> argparse.ArgumentParser:
     what, begin, codes = about.partition("exit codes")
     form = argparse.RawDescriptionHelpFormatter
     end = begin + codes
-    return argparse.ArgumentParser(prog=command, usage=usage, description=what, epilog=end, formatter_class=form)
+    made = argparse.ArgumentParser(prog=command, usage=usage, description=what, epilog=end, formatter_class=form)
+    made.add_argument("--version", action="version", version=version(), help="of which version the tool is")
+    return made
+
+
+def version() -> str:
+    """That of the package where a tool is installed, as the program tells it too; else that of the sources."""
+    above = pathlib.Path(__file__).resolve().parents[2]
+    for place, form in (above / "BUILD", "{}"), (above / "VERSION", "caldrouz {}"):
+        if place.is_file():
+            return form.format(place.read_text(encoding="ascii").split("\n")[0])
+    return "caldrouz, of a version that it does not know"
 
 
 def run(name: str, main: Callable[[], int]) -> NoReturn:
