@@ -319,6 +319,8 @@ class Pages(Checked):
         page = self.made(MADE["CLAIMS"])
         self.assertNotIn("**not found**", page)
         self.assertIn("Named here and not in the sources: none.", page)
+        told = re.findall(r"^### (A\d+): .*\n\n- Definition: `.*\n- Ask: .+\n- Tests: .+$", page, re.M)
+        self.assertEqual(told, [f"A{number}" for number in range(1, 11)])
 
     def test_the_architecture_is_that_of_the_sources(self) -> None:
         made = Ended([sys.executable, ROOT / "docs/make_architecture", "--check"])
