@@ -27,7 +27,7 @@ import members
 import packets
 import support
 
-from caldrouz import machine
+from caldrouz import machine, notify
 from caldrouz.words import Ended
 
 os.environ[machine.ANY_DISK] = "1"  # (the folders of these tests are in memory maybe)
@@ -123,7 +123,7 @@ class Case(unittest.TestCase):
         for base in range(33000, 34000, 130):
             try:
                 self.ears = {node: self.ear(base + node) for node in (*MEMBERS, 3)}
-                self.bridge = bridge.Bridge(bus, bridge.Ports(base, MEMBERS, journal), journal)
+                self.bridge = bridge.Bridge(bus, bridge.Ports(base, MEMBERS, journal), journal, notify.Service())
                 self.base = base
                 return
             except (OSError, Ended):
@@ -480,7 +480,7 @@ class OwnProcesses(unittest.TestCase):
         with mock.patch.object(bridge.subprocess, "Popen", Started), redirect_stderr(self.errors):
             self.journal = bridge.Journal(self.bus.counts)
             self.members = bridge.Processes(["./allocator"], "1,2,3", MEMBERS, self.journal)
-        self.bridge = bridge.Bridge(self.bus, self.members, self.journal)
+        self.bridge = bridge.Bridge(self.bus, self.members, self.journal, notify.Service())
         self.links = {node: self.members.processes[node].link for node in MEMBERS}
         self.addCleanup(self.members.close)
 
@@ -512,6 +512,13 @@ class OwnProcesses(unittest.TestCase):
         while select.select([self.links[node]], [], [], 0.02)[0]:
             found.append(self.links[node].recv(64))
         return found
+
+    def test_it_goes_on_for_as_long_as_each_member_is_heard(self) -> None:
+        for senders, goes_on in (([MEMBERS[0]], False), (MEMBERS, True), (MEMBERS[1:], False)):
+            for node in senders:
+                self.links[node].send(packets.packet_of(0x1E015500 | node, b"12345678"))
+            self.turn()
+            self.assertIs(self.members.go_on(), goes_on)
 
     def test_how_members_are_started(self) -> None:
         words = ["./allocator", "can", "1,2,3"]

@@ -4,6 +4,7 @@
     bus = buses.open_bus("5000", True)    # one that is to send as well
     frame = bus.receive(0.5)              # a Frame, or None where none comes for so many seconds
     bus.send(frame)                       # as a node on the bus would
+    sender = buses.Sender("5000", 1)      # what member 1 of this machine sends there, and nobody else
     buses.is_base("5000")                 # whether a word is a base port
     buses.tells_what_is_out("can0")       # whether the driver gives a frame back once it was on the bus
 """
@@ -20,6 +21,7 @@ from . import table, texts, wire
 LEAST_BASE, GREATEST_BASE = texts.LEAST_BASE, texts.GREATEST_BASE
 # Tools listen at these ports, counted from the base: a member has none of them (1 to 117), nor the bridge (119).
 TOOL_PORTS = 118, 121, 122, 123, 124, 125
+WATCH_PORTS = 120, *reversed(TOOL_PORTS)  # of those who watch the members of this machine, each one of them
 BRIDGE_PORT = 119  # from here members that were told their list take frames of any node
 ROOM = 1 << 20  # bytes that a socket is asked to keep
 FULL_FOR = 0.5  # seconds for which a full queue of an interface is tried again
@@ -28,6 +30,8 @@ WITHOUT_A_WIRE = "vcan", "vxcan"  # what is sent on these is out at once
 MESSAGE = struct.Struct("=IHHIIBxHiII")  # a struct nlmsghdr and a struct ifinfomsg of Linux
 GET_LINK, NEW_LINK, IS_REQUEST = 18, 16, 1
 LINK_INFO, INFO_KIND = 18, 1
+CAN_FILTER = struct.Struct("=II")
+SOURCE = 0x7F  # of an identifier
 
 
 def is_base(word: str) -> bool:
@@ -92,6 +96,8 @@ class UdpBus:
 
 class CanBus:
     def __init__(self, channel: str) -> None:
+        if "\0" in channel or not 1 <= len(channel.encode(errors="surrogateescape")) <= 15:
+            raise OSError(errno.ENODEV, "neither a base port, nor a name that a CAN interface can have")
         self.link = socket.socket(socket.AF_CAN, socket.SOCK_RAW, socket.CAN_RAW)
         self.link.setsockopt(socket.SOL_SOCKET, socket.SO_RCVBUF, ROOM)
         self.link.bind((channel,))
@@ -115,13 +121,42 @@ class CanBus:
 Bus = Union[UdpBus, CanBus]
 
 
+class Sender:
+    """A member of this machine, as it is heard where it sends. Waiting for it wakes up when there is something."""
+
+    def __init__(self, word: str, member: int) -> None:
+        self.member = member
+        self.port = ("127.0.0.1", int(word) + member) if is_base(word) else None
+        if self.port is not None:
+            self.link = socket.socket(socket.AF_INET, socket.SOCK_DGRAM)
+            _first_free(self.link, int(word), WATCH_PORTS)
+        else:
+            self.link = CanBus(word).link
+            own = CAN_FILTER.pack(wire.EXTENDED | member, wire.EXTENDED | wire.REMOTE | SOURCE)
+            self.link.setsockopt(socket.SOL_CAN_RAW, socket.CAN_RAW_FILTER, own)
+        self.link.setblocking(False)
+
+    def fileno(self) -> int:
+        return self.link.fileno()
+
+    def heard(self) -> Optional[bool]:
+        """Whether the next of what came is a frame of it, sent by this machine; None where nothing waits."""
+        try:
+            data, _, flags, sender = self.link.recvmsg(64)
+        except BlockingIOError:
+            return None
+        except OSError as error:  # the interface was taken down, and may come up again
+            if error.errno != errno.ENETDOWN:
+                raise
+            return None
+        frame = wire.from_datagram(data) if self.port is not None else wire.from_can(data)
+        is_from_here = sender == self.port if self.port is not None else bool(flags & socket.MSG_DONTROUTE)
+        return frame is not None and is_from_here and frame.heading.source == self.member
+
+
 def open_bus(word: str, sends: bool = False) -> Bus:
     """The bus of a base port, or of a CAN interface with this name; OSError where it cannot be listened to."""
-    if is_base(word):
-        return UdpBus(int(word), sends)
-    if "\0" in word or not 1 <= len(word.encode(errors="surrogateescape")) <= 15:
-        raise OSError(errno.ENODEV, "neither a base port, nor a name that a CAN interface can have")
-    return CanBus(word)
+    return UdpBus(int(word), sends) if is_base(word) else CanBus(word)
 
 
 def _first_free(link: socket.socket, base: int, nodes: Sequence[int]) -> int:
