@@ -5,6 +5,7 @@
     frame = bus.receive(0.5)              # a Frame, or None where none comes for so many seconds
     bus.send(frame)                       # as a node on the bus would
     sender = buses.Sender("5000", 1)      # what member 1 of this machine sends there, and nobody else
+    bus = buses.Stamped("can0", [1, 2])   # what the allocators with these node IDs take or send, with its moments
     buses.is_base("5000")                 # whether a word is a base port
     buses.tells_what_is_out("can0")       # whether the driver gives a frame back once it was on the bus
 """
@@ -14,7 +15,7 @@ import errno
 import socket
 import struct
 import time
-from typing import Dict, List, Optional, Sequence, Tuple, Union
+from typing import Dict, Iterator, List, Optional, Sequence, Tuple, Union
 
 from . import table, texts, wire
 
@@ -32,6 +33,7 @@ GET_LINK, NEW_LINK, IS_REQUEST = 18, 16, 1
 LINK_INFO, INFO_KIND = 18, 1
 CAN_FILTER = struct.Struct("=II")
 SOURCE = 0x7F  # of an identifier
+SO_TIMESTAMPNS, TIMESPEC = 35, struct.Struct("@ll")  # the time of arrival, in seconds and nanoseconds
 
 
 def is_base(word: str) -> bool:
@@ -119,6 +121,57 @@ class CanBus:
 
 
 Bus = Union[UdpBus, CanBus]
+
+
+def filters(members: Sequence[int]) -> Iterator[Tuple[int, int]]:
+    """The identifiers that the allocators of these members take, those of Allocations, by which they know a stranger,
+    and those with one of them as their source, as pairs of bits and mask over 29 bits."""
+    for kind, data_type in table.TRANSFERS.values():
+        number = data_type.number
+        if data_type == table.ALLOCATION:
+            yield number << 8, 3 << 8 | 0xFF  # an anonymous message tells the two low bits of its number alone
+        if kind == "message":
+            yield number << 8, 0xFFFF << 8 | wire.SERVICE
+        elif kind == "request":  # and its responses
+            for node in members:
+                yield number << 16 | node << 8 | wire.SERVICE, 0xFF << 16 | SOURCE << 8 | wire.SERVICE
+    yield from ((node, SOURCE) for node in members)
+
+
+def can_filters(members: Sequence[int]) -> bytes:
+    """The same for a raw CAN socket, which gives extended data frames alone."""
+    pairs = [(wire.EXTENDED | bits, wire.EXTENDED | wire.REMOTE | mask) for bits, mask in filters(members)]
+    return b"".join(CAN_FILTER.pack(*pair) for pair in pairs)
+
+
+class Stamped:
+    """A bus with the moments at which the system had its frames, in seconds since 1970; of an interface what the
+    allocators of these members take or send, or all where none is named."""
+
+    def __init__(self, word: str, members: Sequence[int] = ()) -> None:
+        self.is_udp, self.link = is_base(word), open_bus(word).link
+        self.link.setsockopt(socket.SOL_SOCKET, SO_TIMESTAMPNS, 1)
+        if members and not self.is_udp:
+            self.link.setsockopt(socket.SOL_CAN_RAW, socket.CAN_RAW_FILTER, can_filters(members))
+
+    def receive(self, seconds: float) -> Optional[Tuple[float, wire.Frame]]:
+        """The next frame; None where none comes for so many seconds."""
+        self.link.settimeout(seconds)
+        try:
+            packet, ancillary, _, _ = self.link.recvmsg(64, socket.CMSG_SPACE(TIMESPEC.size))
+        except socket.timeout:
+            return None
+        except OSError as error:  # the interface was taken down, and may come up again
+            if error.errno != errno.ENETDOWN:
+                raise
+            return None
+        frame = wire.from_datagram(packet) if self.is_udp else wire.from_can(packet)
+        moment = time.time()
+        for level, kind, value in ancillary:
+            if (level, kind) == (socket.SOL_SOCKET, SO_TIMESTAMPNS):
+                whole, nanoseconds = TIMESPEC.unpack(value)
+                moment = whole + nanoseconds * 1e-9
+        return None if frame is None else (moment, frame)
 
 
 class Sender:

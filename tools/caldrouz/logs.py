@@ -2,9 +2,13 @@
 
     log = logs.read(path)                 # CannotRead where it cannot be read; log.frames, .passed_over, .broken
     log = logs.read_lines(lines)          # of `candump -L`
+    logs.parts(folder)                    # those that tools/record wrote, the oldest first: (start, part, path)
+
+Of a folder of tools/record the log of the last start is read, all its parts in order, as one.
 """
 from __future__ import annotations
 
+import os
 import re
 from dataclasses import dataclass, field
 from typing import Dict, Iterable, List, NamedTuple, Optional, Tuple
@@ -13,6 +17,7 @@ from .wire import FIRST_WIDE, Frame
 
 _LINE = re.compile(r"\((\d{1,10})\.(\d{1,9})\) +(\S+) +([0-9A-Fa-f]{8})#((?:[0-9A-Fa-f]{2}){1,8})(?: +[TR])?", re.A)
 _OTHER_LINE = re.compile(r"\(\d+\.\d+\) +\S+ +[0-9A-Fa-f]+#", re.A)  # 11 bits, remote and error frames, CAN FD
+_PART = re.compile(r"(\d{6})-(\d{4})\.log", re.A)
 BY_PYTHON_CAN = (".asc", ".blf", ".csv", ".db", ".trc", ".mf4")
 JUMP = 400  # milliseconds by which stamps and uptimes may differ before the stamps are said to have jumped
 
@@ -39,7 +44,30 @@ class Log:
     broken: List[int] = field(default_factory=list)
 
 
+def name_of(start: int, part: int) -> str:
+    """The name of a part of the log of a start, each counted from 1. In the order of their names they are in order."""
+    return f"{start % 10 ** 6:06}-{part % 10 ** 4:04}.log"
+
+
+def parts(folder: str) -> List[Tuple[int, int, str]]:
+    found = [(match, name) for name in os.listdir(folder) for match in [_PART.fullmatch(name)] if match]
+    return sorted((int(match[1]), int(match[2]), os.path.join(folder, name)) for match, name in found)
+
+
+def _of_last_start(folder: str) -> Iterable[str]:
+    found = parts(folder)
+    for start, _, path in found:
+        if start == found[-1][0]:
+            with open(path, encoding="ascii", errors="replace") as file:
+                yield from file
+
+
 def read(path: str) -> Log:
+    if os.path.isdir(path):
+        try:
+            return read_lines(_of_last_start(path))
+        except OSError as error:
+            raise CannotRead(f"{path}: {error.strerror}") from None
     if path.lower().endswith(BY_PYTHON_CAN):
         return _read_by_python_can(path)
     try:
