@@ -1,6 +1,7 @@
 """Tests of tools/monitor: what it tells of frames that come by UDP, as members send them."""
 from __future__ import annotations
 
+import contextlib
 import json
 import os
 import pathlib
@@ -8,6 +9,7 @@ import pty
 import signal
 import socket
 import subprocess
+import tempfile
 import time
 import unittest
 from typing import Any, Dict, List
@@ -91,6 +93,30 @@ class Told(unittest.TestCase):
         self.assertEqual((told["node"], told["unique_id"], told["by"]), (42, ONE, 1))
         recorded = next(event for event in events if event["event"] == "recorded")
         self.assertEqual(recorded["entry"], {"term": 3, "unique_id": ONE, "node": 42})
+
+    def test_entries_of_the_journal(self) -> None:
+        with tempfile.TemporaryDirectory() as folder, socket.socket(socket.AF_UNIX, socket.SOCK_DGRAM) as journal:
+            path = os.path.join(folder, "socket")
+            journal.bind(path)
+            journal.setblocking(False)
+            self.assertEqual(self.watch("--journal", path), "")
+            entries = []
+            with contextlib.suppress(BlockingIOError):
+                while True:
+                    entries.append(dict(line.split("=", 1) for line in journal.recv(4096).decode().splitlines()))
+        events = [entry["CALDROUZ_EVENT"] for entry in entries]
+        self.assertEqual(events[:6], ["appeared"] * 3 + ["stood", "recorded", "led"])
+        self.assertTrue(all(entry["CALDROUZ_BUS"] == str(self.base) for entry in entries))
+        led = entries[events.index("led")]
+        self.assertEqual(led["MESSAGE"], "member 1 leads in term 3")
+        self.assertEqual((led["CALDROUZ_NODE"], led["CALDROUZ_TERM"], led["PRIORITY"]), ("1", "3", "6"))
+        recorded = entries[events.index("recorded")]
+        self.assertEqual(recorded["CALDROUZ_UNIQUE_ID"], ONE)
+        self.assertEqual((recorded["CALDROUZ_PLACE"], recorded["CALDROUZ_NODE"]), ("1", "42"))
+
+    def test_there_is_no_journal(self) -> None:
+        said = run_tool("monitor", str(self.base), "--journal", "/none/socket", "--seconds", "0.2")
+        self.assertEqual((said.status, "Traceback" in said.errors), (3, False))
 
     def test_a_number_says_how_many_members_there_are(self) -> None:
         """As CLUSTER=3 of the settings: 1 and 2 are members, which find each other."""
