@@ -174,8 +174,9 @@ class Waits(unittest.TestCase):
         """Members 15, 50 and 65 apart often wait as long as each other."""
         self.assertEqual([lists.first_wait(node) for node in (1, 2, 3, 8, 23)], [2584, 3294, 3562, 2670, 2668])
         said = check("--members", "8,23,1")
-        self.assertEqual(said.status, 1)
-        self.assertRegex(said.written, r"calm NOT SO: +the first waits of members 8 and 23 end within 2 ms")
+        broken = "NOT SO:" in said.written  # of the machine of this test
+        self.assertEqual(said.status, 1 if broken else 5)
+        self.assertRegex(said.written, r"calm warning: +the first waits of members 8 and 23 end within 2 ms")
         self.assertRegex(check("--members", "1,2,3").written, r"calm ok: +no first waits of two members end together")
 
     def test_beginning_anew_is_left_to_a_person(self) -> None:
@@ -231,7 +232,7 @@ class Interfaces(unittest.TestCase):
         text = """echo '[{"flags":["UP"],"linkinfo":{"info_kind":"can","info_data":{"state":"BUS-OFF",
         "berr_counter":{"tx":248,"rx":3}},"info_xstats":{"restarts":1,"bus_off":2}}}]'"""
         found = self.told({"ip": text})
-        self.assertEqual((found.errors, found.bus_off), (248, 2))
+        self.assertEqual((found.errors, found.bus_off, found.restarts), (248, 2, 1))
         said = list(causes.interface("can0", found))
         self.assertEqual([(it.name, it.stops) for it in said], [("bad-interface", True)])
         self.assertIn("can0 left the bus (BUS-OFF), with error counters up to 248", said[0].text)
@@ -239,6 +240,20 @@ class Interfaces(unittest.TestCase):
         self.assertEqual([(it.name, it.stops) for it in passive], [("bad-interface", False)])
         self.assertEqual(list(causes.interface("can0", found._replace(state="ERROR-ACTIVE", bus_off=0))), [])
         self.assertEqual(list(causes.interface("can0", None)), [])
+
+    def test_a_controller_that_came_back_and_a_queue_that_is_long(self) -> None:
+        """The fields of iproute2's ip/iplink_can.c, after linux/can/netlink.h: struct can_device_stats."""
+        text = """echo '[{"ifname":"can0","flags":["NOARP","UP","LOWER_UP","ECHO"],"mtu":16,"txqlen":1000,
+        "link_type":"can","linkinfo":{"info_kind":"can","info_data":{"state":"ERROR-ACTIVE",
+        "berr_counter":{"tx":0,"rx":7},"restart_ms":100,"bittiming":{"bitrate":1000000,"sample_point":"0.750"}},
+        "info_xstats":{"restarts":3,"bus_error":0,"arbitration_lost":9,"error_warning":5,"error_passive":4,"bus_off":3}},
+        "stats64":{"rx":{"bytes":80,"packets":10,"errors":2,"dropped":0},"tx":{"packets":5,"errors":1,"dropped":6}}}]'"""
+        found = self.told({"ip": text})
+        self.assertEqual((found.restarts, found.passive, found.dropped, found.queue), (3, 4, 6, 1000))
+        said = [it.text for it in causes.interface("can0", found)]
+        self.assertEqual(said[0], "can0 left the bus 3 times since it is there, and was brought back 3 times")
+        self.assertIn("can0 keeps up to 1000 frames that nobody acknowledges", said[1])
+        self.assertEqual(len(list(causes.interface("vcan0", found._replace(kind="vcan", bus_off=None)))), 0)
 
     def test_who_tells_when_a_frame_was_on_the_bus(self) -> None:
         for flags, kind, echo in (('"ECHO"', "can", True), ("", "slcan", False), ("", "vcan", True)):

@@ -12,7 +12,7 @@ import members
 from acts import ONE, Act
 from support import ROOT, run_tool
 
-from caldrouz import health, stores, table, wire
+from caldrouz import health, machine, stores, table, wire
 
 
 def metrics_of(act: Act, *known: int) -> str:
@@ -52,6 +52,26 @@ class Metrics(unittest.TestCase):
 
     def test_what_is_not_known_is_left_out(self) -> None:
         self.assertNotIn("log_entries", health.metrics("can0", health.of(Act().scene()), 0.0))
+
+    def test_an_interface(self) -> None:
+        it = machine.Interface(True, True, "can", 10, 100, 500000, "BUS-OFF", 248, 2, 1, 4, 6)
+        lines = [line for line in health.metrics_of_interface("can1", it).splitlines() if line[0] != "#"]
+        self.assertEqual(
+            lines,
+            [
+                'caldrouz_interface_up{bus="can1"} 1',
+                'caldrouz_interface_state{bus="can1"} 3',
+                'caldrouz_interface_error_counter{bus="can1"} 248',
+                'caldrouz_interface_queue_frames{bus="can1"} 10',
+                'caldrouz_interface_bus_off_total{bus="can1"} 2',
+                'caldrouz_interface_restarts_total{bus="can1"} 1',
+                'caldrouz_interface_error_passive_total{bus="can1"} 4',
+                'caldrouz_interface_dropped_total{bus="can1"} 6',
+            ],
+        )
+        virtual = machine.Interface(True, True, "vcan", 1000, None, None, None)
+        self.assertEqual(len(health.metrics_of_interface("can1", virtual).splitlines()), 6)  # up and queue, 3 lines each
+        self.assertEqual(health.metrics_of_interface("can1", None), "")
 
     def test_labels_that_need_care(self) -> None:
         lines = list(health.metric("x", "X", [({"bus": 'a"b\\c'}, 1)]))

@@ -14,7 +14,7 @@ import images
 from acts import ONE, TWO, Act
 from support import run_tool, write_lines
 
-from caldrouz import causes, stores, table, wire
+from caldrouz import causes, scene, stores, table, vehicle, wire, words
 
 THREE, OTHERS = [1, 2, 3], [4, 5, 6]
 END = 12.0
@@ -510,6 +510,40 @@ class EndedMembers(unittest.TestCase):
         act = Act()
         act.cluster(THREE, 0, END)
         self.assertEqual(causes.find(act.scene(THREE), [], {1: 0}), [])
+
+
+class OfOneMachine(unittest.TestCase):
+    """At a base port the members of other machines are not heard."""
+
+    def heard(self, act: Act) -> scene.Scene:
+        it = scene.Scene(THREE, None, [2, 3])
+        for timed in act.frames():
+            it.take(timed.moment, timed.frame)
+        return it
+
+    def test_a_member_that_leads_and_one_that_follows(self) -> None:
+        leads, follows = Act(), Act()
+        leads.node(1, 0, END)
+        leads.calls(1, [2, 3], 0.1, END, heard=lambda _, __: False)  # their answers come by the bridge, to it alone
+        follows.node(1, 0, END)
+        for act in (leads, follows):
+            it = self.heard(act)
+            self.assertEqual([cause.name for cause in causes.find(it)], [])
+            self.assertIn("Members 2 and 3 run on other machines", " ".join(causes.notes(it)))
+
+    def test_a_member_of_this_machine_that_is_away(self) -> None:
+        act = Act()
+        act.node(2, 0, END)
+        it = scene.Scene(THREE, None, [2, 3])
+        for timed in act.frames():
+            it.take(timed.moment, timed.frame)
+        self.assertIn("Of this machine 1 is not heard", " ".join(causes.notes(it)))
+
+    def test_who_is_not_heard(self) -> None:
+        cluster, here = words.Cluster(THREE, 3), vehicle.Vehicle("x", {"MEMBERS": "1 2"})
+        self.assertEqual(words.unheard("5000", cluster, here), [3])
+        self.assertEqual(words.unheard("can0", cluster, here), [])
+        self.assertEqual(words.unheard("5000", cluster, None), [])
 
 
 if __name__ == "__main__":

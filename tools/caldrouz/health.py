@@ -2,7 +2,8 @@
 
     it = health.of(scene, stores, ends)   # a Health: .status, .causes, .leader, .term, .entries, ..
     health.as_object(it)                  # for JSON
-    health.metrics("can0", it)            # for the textfile collector of node_exporter
+    health.metrics("can0", it, moment)    # for the textfile collector of node_exporter
+    health.metrics_of_interface("can0", machine.interface("can0"))
     health.write(path, text)              # so that a reader sees the whole of it or what was there before
 """
 from __future__ import annotations
@@ -11,7 +12,7 @@ import os
 from dataclasses import dataclass
 from typing import Dict, Iterable, Iterator, List, Mapping, Optional, Sequence, Tuple, Union
 
-from . import causes, table
+from . import causes, machine, table
 from .causes import room
 from .causes.common import LATELY, Stores
 from .scene import Scene
@@ -118,6 +119,30 @@ def metrics(bus: str, it: Health, moment: float) -> str:
     causes_now: List[Sample] = [({"bus": bus, "cause": name, "kind": kind}, 1) for name, kind in sorted(named.items())]
     lines += metric("member_heard", "Whether a member was heard within 3 s", heard)
     lines += metric("cause", "A cause that why names", causes_now)
+    return "".join(line + "\n" for line in lines)
+
+
+STATES = "ERROR-ACTIVE", "ERROR-WARNING", "ERROR-PASSIVE", "BUS-OFF", "STOPPED", "SLEEPING"
+
+
+def metrics_of_interface(name: str, it: Optional[machine.Interface]) -> str:
+    """The metrics of a CAN interface. What `ip` does not tell is left out."""
+    lines: List[str] = []
+    if it is None:
+        return ""
+    state = STATES.index(it.state) if it.state in STATES else None
+    for key, what, value, kind in (
+        ("up", "Whether the interface is up", int(it.up), "gauge"),
+        ("state", f"The state of its controller, by its place in {', '.join(STATES)}", state, "gauge"),
+        ("error_counter", "The greater of its controller's error counters", it.errors, "gauge"),
+        ("queue_frames", "How many frames it may keep that nobody acknowledges", it.queue, "gauge"),
+        ("bus_off_total", "How often its controller left the bus", it.bus_off, "counter"),
+        ("restarts_total", "How often it was brought back to the bus", it.restarts, "counter"),
+        ("error_passive_total", "How often it became ERROR-PASSIVE", it.passive, "counter"),
+        ("dropped_total", "Frames to be sent that it dropped", it.dropped, "counter"),
+    ):
+        if value is not None:
+            lines += metric(f"interface_{key}", what, [({"bus": name}, value)], kind)
     return "".join(line + "\n" for line in lines)
 
 

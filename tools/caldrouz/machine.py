@@ -24,6 +24,7 @@ OF_NETWORK = {"nfs", "nfs4", "cifs", "smb3", "9p", "ceph", "afs", "fuse.sshfs", 
 LAYERS = {"overlay", "aufs", "squashfs", "iso9660", "erofs"}
 UNSAFE_OPTIONS = {"nobarrier", "barrier=0"}
 ANY_DISK = "CALDROUZ_ANY_DISK"  # in the environment: whoever tries something says that its stores need not last
+LONGEST_QUEUE = 10  # frames that an interface may keep
 BEFORE_IDS = {"node": 5, "can": 4}  # words before the node IDs, by mode
 SETTING = re.compile(r"\s*([A-Z_]+)=(.*)")
 
@@ -106,7 +107,8 @@ def members_running(proc: str = "/proc") -> List[Running]:
 
 class Interface(NamedTuple):
     """A CAN interface, as `ip` tells it; None where it does not. `echo`: a frame comes back once it was on the bus.
-    `errors` are the controller's error counters, the greater of both; `bus_off` how often it left the bus."""
+    `errors` are the controller's error counters, the greater of both. How often since it is there: `bus_off` it left the
+    bus, `restarts` it was brought back, `passive` it became ERROR-PASSIVE, `dropped` a frame to be sent was lost."""
 
     up: bool
     echo: bool
@@ -117,6 +119,9 @@ class Interface(NamedTuple):
     state: Optional[str]
     errors: Optional[int] = None
     bus_off: Optional[int] = None
+    restarts: Optional[int] = None
+    passive: Optional[int] = None
+    dropped: Optional[int] = None
 
 
 def _said(*words: str) -> Optional[str]:
@@ -149,7 +154,8 @@ def interface(name: str) -> Optional[Interface]:
         _number(_part(data, "bittiming").get("bitrate")),
         str(data["state"]) if "state" in data else None,
         max(counters, default=None),
-        _number(_part(info, "info_xstats").get("bus_off")),
+        *(_number(_part(info, "info_xstats").get(name)) for name in ("bus_off", "restarts", "error_passive")),
+        _number(_part(_part(told, "stats64"), "tx").get("dropped")),
     )
 
 

@@ -243,10 +243,13 @@ class Answer(NamedTuple):
 
 
 class Scene:
-    """What was heard so far. `members` are those that are known beforehand, `size` how many there are."""
+    """What was heard so far. `members` are those that are known beforehand, `size` how many there are, and `unheard`
+    those that cannot be heard here: at a base port the members of other machines."""
 
-    def __init__(self, members: Iterable[int] = (), size: Optional[int] = None) -> None:
-        self.given, self.given_size = set(members), size
+    def __init__(
+        self, members: Iterable[int] = (), size: Optional[int] = None, unheard: Iterable[int] = ()
+    ) -> None:
+        self.given, self.given_size, self.unheard = set(members), size, set(unheard)
         self.frames = 0
         self.begin: Optional[float] = None
         self.now = 0.0

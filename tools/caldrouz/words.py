@@ -138,6 +138,12 @@ def cluster_of(told: argparse.Namespace, settings: Optional[vehicle.Vehicle]) ->
     return Cluster(settings.members, settings.size, settings.source)
 
 
+def unheard(bus: str, cluster: Cluster, settings: Optional[vehicle.Vehicle]) -> List[int]:
+    """The members that cannot be heard on a bus: at a base port those of other machines."""
+    here = settings.here if settings else []
+    return [node for node in cluster.members if here and node not in here] if buses.is_base(bus) else []
+
+
 def seconds(text: str) -> float:
     """A time in seconds, up to a day, for argparse."""
     try:

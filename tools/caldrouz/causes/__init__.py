@@ -61,6 +61,11 @@ def find(
 def notes(scene: Scene) -> Iterator[str]:
     """What is so, in sentences, whether or not there is a cause."""
     size, members, lead = scene.size(), scene.members(), scene.leader()
+    if scene.unheard:
+        away = ids(filter(lambda node: not scene.is_online(node), members - scene.unheard))
+        yield f"Members {ids(scene.unheard)} run on other machines, and are not heard at a base port: listen at the bus."
+        if away != "nobody":
+            yield f"Of this machine {away} is not heard."
     if members:
         there = set(filter(scene.is_online, members))
         if size == 1 and there:

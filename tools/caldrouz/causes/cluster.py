@@ -245,6 +245,7 @@ def _nobody_stands(scene: Scene) -> bool:
     return (
         bool(size and size > 1 and len(there) > size // 2)
         and rested
+        and not scene.unheard
         and not scene.callers
         and not scene.listings
         and scene.heard_for >= ELECTED_BY
@@ -285,7 +286,7 @@ def lossy(scene: Scene, _: Stores) -> Found:
 def majority(scene: Scene, stores: Stores) -> Found:
     """Nobody leads, or the leader is not answered."""
     size, members, lead = scene.size(), scene.members(), scene.leader()
-    if not size or not members:
+    if not size or not members or scene.unheard:
         return
     quorum = size // 2 + 1
     there = set(filter(scene.is_online, members))

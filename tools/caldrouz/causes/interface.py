@@ -3,7 +3,7 @@ from __future__ import annotations
 
 from typing import Collection, Optional, Sequence
 
-from ..machine import Interface, Running
+from ..machine import LONGEST_QUEUE, Interface, Running
 from .common import Cause, Found
 
 LOOK = "look at the cable, termination, bit rate, and whether another node is there (TROUBLE.md, \"Bring-up of a bus\")"
@@ -21,8 +21,16 @@ def interface(name: str, it: Optional[Interface]) -> Found:
     elif it.state in ("ERROR-WARNING", "ERROR-PASSIVE"):
         yield Cause("bad-interface", f"{name} is {it.state}{errors}", LOOK, stops=False)
     elif it.bus_off:
-        text = f"{name} left the bus {it.bus_off} times since it is there"
+        back = f", and was brought back {it.restarts} times" if it.restarts else ""
+        text = f"{name} left the bus {it.bus_off} times since it is there{back}"
         yield Cause("bad-interface", text, LOOK, stops=False)
+    if it.up and it.kind == "can" and it.queue is not None and it.queue > LONGEST_QUEUE:
+        yield Cause(
+            "bad-interface",
+            f"{name} keeps up to {it.queue} frames that nobody acknowledges, and sends them later",
+            f"ip link set {name} txqueuelen {LONGEST_QUEUE}; the unit caldrouz-can@{name} does it",
+            stops=False,
+        )
 
 
 def lists_here(running: Sequence[Running], members: Collection[int], base: Optional[int]) -> Found:
