@@ -92,7 +92,9 @@ class Metrics(unittest.TestCase):
         act = Act()
         act.cluster([1, 2, 3], 0, 9)
         bridge = (ROOT / "tools/can_bridge").read_text(encoding="utf-8")
-        there = set(re.findall(r"^caldrouz_\w+", metrics_of(act, 1, 2, 3), re.M)) | {"caldrouz_bridge_frames_total"}
+        it = machine.Interface(True, True, "can", 10, 100, 500000, "BUS-OFF", 248, 2, 1, 4, 6)
+        text = metrics_of(act, 1, 2, 3) + health.metrics_of_interface("can0", it)
+        there = set(re.findall(r"^caldrouz_\w+", text, re.M)) | {"caldrouz_bridge_frames_total"}
         rules = (ROOT / "packaging/caldrouz-alarms.yml").read_text(encoding="utf-8")
         expressions = "\n".join(re.findall(r"expr: (.*)", rules))
         self.assertEqual(set(re.findall(r"caldrouz_\w+", expressions)) - there, set())

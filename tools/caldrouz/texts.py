@@ -53,7 +53,7 @@ CAUSES: Dict[str, str] = {
     "silence": "nothing at all: \"Bring-up of a bus\"",
     "bad-interface": (
         "an interface of this machine is down, or left the bus (BUS-OFF): \"Bring-up of a bus\". A warning "
-        "where its controller saw errors"
+        "where its controller saw errors, or its queue is long"
     ),
     "ended-member": "a member of this machine ended: its exit code, in words. A warning where the others go on",
     "terms-used-up": (
