@@ -51,6 +51,20 @@ class Echo(unittest.TestCase):
         self.assertIsNone(buses.tells_what_is_out("no-interface"))
 
 
+class Down(unittest.TestCase):
+    def test_an_interface_that_goes_down_gives_nothing(self) -> None:
+        link = mock.Mock()
+        link.recv.side_effect = OSError(errno.ENETDOWN, "down")
+        link.recvmsg.side_effect = link.recv.side_effect
+        for kind in (buses.CanBus, buses.Stamped):
+            bus = object.__new__(kind)
+            bus.link, bus.is_udp = link, False  # type: ignore[union-attr]
+            self.assertIsNone(bus.receive(0.1))
+        link.recv.side_effect = OSError(errno.ENODEV, "gone")
+        with self.assertRaises(OSError):
+            buses._receive(link, 0.1)
+
+
 class OverUdp(unittest.TestCase):
     def test_frames_go_to_the_ports_of_all_nodes(self) -> None:
         base = members.free_base()

@@ -159,12 +159,8 @@ class Stamped:
         self.link.settimeout(seconds)
         try:
             packet, ancillary, _, _ = self.link.recvmsg(64, socket.CMSG_SPACE(TIMESPEC.size))
-        except socket.timeout:
-            return None
-        except OSError as error:  # the interface was taken down, and may come up again
-            if error.errno != errno.ENETDOWN:
-                raise
-            return None
+        except OSError as error:
+            return _nothing(error)
         frame = wire.from_datagram(packet) if self.is_udp else wire.from_can(packet)
         moment = time.time()
         for level, kind, value in ancillary:
@@ -196,12 +192,8 @@ class Sender:
         """Whether the next of what came is a frame of it, sent by this machine; None where nothing waits."""
         try:
             data, _, flags, sender = self.link.recvmsg(64)
-        except BlockingIOError:
-            return None
-        except OSError as error:  # the interface was taken down, and may come up again
-            if error.errno != errno.ENETDOWN:
-                raise
-            return None
+        except OSError as error:
+            return _nothing(error)
         frame = wire.from_datagram(data) if self.port is not None else wire.from_can(data)
         is_from_here = sender == self.port if self.port is not None else bool(flags & socket.MSG_DONTROUTE)
         return frame is not None and is_from_here and frame.heading.source == self.member
@@ -229,5 +221,13 @@ def _receive(link: socket.socket, seconds: float) -> Optional[bytes]:
     link.settimeout(max(seconds, 1e-6))
     try:
         return link.recv(64)
-    except (socket.timeout, ConnectionRefusedError):
-        return None
+    except OSError as error:
+        return _nothing(error)
+
+
+def _nothing(error: OSError) -> None:
+    """Nothing came: none was there, an earlier datagram was refused, or the interface is down, and may come up again.
+    Else it is raised."""
+    if not isinstance(error, (BlockingIOError, ConnectionRefusedError, socket.timeout)):
+        if error.errno != errno.ENETDOWN:
+            raise error
