@@ -1,7 +1,7 @@
 """Looks at the system calls by which the program keeps its stores, under strace.
 
-store_calls.py WAY PROGRAM BASE: in an empty folder. WAY is `order`, `write`, `sync`, `opening`, `twice` or `signal`. The
-status is 0 where all is as it has to be, and 1 where it is not, or where there is no strace that may trace.
+store_calls.py WAY PROGRAM BASE: in an empty folder. WAY is `order`, `write`, `part`, `sync`, `opening`, `twice` or
+`again`. The status is 0 where all is as it has to be, and 1 where it is not, or where there is no strace that may trace.
 """
 from __future__ import annotations
 
@@ -25,6 +25,8 @@ STORE = re.compile(r'openat\(AT_FDCWD, "alloc-(\d+)\.store", .*\) = (\d+)$')
 SOCKET = re.compile(r"bind\((\d+), .*sin_port=htons\((\d+)\).*\) = 0$")
 CALL = re.compile(r"(pwrite64|fdatasync|sendto)\((\d+)[,)]")
 PLACE = re.compile(r", (\d+), (\d+)\) += ")
+FOLDER = re.compile(r'openat\(AT_FDCWD, "\.", .*\) = (\d+)$', re.M)
+FAILED_SYNC = re.compile(r"fsync\((\d+)\) += -1 .*\(INJECTED\)$", re.M)
 PORT = re.compile(r"sendto\(.*sin_port=htons\((\d+)\).*\) = \d+$")
 # A new store is marked by these two bytes, before its member runs.
 MARK = (1, 2)
@@ -116,10 +118,10 @@ def order(program: str, base: int) -> List[str]:
     return faults
 
 
-def fails(program: str, base: int, call: str) -> List[str]:
+def fails(program: str, base: int, call: str, when: int = 1) -> List[str]:
     """A call that fails ends the member with 10, and what comes after it in the log."""
     subprocess.run([program, "new", "1"], check=True, stdout=subprocess.DEVNULL)
-    injected = ("-e", f"inject={call}:error=EIO:when=1")
+    injected = ("-e", f"inject={call}:error=EIO:when={when}")
     words = strace("log", *injected, program, "node", "1,", str(base), "100000", "1")
     done = subprocess.run(words, check=False, stdout=subprocess.PIPE)
     lines = pathlib.Path("log").read_text(encoding="ascii", errors="replace").splitlines()
@@ -129,6 +131,31 @@ def fails(program: str, base: int, call: str) -> List[str]:
         faults.append(f"the status is {done.returncode}, and this was written: {done.stdout!r}")
     after = [line for line in lines[failed[0] + 1 :] if CALL.match(line)] if failed else []
     return faults + [f"after it comes {line}" for line in after]
+
+
+def opening(program: str, base: int) -> List[str]:
+    """An opening syncs the file of a store and then its folder, and no member runs where either fails."""
+    faults = fails(program, base, "fsync", 1)
+    os.remove("alloc-1.store")
+    faults += fails(program, base, "fsync", 2)
+    log = pathlib.Path("log").read_text(encoding="ascii", errors="replace")
+    if not {*FAILED_SYNC.findall(log)} & {*FOLDER.findall(log)}:
+        faults.append("the second sync is not that of the folder")
+    return faults
+
+
+def part(program: str, base: int) -> List[str]:
+    """A call that writes one byte of several is made again for the others."""
+    subprocess.run([program, "new", "1"], check=True, stdout=subprocess.DEVNULL)
+    words = strace("log", "-e", "inject=pwrite64:retval=1:when=1", program, "node", "1,", str(base), "1", "1")
+    subprocess.run(words, check=False, stdout=subprocess.DEVNULL)
+    lines = pathlib.Path("log").read_text(encoding="ascii", errors="replace").splitlines()
+    for line, after in zip(lines, lines[1:]):
+        if "(INJECTED)" in line:
+            size, at = map(int, PLACE.findall(line)[0])
+            is_again = after.startswith("pwrite64") and PLACE.findall(after) == [(str(size - 1), str(at + 1))]
+            return [] if size > 1 and is_again else [f"after {line} comes {after}"]
+    return ["no part was written"]
 
 
 def twice(program: str, _base: int) -> List[str]:
@@ -152,23 +179,29 @@ def twice(program: str, _base: int) -> List[str]:
     return faults
 
 
-def signal(program: str, base: int) -> List[str]:
-    """A signal that comes first ends neither a call that receives nor one that sends: each is made again."""
+def again(program: str, base: int) -> List[str]:
+    """Neither a signal that comes first nor an answer to an earlier datagram, that nobody listens where it went, ends a
+    call that receives or sends: it is made again."""
+    return [fault for error in ("EINTR", "ECONNREFUSED") for fault in again_after(error, program, base)]
+
+
+def again_after(error: str, program: str, base: int) -> List[str]:
+    pathlib.Path("alloc-1.store").unlink(missing_ok=True)
     subprocess.run([program, "new", "1"], check=True, stdout=subprocess.DEVNULL)
     # The frames of a lone member: each goes to 124 ports.
-    injected = [word for call in ("recvfrom", "sendto") for word in ("-e", f"inject={call}:error=EINTR:when=2+5")]
+    injected = [word for call in ("recvfrom", "sendto") for word in ("-e", f"inject={call}:error={error}:when=2+5")]
     traced = ["strace", "-qq", "-o", "log", "-e", "trace=recvfrom,sendto", *injected]
     done = subprocess.run([*traced, program, "node", "1,", str(base), "3000", "1"], check=False, stdout=subprocess.PIPE)
     lines = pathlib.Path("log").read_text(encoding="ascii", errors="replace").splitlines()
     ports = [int(found[1]) - base for found in map(PORT.search, lines) if found]
     faults = []
     if done.returncode or not done.stdout.endswith(b"end 3000\n"):
-        faults.append(f"the status is {done.returncode}, and this was written: {done.stdout[-99:]!r}")
+        faults.append(f"{error}: the status is {done.returncode}, and this was written: {done.stdout[-99:]!r}")
     for call in ("recvfrom", "sendto"):
         if not any(line.startswith(call) and "(INJECTED)" in line for line in lines):
-            faults.append(f"no {call} was interrupted")
+            faults.append(f"{error}: no {call} failed")
     if not ports or ports != list(range(2, 126)) * (len(ports) // 124):
-        faults.append(f"{len(ports)} datagrams went out, and not each frame once to each port")
+        faults.append(f"{error}: {len(ports)} datagrams went out, and not each frame once to each port")
     return faults
 
 
@@ -177,11 +210,11 @@ def main() -> int:
     if not can_trace():
         print("strace is not installed, or may not trace")
         return 1
-    if way in ("order", "twice", "signal"):
-        faults = {"order": order, "twice": twice, "signal": signal}[way](program, base)
+    if way in ("write", "sync"):
+        faults = fails(program, base, {"write": "pwrite64", "sync": "fdatasync"}[way])
     else:
-        call = {"write": "pwrite64", "sync": "fdatasync", "opening": "fsync"}[way]
-        faults = fails(program, base, call)
+        ways = {"order": order, "part": part, "opening": opening, "twice": twice, "again": again}
+        faults = ways[way](program, base)
     for fault in faults[:5]:
         print(fault)
     return 1 if faults else 0

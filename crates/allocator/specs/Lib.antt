@@ -1,1 +1,2 @@
+pub mod CanWords
 pub mod Stranger

@@ -19,10 +19,12 @@ ghost use Rattle.std.specs.Prelude.{◌≡◌, ◌≤◌, length, IfErr, IfOk};
 ghost use Rattle.can_frame.specs.Sizes.{most_members};
 ghost use Rattle.allocator.specs.declared.refusal.Refusal.TheVariants.{Stranger};
 
+mod can_words;
 mod opened;
 mod refusal;
 mod stranger;
 
+use crate::can_words::words_of_node;
 use crate::opened::{
     held_streams, known_stores, link_of, listening_link, made_stores, old_stores, stores_but_lost,
     stores_of, take_away, watched_stores,
@@ -35,7 +37,6 @@ use cmd_new::write_end;
 use disk_model::{Disk, FileDisk};
 use host_pace::{PacedClock, TimelyLink};
 use outside::{Clock, Link, StdClock, StdSink, StdSource};
-use std::alloc::{AllocError, Global};
 use std::cell::{Cell, RefCell};
 use std::process::ExitCode;
 use std::time::Duration;
@@ -86,23 +87,6 @@ fn read_words(rt: &HostRuntime) -> Result<Vec<String>, Refusal> {
         words.push(word)?;
     }
     Ok(words)
-}
-
-/// The words of `node` that ask for what these words of `can` do. They have a base, which says nothing here. Exactly two
-/// words behind `can`, `can <members> <id>`, have no number of turns: then it is the most.
-fn words_of_node(alloc: Global, words: &[String]) -> Result<Vec<String>, AllocError> {
-    let mut of_node = Vec::new(alloc);
-    of_node.push(format!(in alloc; "node")?)?;
-    for (place, word) in words.iter().enumerate().skip(1) {
-        if place == 2 && words.len() == 3 {
-            of_node.push(format!(in alloc; "1000000000")?)?;
-        }
-        of_node.push(word.clone()?)?;
-        if place == 1 {
-            of_node.push(format!(in alloc; "1024")?)?;
-        }
-    }
-    Ok(of_node)
 }
 
 /// Runs these members, each with a link over UDP.
