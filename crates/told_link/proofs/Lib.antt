@@ -1,2 +1,3 @@
+mod Followers
 pub mod Listed
 mod Silences

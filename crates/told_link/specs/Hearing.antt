@@ -1,13 +1,14 @@
 -- What a link for a member that is told the list of its cluster makes of the link and the clock below it.
-use Rattle.std.specs.Prelude.{◌≡◌, ℕ, ◌⊎◌, List, Option, Ok, Err, Some, None, slice_index_or, slice_set, if◌then◌else◌}
+use Rattle.std.specs.Prelude.{◌≡◌, ⊤, ℕ, ◌⊎◌, ◌&&◌, Bool, true, false, List, [], ◌∷◌, Option, Result, Ok, Err, Some, None, IsOk, slice_index_or, slice_set, if◌then◌else◌}
 use Rattle.outside.specs.Contents.{WhereTold}
-use Rattle.outside.specs.Faults.{Rose}
+use Rattle.outside.specs.Faults.{HasCause, Rose}
 use Rattle.outside.specs.Readings.{Reads}
-use Rattle.outside.specs.Traffic.{Receives}
+use Rattle.outside.specs.Traffic.{Receives, Sends}
 use Rattle.outside.specs.declared.failed.Failed.{Failed}
 use Rattle.outside.specs.declared.received.RawFrame.{RawFrame}
 use Rattle.outside.specs.declared.received.Received.{Received}
 use Rattle.outside.specs.declared.received.Received.TheVariants.{Frame, Junk}
+use Rattle.told_link.specs.Following.{answered_of, gives_node_id, is_followed, item_agrees, noted}
 use Rattle.told_link.specs.Silence.{answers_count, heard_at}
 use Rattle.told_link.specs.Voice.{voice_in}
 use Rattle.told_link.specs.declared.silence.Heard.{Heard}
@@ -27,15 +28,18 @@ abbrev pub answer_handed_on : ℕ → Option Heard → Received → Received
 answer_handed_on now before item = if answers_count now (heard_at now before) then item else Junk
 
 module _ {C : Type 0} (readings : C → Option (List ℕ)) (clock_old clock : C)
-    (known_old known : List (Option Heard)) where
+    (known_old known : List (Option Heard)) (answered_old answered : List (Option ℕ)) where
   -- this is handed on of an item, by whose it is. The clock is read where it is a member's, and only there
   abbrev pub IsHandedOn : Voice → Received → Received → Type 0
   IsHandedOn Stranger item handed = ⊥
   IsHandedOn (Answer node) item handed = (now : ℕ) × WhereTold (Reads now) (readings clock_old) (readings clock)
       × IsHeardAt node now known_old known × (handed ≡ answer_handed_on now (known_of known_old node) item)
+      × (answered ≡ noted node now (answers_count now (heard_at now (known_of known_old node)) && item_agrees item)
+      answered_old)
   IsHandedOn (Member node) item handed = (now : ℕ) × WhereTold (Reads now) (readings clock_old) (readings clock)
-      × IsHeardAt node now known_old known × (handed ≡ item)
+      × IsHeardAt node now known_old known × (handed ≡ item) × (answered ≡ answered_old)
   IsHandedOn Other item handed = (handed ≡ item) × (clock ≡ clock_old) × (known ≡ known_old)
+      × (answered ≡ answered_old)
 
   -- the link below gave this item, of which that was handed on to a member that is told this list
   pub record Hears (coming_old coming : Option (List Received)) (me : ℕ) (ids : List ℕ) (handed : Received)
@@ -52,3 +56,25 @@ FailsToHear faults_old faults coming_old coming me ids stranger error =
     (Rose faults_old faults × WhereTold (Receives (Err error)) coming_old coming × (stranger ≡ None))
     ⊎ ((frame : RawFrame) × WhereTold (Receives {E = Failed} (Ok (Frame frame))) coming_old coming
     × (faults ≡ faults_old) × (voice_in me ids (Frame frame) ≡ Stranger) × (stranger ≡ Some frame.id))
+
+-- ---- what goes out
+
+-- a frame waits for followers where its member is told a list, and it gives a node ID
+abbrev pub wants_followers : List ℕ → RawFrame → Bool
+wants_followers [] raw = false
+wants_followers (first ∷ rest) raw = gives_node_id raw
+
+module _ {C : Type 0} (readings : C → Option (List ℕ)) (clock_old clock : C) where
+  -- whether a frame of this member goes out, by whether it waits for followers. The clock is read where it does, and
+  -- only there
+  abbrev pub GoesOut : (me : ℕ) (ids : List ℕ) (answered : List (Option ℕ)) → Bool → Bool → Type 0
+  GoesOut me ids answered false goes = (goes ≡ true) × (clock ≡ clock_old)
+  GoesOut me ids answered true goes = (now : ℕ) × WhereTold (Reads now) (readings clock_old) (readings clock)
+      × (goes ≡ is_followed now me ids (answered_of answered))
+
+module _ {L : Type 0} (sent : L → Option (List RawFrame)) (faults : L → ℕ) (link_old link : L) where
+  -- a frame that goes out is sent by the link below; one that does not is as good as lost
+  abbrev pub IsSent : RawFrame → Result ⊤ Failed → Bool → Type 0
+  IsSent frame result true = WhereTold (Sends frame result) (sent link_old) (sent link)
+      × HasCause (faults link_old) (faults link) result
+  IsSent frame result false = IsOk result × (link ≡ link_old)

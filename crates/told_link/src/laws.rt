@@ -1,6 +1,6 @@
 //! Laws of the definitions, each the contract of a function that does nothing.
 
-ghost use Rattle.std.specs.Prelude.{◌≡◌, ◌≢◌, ℕ, ◌+◌, ◌<◌, ◌≤◌, ◌++◌, ◌∷◌, ◌⊎◌, [], List, Some, true, false};
+ghost use Rattle.std.specs.Prelude.{◌≡◌, ◌≢◌, ℕ, ◌+◌, ◌*◌, ◌<◌, ◌≤◌, ◌++◌, ◌∷◌, ◌⊎◌, ◌||◌, [], List, Option, Some, count_by, length, nat_eq, true, false};
 ghost use Rattle.alloc_spec.specs.Accepted.{is_of_members};
 ghost use Rattle.bus_spec.specs.Cluster.{is_member};
 ghost use Rattle.bus_spec.specs.Lawful.{is_forged};
@@ -9,6 +9,8 @@ ghost use Rattle.can_frame.specs.Kinds.{is_anonymous};
 ghost use Rattle.can_frame.specs.declared.identifier.Ident.{Ident};
 ghost use Rattle.cluster_discovery.specs.Members.{is_on_list};
 ghost use Rattle.outside.specs.declared.received.RawFrame.{RawFrame};
+ghost use Rattle.told_link.specs.Following.{AnswerAt, ComeBefore, answered_by, has_answered, is_followed};
+ghost use Rattle.told_link.specs.Hearing.{wants_followers};
 ghost use Rattle.told_link.specs.Silence.{ComeSince, ComesBehindSilence, IsHeardOn, answer_counts, settling};
 ghost use Rattle.told_link.specs.Voice.{fields_of, is_of_uavcan, voice_of};
 ghost use Rattle.told_link.specs.declared.voice.Voice.TheVariants.{Other, Stranger};
@@ -62,4 +64,21 @@ pub fn the_first_answer_counts_for_nothing()
 pub fn answers_count_again()
     ensures { (now first : ℕ) (since before : List ℕ) → ComesBehindSilence first before → IsHeardOn first since now →
         first + settling ≤ now → answer_counts now (since ++ first ∷ before) ≡ true }
+{}
+
+/// Where a frame that gives a node ID goes out, more than half of the list answered lately that their logs agree, the
+/// leader counted.
+pub fn who_gives_node_ids_was_answered()
+    ensures { (now me : ℕ) (ids : List ℕ) (answers : List AnswerAt) → is_followed now me ids (answered_by answers) ≡ true →
+        length ids < 2 * count_by (λ id. nat_eq id me || has_answered now answers id) ids }
+{}
+
+/// As long as more than half of the list answer so, the leader counted, nothing is withheld; from a member that is alone
+/// on its list, or is told none, nothing ever is.
+pub fn who_is_answered_withholds_nothing()
+    ensures majority { (now me : ℕ) (ids : List ℕ) (answers : List AnswerAt) → ComeBefore now answers →
+        length ids < 2 * count_by (λ id. nat_eq id me || has_answered now answers id) ids →
+        is_followed now me ids (answered_by answers) ≡ true }
+    ensures alone { (now me : ℕ) (answered : ℕ → Option ℕ) → is_followed now me (me ∷ []) answered ≡ true }
+    ensures untold { (raw : RawFrame) → wants_followers [] raw ≡ false }
 {}

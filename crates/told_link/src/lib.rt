@@ -4,10 +4,12 @@
 //! it has the member's own node ID, or is one that members alone send, of a node that is not on the list
 //! (`specs/Voice.antt`): each call fails then. Behind a silence of another member its answers to calls of
 //! AppendEntries count for nothing for half a second, since one may have been held until then
-//! (`specs/Silence.antt`). What it makes of the link and the clock below stands in `specs/Hearing.antt`.
-//! [`laws`] has what follows of frames of members and devices, and of answers behind a silence.
+//! (`specs/Silence.antt`). And a frame by which a leader gives a node ID goes out only where more than half of the list
+//! follow it (`specs/Following.antt`). What it makes of the link and the clock below stands in `specs/Hearing.antt`.
+//! [`laws`] has what follows of frames of members and devices, of answers behind a silence, and of followers.
 #![tactic(auto)]
 
+mod following;
 pub mod laws;
 mod link;
 mod silence;

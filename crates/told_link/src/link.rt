@@ -1,13 +1,16 @@
-ghost use Rattle.std.specs.Prelude.{◌≡◌, ◌≤◌, ◌<◌, ℕ, List, Option, None, length, replicate, IsErr, IsSome, IfOk, IfErr, OnOk, OnErr};
+ghost use Rattle.std.specs.Prelude.{◌≡◌, ◌≤◌, ◌<◌, ℕ, Bool, true, List, Option, None, length, replicate, IsErr, IsSome, IfOk, IfErr, OnOk, OnErr};
 ghost use Rattle.can_frame.specs.Sizes.{most_members, node_ids};
 ghost use Rattle.outside.specs.Contents.{WhereTold};
 ghost use Rattle.outside.specs.Faults.{HasCause, Rose, counted, one_more};
 ghost use Rattle.outside.specs.Traffic.{Receives, Sends};
 ghost use Rattle.outside.specs.declared.received.Received.{Received};
 ghost use Rattle.outside.specs.declared.received.RawFrame.{RawFrame};
-ghost use Rattle.told_link.specs.Hearing.{FailsToHear, Hears, IsHeardAt, known_of};
+ghost use Rattle.told_link.specs.Following.{answered_of, is_followed, noted};
+ghost use Rattle.told_link.specs.Following as followings;
+ghost use Rattle.told_link.specs.Hearing.{FailsToHear, GoesOut, Hears, IsHeardAt, IsSent, known_of, wants_followers};
 ghost use Rattle.told_link.specs.Silence.{answers_count, heard_at as known_at};
 
+use crate::following::{agrees, gives_node_id, is_followed};
 use crate::silence::{Heard, counts, heard_at};
 use crate::voice::{Voice, voice_of};
 use arrayvec::ArrayVec;
@@ -17,7 +20,8 @@ use outside::{Clock, Failed, Link, RawFrame, Received};
 /// A link over another one, for a member that is told the list of its cluster. Once it has heard a stranger, each call
 /// fails: a frame with the member's own node ID, or one that members alone send, of a node that is not on the list. An
 /// answer to a call of AppendEntries that comes shortly behind a silence of its sender is junk: it may have been held
-/// since an earlier call. A member that is told no list has an empty one: all is handed on to it, and no clock is read.
+/// since an earlier call. A frame by which a leader gives a node ID goes out only where, with itself, more than half of
+/// the list follow it. A member that is told no list has an empty one: all is handed on, and no clock is read.
 ///
 /// It tells no contents; its clauses say what it makes of those of the link and the clock below.
 #[derive(Drop)]
@@ -30,10 +34,14 @@ pub struct ToldLink<L, C> {
     /// What is known of each other member, by its node ID.
     known: [Option<Heard>; NODE_IDS],
 
+    /// The reading at the last answer of each other member that was handed on and said that the logs agree.
+    answered: [Option<u64>; NODE_IDS],
+
     /// The identifier of the frame by which a stranger was heard.
     stranger: Option<u32>,
     faults: u64,
     ghost all: { length known ≡ node_ids },
+    ghost each: { length answered ≡ node_ids },
 }
 
 impl<L: Link, C: Clock> ToldLink<L, C> {
@@ -45,6 +53,7 @@ impl<L: Link, C: Clock> ToldLink<L, C> {
         ensures me { result.me ≡ me }
         ensures ids { result.ids.items ≡ ids.now }
         ensures known { result.known ≡ replicate node_ids None }
+        ensures answered { result.answered ≡ replicate node_ids None }
         ensures stranger { result.stranger ≡ None }
         ensures faults { result.faults ≡ 0 }
     {
@@ -56,6 +65,7 @@ impl<L: Link, C: Clock> ToldLink<L, C> {
             me,
             ids: list,
             known: [None; NODE_IDS],
+            answered: [None; NODE_IDS],
             stranger: None,
             faults: 0,
         }
@@ -91,7 +101,7 @@ impl<L: Link, C: Clock> Link for ToldLink<L, C> {
         ensures faults { self.new.faults ≡ counted result self.old.faults }
         // What the link below gave, and what is made of it.
         ensures hears { IfOk result (λ handed. Hears C.readings self.old.clock self.new.clock
-            self.old.known self.new.known (L.coming self.old.link) (L.coming self.new.link)
+            self.old.known self.new.known self.old.answered self.new.answered (L.coming self.old.link) (L.coming self.new.link)
             self.old.me self.old.ids.items handed) }
         ensures stranger { OnOk result ((self.old.stranger ≡ None) × (self.new.stranger ≡ None)) }
         ensures below { OnOk result (L.faults self.new.link ≡ L.faults self.old.link) }
@@ -100,7 +110,8 @@ impl<L: Link, C: Clock> Link for ToldLink<L, C> {
             (L.coming self.new.link) self.old.me self.old.ids.items self.new.stranger error) }
         ensures ended { IsSome self.old.stranger → IsErr result × (self.new.link ≡ self.old.link)
             × (self.new.stranger ≡ self.old.stranger) }
-        ensures unheard { OnErr result ((self.new.clock ≡ self.old.clock) × (self.new.known ≡ self.old.known)) }
+        ensures unheard { OnErr result ((self.new.clock ≡ self.old.clock) × (self.new.known ≡ self.old.known)
+            × (self.new.answered ≡ self.old.answered)) }
         ensures unsent { L.sent self.new.link ≡ L.sent self.old.link }
         ensures me { self.new.me ≡ self.old.me }
         ensures ids { self.new.ids ≡ self.old.ids }
@@ -120,7 +131,9 @@ impl<L: Link, C: Clock> Link for ToldLink<L, C> {
                 Err(self.fault())
             }
             Voice::Answer(node) => {
-                if hear(&mut self.known, node, self.clock.now()) {
+                let now = self.clock.now();
+                if hear(&mut self.known, node, now) {
+                    note(&mut self.answered, node, now, &frame);
                     Ok(item)
                 } else {
                     Ok(Received::Junk)
@@ -134,30 +147,56 @@ impl<L: Link, C: Clock> Link for ToldLink<L, C> {
         }
     }
 
-    /// It fails where the link below does, and where a stranger was heard: nothing is sent then.
+    /// It fails where the link below does, and where a stranger was heard: nothing is sent then. A frame that gives a
+    /// node ID is left out where not more than half of the list follow.
     fn send(&mut self, frame: &RawFrame) -> Result<(), Failed>
         ensures frames { WhereTold {A = List RawFrame} (Sends frame.now result) None None }
         ensures cause { HasCause self.old.faults self.new.faults result }
         ensures kept { OnOk result (self.new.faults ≡ self.old.faults) }
         ensures faults { self.new.faults ≡ counted result self.old.faults }
-        ensures goes { self.old.stranger ≡ None → WhereTold (Sends frame.now result)
-            (L.sent self.old.link) (L.sent self.new.link) }
-        ensures below { self.old.stranger ≡ None → HasCause (L.faults self.old.link) (L.faults self.new.link) result }
-        ensures ended { IsSome self.old.stranger → IsErr result × (self.new.link ≡ self.old.link) }
+        // Whether it goes, and what the link below makes of it then.
+        ensures goes { self.old.stranger ≡ None → (goes : Bool) × GoesOut C.readings self.old.clock self.new.clock
+            self.old.me self.old.ids.items self.old.answered (wants_followers self.old.ids.items frame.now) goes
+            × IsSent L.sent L.faults self.old.link self.new.link frame.now result goes }
+        ensures ended { IsSome self.old.stranger → IsErr result × (self.new.link ≡ self.old.link)
+            × (self.new.clock ≡ self.old.clock) }
         ensures coming { L.coming self.new.link ≡ L.coming self.old.link }
         ensures stranger { self.new.stranger ≡ self.old.stranger }
-        ensures clock { self.new.clock ≡ self.old.clock }
         ensures known { self.new.known ≡ self.old.known }
+        ensures answered { self.new.answered ≡ self.old.answered }
         ensures me { self.new.me ≡ self.old.me }
         ensures ids { self.new.ids ≡ self.old.ids }
     {
         if self.stranger.is_some() {
             return Err(self.fault());
         }
+        if !self.goes(frame) {
+            return Ok(());
+        }
         match self.link.send(frame) {
             Ok(()) => Ok(()),
             Err(Failed) => Err(self.fault()),
         }
+    }
+}
+
+impl<L, C: Clock> ToldLink<L, C> {
+    /// Whether a frame of its member goes out now.
+    fn goes(&mut self, frame: &RawFrame) -> bool
+        ensures goes { GoesOut C.readings self.old.clock self.new.clock self.old.me self.old.ids.items
+            self.old.answered (wants_followers self.old.ids.items frame.now) result }
+        ensures link { self.new.link ≡ self.old.link }
+        ensures me { self.new.me ≡ self.old.me }
+        ensures ids { self.new.ids ≡ self.old.ids }
+        ensures known { self.new.known ≡ self.old.known }
+        ensures answered { self.new.answered ≡ self.old.answered }
+        ensures stranger { self.new.stranger ≡ self.old.stranger }
+        ensures faults { self.new.faults ≡ self.old.faults }
+    {
+        if self.ids.is_empty() || !gives_node_id(frame) {
+            return true;
+        }
+        is_followed(self.clock.now(), self.me, &self.ids, &self.answered)
     }
 }
 
@@ -171,6 +210,7 @@ impl<L, C> ToldLink<L, C> {
         ensures me { self.new.me ≡ self.old.me }
         ensures ids { self.new.ids ≡ self.old.ids }
         ensures known { self.new.known ≡ self.old.known }
+        ensures answered { self.new.answered ≡ self.old.answered }
         ensures stranger { self.new.stranger ≡ self.old.stranger }
     {
         self.faults = self.faults.saturating_add(1);
@@ -189,4 +229,16 @@ fn hear(known: &mut [Option<Heard>; NODE_IDS], node: u8, now: u64) -> bool
     let heard = heard_at(now, known[usize::from(node)]);
     known[usize::from(node)] = Some(heard);
     counts(now, heard)
+}
+
+/// An answer of a node is handed on now: it is noted where it says that the logs agree.
+fn note(answered: &mut [Option<u64>; NODE_IDS], node: u8, now: u64, answer: &RawFrame)
+    requires all { length answered.old ≡ node_ids }
+    requires node { node < node_ids }
+    ensures all { length answered.new ≡ node_ids }
+    ensures noted { answered.new ≡ noted node now (followings.agrees answer.now) answered.old }
+{
+    if agrees(answer) {
+        answered[usize::from(node)] = Some(now);
+    }
 }

@@ -45,7 +45,7 @@ pub fn voice_of(me: u8, ids: &[u8], frame: &RawFrame) -> Voice
 }
 
 /// The fields of the identifier of a frame of UAVCAN v0.
-fn fields_of(frame: &RawFrame) -> Option<Ident>
+pub fn fields_of(frame: &RawFrame) -> Option<Ident>
     ensures fields { result ≡ voices.fields_of frame.now }
     ensures source { IfSome result (λ ident. ident.source < node_ids) }
 {
