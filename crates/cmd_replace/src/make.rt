@@ -33,8 +33,8 @@ struct Made {
 /// | outcome | comes where (`comes`) | the disk of the lost member | what is written |
 /// |---|---|---|---|
 /// | `Done` | the guard is met (`MayReplace`) | has the image of the leader's, all of it stable | the lost member, the leader and the number of its entries |
-/// | `NoLeader` | no member that is left has the votes of more than half of all in its term | nothing was done to it | one line |
-/// | `Uncommitted(id)` | that one has them, and has not committed all of its log; nor has any other that has them | nothing was done to it | one line |
+/// | `NoLeader` | no member that is left has the support of more than half of all (`IsElected`) | nothing was done to it | one line |
+/// | `Uncommitted(id)` | that one has it, and has not committed all of its log; nor has any other that has it | nothing was done to it | one line |
 /// | `Damaged(id, key)` | the image of that disk is damaged first at that key, and those before it are read as stores | nothing was done to it | one line |
 /// | `DiskFault(id)` | the count of that disk rose (`counts`) | of another: nothing was done to it. Of the lost member: the guard is met, and the disk may have any part of the image | one line |
 ///
