@@ -1,0 +1,3 @@
+pub mod Replacement
+pub mod Changes
+pub mod Worlds
