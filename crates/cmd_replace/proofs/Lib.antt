@@ -1,3 +1,4 @@
 pub mod Majorities
 pub mod Making
+pub mod Modelled
 pub mod Reading

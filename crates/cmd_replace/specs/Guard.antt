@@ -7,20 +7,21 @@
 --
 -- - Nobody else led in that term, since each of these members votes once in a term.
 -- - Nobody led in a later term: one of these members would have voted in it, and a stored term never falls.
--- - So whatever was committed stands in the log of this node, by Leader Completeness: where it led, and also where it did
---   not, since then these members might elect it in this term.
+-- - So whatever was committed stands in the log of this node, by Leader Completeness: where it led, and also where it
+--   did not, since then these members might elect it in this term.
 --
--- The logs are compared since a stored vote alone does not tell that it was granted in the stored term. A higher term is
--- stored first, and the vote is taken back after it. A member that stops in between has the new term, and the vote of the
--- older one. Of a vote that was granted nothing new is asked: the log was not above then, and afterwards it changed only
--- towards that of the leader.
+-- The logs are compared since a stored vote alone does not tell that it was granted in the stored term. A higher term
+-- is stored first, and the vote is taken back after it. A member that stops in between has the new term, and the vote
+-- of the older one. Of a vote that was granted nothing new is asked: the log was not above then, and afterwards it
+-- changed only towards that of the leader.
 --
 -- The leader's log has to be committed to its end: then what only the lost member knew to be committed is known again.
 --
 -- The lost member gets the leader's store, with its term and its vote. It cannot vote again in an earlier term, and in
 -- this term for no other node. What it voted before in this term or a later one is forgotten. That elects nobody twice:
 -- the others are too few to elect another node in this term, nobody was elected in a later one, and a candidate that
--- was stopped stands in a new term.
+-- was stopped stands in a new term. In the Raft model this is proved (`law_replacements` of `raft_replaced`), for this
+-- guard (`the_model_allows_it`).
 use Rattle.std.specs.Prelude.{◌≡◌, ℕ, zero, suc, ◌+◌, ◌*◌, ◌<◌, ◌==◌, ◌&&◌, not, Bool, true, List, length, slice_index, if◌then◌else◌}
 use Rattle.can_frame.specs.declared.entry.Entry.{Entry}
 use Rattle.can_frame.specs.Log.{last_term}

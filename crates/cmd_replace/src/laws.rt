@@ -3,7 +3,11 @@
 ghost use Rattle.std.specs.Prelude.{◌≡◌, ℕ, List, slice_index};
 ghost use Rattle.cmd_replace.specs.Guard.{IsElected, MayReplace, StandsInWay};
 ghost use Rattle.cmd_replace.specs.declared.guard.Obstacle.{Obstacle};
+ghost use Rattle.cmd_replace.specs.Modelled.{HasTheStores};
 ghost use Rattle.raft_log.specs.declared.stored.Stored.{Stored};
+ghost use Rattle.raft_model.specs.Lists.{In};
+ghost use Rattle.raft_model.specs.Runs.{World};
+ghost use Rattle.raft_replaced.specs.Replacement.{MayBeCopied};
 ghost use Rattle.store_audit.specs.Stores.{store_at};
 
 /// Where something stands in the way, no member's store may be taken.
@@ -20,4 +24,12 @@ pub fn one_member_is_elected()
     ensures term { (ids : List ℕ) (lost : ℕ) (stores : List Stored) (a b : ℕ) →
         IsElected ids lost stores a → IsElected ids lost stores b →
         (store_at stores a).term ≡ (store_at stores b).term }
+{}
+
+/// Where the guard allows a copy, the Raft model allows it, so runs go on safely behind it (`law_replacements` of
+/// `raft_replaced`): of any world that has these stores, whatever the lost member had stored.
+pub fn the_model_allows_it()
+    ensures { (world : World) (ids : List ℕ) (lost : ℕ) (stores : List Stored) →
+        HasTheStores world ids lost stores → (place : ℕ) → MayReplace ids lost stores place → In lost ids →
+        MayBeCopied world lost (slice_index ids place) }
 {}
