@@ -1,4 +1,4 @@
--- Answers of a node to another one are made in the order of the calls, one to each.
+-- Answers of a node to another one are made in the order of the calls.
 use Rattle.std.proofs.Common.{◌≡◌, ℕ, ◌+◌, ◌<◌, ◌≤◌, Bool, true, false, List, [], ◌∷◌, ◌++◌, length, length-append, refl, sym, ap, subst, ◌∙◌, arith, ◌⊎◌, inl, inr, Option, None, append_assoc}
 use Rattle.std.specs.Prelude.{◌==◌, max, slice_index_or, if◌then◌else◌}
 use Rattle.std.proofs.lemmas.Bool.Decides.{eqb_tells}
@@ -51,46 +51,13 @@ use Rattle.bus_agreement.proofs.OneRowMore.{lawful as one_more}
 use Rattle.bus_agreement.proofs.Pieces.{no_piece, piece_read, theirs}
 use Rattle.bus_agreement.proofs.RowsWithoutEvents.{is_one, past_first}
 use Rattle.bus_agreement.proofs.WholeTransfers.{IsFrom, from_bus, members_own}
-use Rattle.bus_physics.specs.Physics.{Come, ComesAt, ComesInTurn, HasKeyAt, WhereIts, heard_by, heard_in}
-use Rattle.bus_physics.proofs.OncePerStep.{AreOnce}
-use Rattle.bus_physics.proofs.Short.{tail_is}
+use Rattle.bus_physics.specs.Physics.{ComeInOrder, ComesInOrder, HasKeyAt, IsInOrder, WhereIts, heard_by, heard_in}
 use Rattle.bus_physics.proofs.LawfulRows.{rows_joined}
 
 -- the answer of a service
 abbrev pub answerer : Bool → What
 answerer true = App
 answerer false = Vote
-
--- ---- the frame that completes a transfer is its last one
-
-last_at : {A : Type 0} (front : List A) (last d : A) → slice_index_or (front ++ last ∷ []) (length front) d ≡ last
-last_at [] last d = refl
-last_at (x ∷ front) last d = last_at front last d
-
-pub mark_is : (x y : Mark) → x.step ≡ y.step → x.re ≡ y.re → x.place ≡ y.place → x ≡ y
-mark_is x y same re place = ap (λ (n : ℕ). record { step = n; re = x.re; place = x.place }) same
-    ∙ (ap (λ (n : ℕ). record { step = y.step; re = n; place = x.place }) re ∙ ap (λ (n : ℕ). record { step = y.step; re = y.re; place = n }) place)
-
-module _ (laws : FrameLaws) (x : SentTransfer) (small : x.offer.id < 32) (arrival : Arrival) (place : arrival.mark.place < length (theirs x))
-    (read : piece_in arrival ≡ slice_index_or (theirs x) arrival.mark.place no_piece) (front : List Piece) (signature id : ℕ) (payload : List ℕ)
-    (cutting : front ++ piece_in arrival ∷ [] ≡ pieces_of signature id payload) where
-  count : length front ≡ frames_before_last signature payload
-  count = omega (arith, length-append front (piece_in arrival ∷ []), ap length cutting, laws.count signature id payload)
-
-  ends : (piece_in arrival).tail.end ≡ true
-  ends = ap (λ (p : Piece). p.tail.end) (sym (last_at front (piece_in arrival) no_piece))
-      ∙ (ap (λ (l : List Piece). (slice_index_or l (length front) no_piece).tail.end) cutting
-      ∙ (ap (λ (k : ℕ). (slice_index_or (pieces_of signature id payload) k no_piece).tail.end) count ∙ ap (λ (p : Piece). p.tail.end) (laws.last signature id payload no_piece)))
-
-  pub is_last : arrival.mark.place ≡ frames_before_last (signature_of x.offer.what) x.offer.payload
-  is_last = elim (eqb_tells arrival.mark.place (frames_before_last (signature_of x.offer.what) x.offer.payload)) [
-    | inl same ↦ same.1
-    | inr apart ↦ never (sym apart.0 ∙ (sym (ap (λ (t : Tail). t.end)
-        (tail_is laws (signature_of x.offer.what) x.offer.id x.offer.payload arrival.mark.place inside)) ∙ (ap (λ (p : Piece). p.tail.end) (sym read) ∙ ends)))
-  ]
-    where
-      inside : arrival.mark.place ≤ frames_before_last (signature_of x.offer.what) x.offer.payload
-      inside = omega (arith, place, laws.count (signature_of x.offer.what) x.offer.id x.offer.payload)
 
 -- ---- what was asked
 
@@ -103,45 +70,23 @@ module _ (append : Bool) (p n : ℕ) where
     pub what : x.offer.what ≡ answerer append
     pub to : x.offer.to ≡ n
 
-  -- node p heard the last frame of the call that the answer answers
-  pub record HasAsked (made : List SentTransfer) (heard : List Queued) (re : ℕ) : Type 0 where
+  -- node p heard a frame of the call that the answer answers
+  pub record HasAsked (heard : List Queued) (re : ℕ) : Type 0 where
     pub frame : Queued
     pub came : In frame heard
     pub step : frame.mark.step ≡ re
     pub key : HasKeyAt p asking_key frame
-    pub whose : SentTransfer
-    pub was_made : In whose made
-    pub what : whose.offer.what ≡ carrier append
-    pub to : whose.offer.to ≡ p
-    pub ident : frame.id ≡ identifier_number (ident_of n (carrier append) p)
-    pub made_then : frame.mark.step ≡ whose.step
-    pub re_is : frame.mark.re ≡ whose.offer.re
-    pub last : frame.mark.place ≡ frames_before_last (signature_of whose.offer.what) whose.offer.payload
 
-  asked_more : (made more : List SentTransfer) (heard further : List Queued) → ((x : SentTransfer) → In x made → In x more) → ((f : Queued) → In f heard → In f further)
-      → (re : ℕ) → HasAsked made heard re → HasAsked more further re
-  asked_more made more heard further grows hears re h = record {
-    frame = h.frame;
-    came = hears h.frame h.came;
-    step = h.step;
-    key = h.key;
-    whose = h.whose;
-    was_made = grows h.whose h.was_made;
-    what = h.what;
-    to = h.to;
-    ident = h.ident;
-    made_then = h.made_then;
-    re_is = h.re_is;
-    last = h.last;
-  }
+  asked_more : (heard further : List Queued) → ((f : Queued) → In f heard → In f further) → (re : ℕ) → HasAsked heard re → HasAsked further re
+  asked_more heard further hears re h = record { frame = h.frame; came = hears h.frame h.came; step = h.step; key = h.key }
 
   pub record AreOrdered (made : List SentTransfer) (heard : List Queued) : Type 0 where
-    pub asked : (x : SentTransfer) → In x made → IsAnswer x → HasAsked made heard x.offer.re
-    pub order : (x y : SentTransfer) → In x made → In y made → IsAnswer x → IsAnswer y → x.step < y.step → x.offer.re < y.offer.re
+    pub asked : (x : SentTransfer) → In x made → IsAnswer x → HasAsked heard x.offer.re
+    pub order : (x y : SentTransfer) → In x made → In y made → IsAnswer x → IsAnswer y → x.step ≤ y.step → x.offer.re ≤ y.offer.re
 
   -- ---- a row
 
-  module _ (w : Cluster) (made : List SentTransfer) (heard : List Queued) (once : AreOnce w.rows made) (some : (x : SentTransfer) → In x made → 1 ≤ x.step)
+  module _ (w : Cluster) (made : List SentTransfer) (heard : List Queued) (past : (x : SentTransfer) → In x made → x.step ≤ w.rows)
       (old : AreOrdered made heard) where
     abbrev number : ℕ
     number = w.rows + 1
@@ -149,7 +94,7 @@ module _ (append : Bool) (p n : ℕ) where
     quiet : (more : List SentTransfer) (further : List Queued) → ((x : SentTransfer) → In x made → In x more) → ((f : Queued) → In f heard → In f further)
         → ((x : SentTransfer) → In x more → IsAnswer x → In x made) → AreOrdered more further
     quiet more further grows hears only = record {
-      asked = λ x i a. asked_more made more heard further grows hears x.offer.re (old.asked x (only x i a) a);
+      asked = λ x i a. asked_more heard further hears x.offer.re (old.asked x (only x i a) a);
       order = λ x y i j a b less. old.order x y (only x i a) (only y j b) a b less;
     }
 
@@ -176,41 +121,25 @@ module _ (append : Bool) (p n : ℕ) where
           ])
 
     -- node p receives frame k
-    module _ (k ms : ℕ) (turn : ComesInTurn p heard (frame_at w.frames k))
+    module _ (k ms : ℕ) (in_order : ComesInOrder p heard (frame_at w.frames k))
         (asks : (t : AllocatorState) → (w.member p).status ≡ Up t → (offer : Offer) → In offer (step t number (receipt_of w k ms)).step_state.offers
-        → offer.what ≡ answerer append → offer.to ≡ n → (re : ℕ) → re ≡ offer.re → HasAsked made (frame_at w.frames k ∷ []) re) where
+        → offer.what ≡ answerer append → offer.to ≡ n → (re : ℕ) → re ≡ offer.re → HasAsked (frame_at w.frames k ∷ []) re) where
       abbrev further : List Queued
       further = heard ++ frame_at w.frames k ∷ []
 
       hears : (f : Queued) → In f heard → In f further
       hears f i = in_front f heard (frame_at w.frames k ∷ []) i
 
-      the_frame : (f : Queued) → In f (frame_at w.frames k ∷ []) → f ≡ frame_at w.frames k
-      the_frame f (inl e) = e
-      the_frame f (inr i) = absurd i
+      -- it is the call that this frame completes
+      this_one : (re : ℕ) → HasAsked (frame_at w.frames k ∷ []) re → ((frame_at w.frames k).mark.step ≡ re) × HasKeyAt p asking_key (frame_at w.frames k)
+      this_one re a = elim a.came [
+        | inl e ↦ (ap (λ (f : Queued). f.mark.step) (sym e) ∙ a.step, subst (λ (f : Queued). HasKeyAt p asking_key f) e a.key)
+        | inr i ↦ absurd i
+      ]
 
-      -- the call was made later than each that was answered
-      later : (re : ℕ) → HasAsked made heard re → (then_ : ℕ) → HasAsked made (frame_at w.frames k ∷ []) then_ → re < then_
-      later re a then_ b = by (frame_at w.frames k) (the_frame b.frame b.came) turn where
-        by : (f : Queued) → b.frame ≡ f → ComesInTurn p heard f → re < then_
-        by f e t = elim (eqb_tells a.frame.mark.step b.frame.mark.step) [
-          | inr apart ↦ omega (arith, before, apart.1, a.step, b.step)
-          | inl same ↦
-              let one : a.whose ≡ b.whose = once.once a.whose b.whose a.was_made b.was_made (sym a.made_then ∙ (same.1 ∙ b.made_then)) (a.what ∙ sym b.what) (a.to ∙ sym b.to)
-              (λ alloc. is_call append (sym a.what ∙ alloc)) in
-              absurd (t.1 a.frame a.came
-              (subst (λ (q : Queued). 1 ≤ q.mark.step) e (omega (arith, b.made_then, some b.whose b.was_made)))
-              (a.ident ∙ (sym b.ident ∙ ap (λ (q : Queued). q.id) e))
-              (mark_is a.frame.mark b.frame.mark same.1 (a.re_is ∙ (ap (λ (z : SentTransfer). z.offer.re) one ∙ sym b.re_is))
-              (a.last ∙ (ap (λ (z : SentTransfer). frames_before_last (signature_of z.offer.what) z.offer.payload) one ∙ sym b.last)) ∙ ap (λ (q : Queued). q.mark) e))
-        ]
-          where
-            before : a.frame.mark.step ≤ b.frame.mark.step
-            before = subst (λ (q : Queued). a.frame.mark.step ≤ q.mark.step) (sym e) (t.0 a.frame asking_key a.came a.key (subst (λ (q : Queued). HasKeyAt p asking_key q) e b.key))
-
-            is_call : (c : Bool) → carrier c ≡ Alloc → ⊥
-            is_call true f_ = absurd (cc (f_))
-            is_call false f_ = absurd (cc (f_))
+      -- none that was answered was made later
+      later : (re : ℕ) → HasAsked heard re → (then_ : ℕ) → HasAsked (frame_at w.frames k ∷ []) then_ → re ≤ then_
+      later re a then_ b = omega (arith, a.step, (this_one then_ b).0, in_order a.frame asking_key a.came a.key (this_one then_ b).1)
 
       received : (status : MemberStatus) → (w.member p).status ≡ status → AreOrdered (transfers_of_step number p (receipt_of w k ms) status (w.member p) made) further
       received Down is_it = quiet made further (λ x i. i) hears (λ x i a. i)
@@ -222,7 +151,7 @@ module _ (append : Bool) (p n : ℕ) where
         more : List SentTransfer
         more = transfers_of_offers number p g.offers made
 
-        new_asked : (x : SentTransfer) → IsNew number p g.offers x → IsAnswer x → HasAsked made (frame_at w.frames k ∷ []) x.offer.re
+        new_asked : (x : SentTransfer) → IsNew number p g.offers x → IsAnswer x → HasAsked (frame_at w.frames k ∷ []) x.offer.re
         new_asked x new a =
             let same : x.offer ≡ new.offer = ap (λ (z : SentTransfer). z.offer) new.is in
             asks t is_it new.offer new.offered (ap (λ (o : Offer). o.what) (sym same) ∙ a.what) (ap (λ (o : Offer). o.to) (sym same) ∙ a.to)
@@ -235,9 +164,8 @@ module _ (append : Bool) (p n : ℕ) where
         by false = quiet made further (λ x i. i) hears (λ x i a. i)
         by true = record {
           asked = λ x i a. elim (made_when number p g.offers made x i) [
-            | inl j ↦ asked_more made more heard further (still_made number p g.offers made) hears x.offer.re (old.asked x j a)
-            | inr new ↦ asked_more made more (frame_at w.frames k ∷ []) further (still_made number p g.offers made) (λ f l. in_back f heard (frame_at w.frames k ∷ []) l)
-                x.offer.re (new_asked x new a)
+            | inl j ↦ asked_more heard further hears x.offer.re (old.asked x j a)
+            | inr new ↦ asked_more (frame_at w.frames k ∷ []) further (λ f l. in_back f heard (frame_at w.frames k ∷ []) l) x.offer.re (new_asked x new a)
           ];
           order = λ x y i j a b less. elim (made_when number p g.offers made x i) [
             | inl l ↦ elim (made_when number p g.offers made y j) [
@@ -245,17 +173,18 @@ module _ (append : Bool) (p n : ℕ) where
               | inr new ↦ later x.offer.re (old.asked x l a) y.offer.re (new_asked y new b)
             ]
             | inr new ↦ elim (made_when number p g.offers made y j) [
-              | inl m ↦ absurd (omega (arith, less, new_step x new, once.past y m))
-              | inr new_too ↦ absurd (omega (arith, less, new_step x new, new_step y new_too))
+              | inl m ↦ absurd (omega (arith, less, new_step x new, past y m))
+              | inr new_too ↦ omega (arith, (this_one x.offer.re (new_asked x new a)).0, (this_one y.offer.re (new_asked y new_too b)).0)
             ]
           ];
         }
-        -- ---- all of it
 
-    module _ (row : Row) (turn : ComesAt (ComesInTurn p) p heard w row) (answers : (t : AllocatorState) (event : Event) → ResponsesAnswer t number event)
+    -- ---- all of it
+
+    module _ (row : Row) (in_order : IsInOrder p heard w row) (answers : (t : AllocatorState) (event : Event) → ResponsesAnswer t number event)
         (asks : (k ms : ℕ) → row ≡ Rx p k ms → (t : AllocatorState) → (w.member p).status ≡ Up t → (offer : Offer)
         → In offer (step t number (receipt_of w k ms)).step_state.offers → offer.what ≡ answerer append → offer.to ≡ n → (re : ℕ) → re ≡ offer.re
-        → HasAsked made (frame_at w.frames k ∷ []) re) where
+        → HasAsked (frame_at w.frames k ∷ []) re) where
       After : Row → Type 0
       After r = AreOrdered (transfers_of_row w r made) (heard ++ heard_in p w r)
 
@@ -272,13 +201,13 @@ module _ (append : Bool) (p n : ℕ) where
       other : (m : ℕ) → (p == m) ≡ false → m ≡ p → ⊥
       other m e same = elim (eqb_tells p m) [ inl s ↦ absurd (cc (sym e ∙ s.0)) | inr apart ↦ apart.1 (sym same) ]
 
-      rx_row : (m k ms : ℕ) → row ≡ Rx m k ms → (same : Bool) → (p == m) ≡ same → WhereIts same (ComesInTurn p heard (frame_at w.frames k))
+      rx_row : (m k ms : ℕ) → row ≡ Rx m k ms → (same : Bool) → (p == m) ≡ same → WhereIts same (ComesInOrder p heard (frame_at w.frames k))
           → AreOrdered (transfers_of_step number m (receipt_of w k ms) (w.member m).status (w.member m) made) (heard ++ (if same then frame_at w.frames k ∷ [] else []))
-      rx_row m k ms r false e turn_ = no_answer m (receipt_of w k ms) (heard ++ []) (λ f i. in_front f heard [] i)
+      rx_row m k ms r false e order_ = no_answer m (receipt_of w k ms) (heard ++ []) (λ f i. in_front f heard [] i)
           (λ t offer i same what. other m e same) (w.member m).status (w.member m)
-      rx_row m k ms r true e turn_ =
+      rx_row m k ms r true e order_ =
           subst (λ (j : ℕ). row ≡ Rx j k ms → AreOrdered (transfers_of_step number j (receipt_of w k ms) (w.member j).status (w.member j) made) (heard ++ frame_at w.frames k ∷ []))
-          is_same (λ r_. received k ms turn_ (λ t up offer i what to re e_. asks k ms r_ t up offer i what to re e_) (w.member p).status refl) r
+          is_same (λ r_. received k ms order_ (λ t up offer i what to re e_. asks k ms r_ t up offer i what to re e_) (w.member p).status refl) r
         where
           is_same : p ≡ m
           is_same = elim (eqb_tells p m) [ inl s ↦ s.1 | inr apart ↦ absurd (cc (sym apart.0 ∙ e)) ]
@@ -286,7 +215,7 @@ module _ (append : Bool) (p n : ℕ) where
       by_row : (r : Row) → row ≡ r → After r
       unfolding After
       by_row (Tick m ms word) e = no_answer m (tick_of ms word) (heard ++ []) (λ f i. in_front f heard [] i) (at_tick m ms word) (w.member m).status (w.member m)
-      by_row (Rx m k ms) e = rx_row m k ms e (p == m) refl (subst (λ (r : Row). ComesAt (ComesInTurn p) p heard w r) e turn)
+      by_row (Rx m k ms) e = rx_row m k ms e (p == m) refl (subst (λ (r : Row). IsInOrder p heard w r) e in_order)
       by_row (Open m told ms word) e = nothing
       by_row (Send m) e = nothing
       by_row (Ext frame) e = nothing
@@ -364,42 +293,15 @@ module _ (append : Bool) (p n : ℕ) where
       wants : IsWanted rows t.me coming.id is.d.ident
       wants = subst (λ (i : Ident). IsWanted rows t.me coming.id i) (sym its.ident) (wanted_is rows t.me coming.id its.w its.accepted)
 
-      from : IsFrom made t.me (key_of is.d.ident) coming
-      unfolding coming
-      from = from_bus laws w.ids low high made shows.holds.transfers rows t.me w.frames shows.bus coming
-          (record { frame = frame_at w.frames k; there = inside; id = refl; bytes = refl; mark = refl }) is.d.ident wants
-          (members_own w.ids is.d.ident source (ap is_anonymous is.kind)) (key_of is.d.ident) (inl some) refl refl refl
-
       number_is : (a : Bool) → number_of (answerer a) ≡ number_of (carrier a)
       number_is true = refl
       number_is false = refl
 
-      kind_is : (a : Bool) → kind_of (carrier a) ≡ Request
-      kind_is true = refl
-      kind_is false = refl
-
       its_number : is.d.ident.number ≡ number_of (carrier append)
       its_number = is.service ∙ (ap number_of what ∙ number_is append)
 
-      its_what : from.whose.offer.what ≡ carrier append
-      its_what = one_what from.whose.offer.what (carrier append) Request (number_of (carrier append)) (from.kind ∙ is.kind) (kind_is append) (from.number ∙ its_number) refl
-
       its_source : is.d.ident.source ≡ n
       its_source = sym is.to ∙ to
-
-      to_me : from.whose.offer.to ≡ p
-      to_me = from.to ∙ (ap (λ (kind : Kind). to_for kind t.me) is.kind ∙ there.runs.me)
-
-      small : from.whose.offer.id < 32
-      small = (shows.holds.transfers.ranges from.whose from.was_made).id
-
-      its_last : coming.mark.place ≡ frames_before_last (signature_of from.whose.offer.what) from.whose.offer.payload
-      its_last = by its.frames where
-        by : IsAlone its.w coming is.d ⊎ Completes (setting_for t.me) t.sessions its.w coming is.d
-            → coming.mark.place ≡ frames_before_last (signature_of from.whose.offer.what) from.whose.offer.payload
-        by (inl alone) = never (sym known ∙ alone.anonymous)
-        by (inr c) = is_last laws from.whose small coming from.piece.place (piece_read laws from.whose coming from.piece small) c.session.taken
-            its.w.signature is.d.id is.d.payload c.cutting.frames
 
       its_key : HasKeyAt p asking_key (frame_at w.frames k)
       unfolding is_of coming
@@ -412,33 +314,23 @@ module _ (append : Bool) (p n : ℕ) where
               ∙ (ap (λ (m : ℕ). record { kind = Request; number = m; source = is.d.ident.source }) its_number
               ∙ ap (λ (m : ℕ). record { kind = Request; number = number_of (carrier append); source = m }) its_source))
 
-      pub has_asked : (re : ℕ) → re ≡ offer.re → HasAsked made (frame_at w.frames k ∷ []) re
+      pub has_asked : (re : ℕ) → re ≡ offer.re → HasAsked (frame_at w.frames k ∷ []) re
       unfolding coming
       has_asked re e = record {
         frame = frame_at w.frames k;
         came = inl refl;
         step = sym (e ∙ (is.re ∙ ap (λ (m : Mark). m.step) its.mark));
         key = its_key;
-        whose = from.whose;
-        was_made = from.was_made;
-        what = its_what;
-        to = to_me;
-        ident = from.piece.id ∙ (ap (λ (m : ℕ). identifier_number (ident_of m from.whose.offer.what from.whose.offer.to)) (from.by ∙ its_source)
-            ∙ (ap (λ (x : What). identifier_number (ident_of n x from.whose.offer.to)) its_what ∙ ap (λ (m : ℕ). identifier_number (ident_of n (carrier append) m)) to_me));
-        made_then = from.piece.step;
-        re_is = from.piece.re;
-        last = its_last;
       }
 
   -- ---- all rows
 
   -- what is known of the world of lawful rows, and of the row after them
   pub record Known (w : Cluster) (made : List SentTransfer) : Type 0 where
-    pub once : AreOnce w.rows made
-    pub some : (x : SentTransfer) → In x made → 1 ≤ x.step
+    pub past : (x : SentTransfer) → In x made → x.step ≤ w.rows
     pub asks : (row : Row) → cause w row ≡ None → (k ms : ℕ) → row ≡ Rx p k ms → (t : AllocatorState) → (w.member p).status ≡ Up t → (offer : Offer)
         → In offer (step t (w.rows + 1) (receipt_of w k ms)).step_state.offers → offer.what ≡ answerer append → offer.to ≡ n → (re : ℕ) → re ≡ offer.re
-        → HasAsked made (frame_at w.frames k ∷ []) re
+        → HasAsked (frame_at w.frames k ∷ []) re
 
   module _ (answers : (t : AllocatorState) (number : ℕ) (event : Event) → ResponsesAnswer t number event) (ids : List ℕ)
       (known : (rows : List Row) → AreLawful (cluster ids) rows → Known (world_of ids rows) (transfers_of_rows (cluster ids) rows [])) where
@@ -448,17 +340,17 @@ module _ (append : Bool) (p n : ℕ) where
     made_joined v (first ∷ rows) row m = made_joined (after_row v first) rows row (transfers_of_row v first m)
 
     pub along : (rest done : List Row) (w : Cluster) (made : List SentTransfer) (heard : List Queued) → world_of ids done ≡ w → transfers_of_rows (cluster ids) done [] ≡ made
-        → AreLawful (cluster ids) done → AreLawful w rest → Come (ComesInTurn p) p heard w rest → AreOrdered made heard
+        → AreLawful (cluster ids) done → AreLawful w rest → ComeInOrder p heard w rest → AreOrdered made heard
         → AreOrdered (transfers_of_rows w rest made) (heard ++ heard_by p w rest)
-    along [] done w made heard world sent before lawful turns old = record {
-      asked = λ x i a. asked_more made made heard (heard ++ []) (λ y j. j) (λ f j. in_front f heard [] j) x.offer.re (old.asked x i a);
+    along [] done w made heard world sent before lawful orders old = record {
+      asked = λ x i a. asked_more heard (heard ++ []) (λ f j. in_front f heard [] j) x.offer.re (old.asked x i a);
       order = old.order;
     }
-    along (row ∷ rest) done w made heard world sent before lawful turns old =
+    along (row ∷ rest) done w made heard world sent before lawful orders old =
         subst (λ (l : List Queued). AreOrdered (transfers_of_rows w (row ∷ rest) made) l) (append_assoc heard (heard_in p w row) (heard_by p (after_row w row) rest))
         (along rest (done ++ row ∷ []) (after_row w row) (transfers_of_row w row made) (heard ++ heard_in p w row) grown_world grown_made
-        (one_more (cluster ids) done row before (ap (λ (v : Cluster). cause v row) world ∙ lawful.0)) lawful.1 turns.1
-        (next_row w made heard here.once here.some old row turns.0 (λ t event. answers t (w.rows + 1) event) (here.asks row lawful.0)))
+        (one_more (cluster ids) done row before (ap (λ (v : Cluster). cause v row) world ∙ lawful.0)) lawful.1 orders.1
+        (next_row w made heard here.past old row orders.0 (λ t event. answers t (w.rows + 1) event) (here.asks row lawful.0)))
       where
         here : Known w made
         here = subst (λ (v : Cluster). Known v made) world (subst (λ (l : List SentTransfer). Known (world_of ids done) l) sent (known done before))

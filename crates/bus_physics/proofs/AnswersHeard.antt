@@ -1,4 +1,4 @@
--- Answers of a node come to a member in the order of the calls, where each member hears frames in turn.
+-- Answers of a node come to a member in the order of the calls, where each member hears frames in order.
 use Rattle.std.proofs.Common.{◌≡◌, ◌≢◌, ℕ, ◌<◌, ◌≤◌, Bool, true, false, List, [], ◌∷◌, length, refl, sym, ap, subst, ◌∙◌, arith, inl, inr, Some, None}
 use Rattle.std.specs.Prelude.{◌==◌, ◌||◌, ◌&&◌, not, nat_eq, Err, if◌then◌else◌}
 use Rattle.std.proofs.lemmas.Bool.Decides.{eqb_tells}
@@ -39,9 +39,8 @@ use Rattle.bus_agreement.proofs.OneRow.{stands}
 use Rattle.bus_agreement.proofs.Pieces.{IsPieceOf, piece_of}
 use Rattle.bus_agreement.proofs.RowsWithoutEvents.{past_first}
 use Rattle.bus_agreement.proofs.WholeTransfers.{read_back, some_is}
-use Rattle.bus_physics.specs.Physics.{ComesInTurn, HasKeyAt, IsResponseOf, heard_by, heard_in}
-use Rattle.bus_physics.proofs.AnswerOrder.{AreOrdered, answerer, mark_is}
-use Rattle.bus_physics.proofs.OncePerStep.{AreOnce}
+use Rattle.bus_physics.specs.Physics.{ComesInOrder, HasKeyAt, IsResponseOf, heard_by, heard_in}
+use Rattle.bus_physics.proofs.AnswerOrder.{AreOrdered, answerer}
 
 or_true : (a b : Bool) → b ≡ true → (a || b) ≡ true
 or_true true b e = refl
@@ -140,24 +139,12 @@ module _ (append : Bool) (n : ℕ) (laws : FrameLaws) (choice : ℕ → Bool) (m
     pub by : x.by ≡ source
     pub what : x.offer.what ≡ answerer append
     pub to : x.offer.to ≡ n
-    pub id : f.id ≡ identifier_number (ident_of source (answerer append) n)
     pub step : f.mark.step ≡ x.step
     pub re : f.mark.re ≡ x.offer.re
-    pub place : f.mark.place ≡ 0
 
   kind_is : (a : Bool) → kind_of (answerer a) ≡ Response
   kind_is true = refl
   kind_is false = refl
-
-  -- an answer is one frame
-  single : (x : SentTransfer) → In x made → x.offer.what ≡ answerer append → frame_count (length x.offer.payload) ≡ 1
-  single x there what = by append what where
-    said_as : (a : Bool) → x.offer.what ≡ answerer a → IsSaid x.step x.by (answerer a) x.offer.to x.offer.re x.offer.payload x.offer.says
-    said_as a e = subst (λ (k : What). IsSaid x.step x.by k x.offer.to x.offer.re x.offer.payload x.offer.says) e (shows.holds.said.carried x there)
-
-    by : (a : Bool) → x.offer.what ≡ answerer a → frame_count (length x.offer.payload) ≡ 1
-    by true e = ap (λ (l : List ℕ). frame_count (length l)) (said_as true e).written
-    by false e = ap (λ (l : List ℕ). frame_count (length l)) (said_as false e).written
 
   module _ (source : ℕ) (f : Queued) (inside : In f w.frames) (is : IsResponseOf (number_of (answerer append)) source n f)
       (service : is_members_service (number_of (answerer append)) ≡ true) where
@@ -175,11 +162,8 @@ module _ (append : Bool) (n : ℕ) (laws : FrameLaws) (choice : ℕ → Bool) (m
         by = its_source;
         what = its_what;
         to = its_to;
-        id = it.id ∙ (ap (λ (k : ℕ). identifier_number (ident_of k piece.whose.offer.what piece.whose.offer.to)) its_source
-            ∙ (ap (λ (x : What). identifier_number (ident_of source x piece.whose.offer.to)) its_what ∙ ap (λ (k : ℕ). identifier_number (ident_of source (answerer append) k)) its_to));
         step = it.step;
         re = it.re;
-        place = omega (arith, it.place, laws.cut_count (signature_of piece.whose.offer.what) piece.whose.offer.id piece.whose.offer.payload, single piece.whose piece.was_made its_what);
       }
         where
           it : IsPieceOf piece.whose (arrival_at f 0)
@@ -199,27 +183,19 @@ module _ (append : Bool) (n : ℕ) (laws : FrameLaws) (choice : ℕ → Bool) (m
           its_what = one_what piece.whose.offer.what (answerer append) Response (number_of (answerer append)) (ap (λ (k : Ident). k.kind) own ∙ is.kind) (kind_is append)
               (ap (λ (k : Ident). k.number) own ∙ is.service) refl
 
-  -- the one that was heard before answers an earlier call
-  pub in_turn : (heard : List Queued) (frame : Queued) → ComesInTurn n heard frame → (source : ℕ) → AreOnce w.rows made
+  -- the one that was heard before answers no later call
+  pub in_order : (heard : List Queued) (frame : Queued) → ComesInOrder n heard frame → (source : ℕ)
       → (there : (f : Queued) → In f heard → In f w.frames) → In frame w.frames → (past : List Queued) → AreOrdered append source n made past → source ≢ n
       → (s : ℕ) → first_signature rows Response (number_of (answerer append)) ≡ Some s → is_members_service (number_of (answerer append)) ≡ true
       → (other : Queued) → In other heard → IsResponseOf (number_of (answerer append)) source n other → IsResponseOf (number_of (answerer append)) source n frame
-      → other.mark.re < frame.mark.re
-  in_turn heard frame turn source once there inside past ordered apart s signature service other came is is_too =
-      elim (eqb_tells other.mark.step frame.mark.step) [
-        | inr differ ↦ omega (
-          arith,
-          a.re,
-          b.re,
-          ordered.order a.x b.x a.was_made b.was_made
-              (record { by = a.by; what = a.what; to = a.to }) (record { by = b.by; what = b.what; to = b.to }) (omega (arith, before, differ.1, a.step, b.step)),
-        )
-        | inl same ↦
-            let one : a.x ≡ b.x = once.once a.x b.x a.was_made b.was_made (sym a.step ∙ (same.1 ∙ b.step)) (a.what ∙ sym b.what) (a.to ∙ sym b.to)
-            (λ e. no_allocation append (sym a.what ∙ e)) in
-            absurd (turn.1 other came (omega (arith, b.step, shows.holds.transfers.numbered b.x b.was_made)) (a.id ∙ sym b.id)
-            (mark_is other.mark frame.mark same.1 (a.re ∙ (ap (λ (z : SentTransfer). z.offer.re) one ∙ sym b.re)) (a.place ∙ sym b.place)))
-      ]
+      → other.mark.re ≤ frame.mark.re
+  in_order heard frame comes source there inside past ordered apart s signature service other came is is_too = omega (
+    arith,
+    a.re,
+    b.re,
+    ordered.order a.x b.x a.was_made b.was_made
+        (record { by = a.by; what = a.what; to = a.to }) (record { by = b.by; what = b.what; to = b.to }) (omega (arith, before, a.step, b.step)),
+  )
     where
       a : OfAnswer source other
       a = of_answer source other (there other came) is service
@@ -228,9 +204,5 @@ module _ (append : Bool) (n : ℕ) (laws : FrameLaws) (choice : ℕ → Bool) (m
       b = of_answer source frame inside is_too service
 
       before : other.mark.step ≤ frame.mark.step
-      before = turn.0 other (record { kind = Response; number = number_of (answerer append); source = source }) came
+      before = comes other (record { kind = Response; number = number_of (answerer append); source = source }) came
           (has_key n source (number_of (answerer append)) apart other is s signature) (has_key n source (number_of (answerer append)) apart frame is_too s signature)
-
-      no_allocation : (c : Bool) → answerer c ≡ Alloc → ⊥
-      no_allocation true e = absurd (cc (e))
-      no_allocation false e = absurd (cc (e))

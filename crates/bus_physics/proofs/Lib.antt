@@ -27,7 +27,6 @@ pub mod SpacedVotes
 pub mod SpacedCalls
 pub mod HeardAnswers
 pub mod RoundCalls
-pub mod OncePerStep
 pub mod AnswerOrder
 pub mod AnswersHeard
 pub mod TurnedAnswers

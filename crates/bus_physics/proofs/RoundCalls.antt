@@ -39,7 +39,7 @@ module _ (laws : FrameLaws) (called : (t : AllocatorState) (number : ℕ) (event
 
   module _ (short : HoldsAreShort limits) (rests : RestsBeforeOpening limits all made n) where
     module _ (append : Bool) (p width : ℕ) (P : ℕ → ℕ → Memory → Times → ℕ → Type 0) (spaced : IsSpaced append p width P) (small : p < 128)
-        (wide : 21000 ≤ width) (narrow : width ≤ 32000) where
+        (wide : 20000 ≤ width) where
       known : (rows : List Row) → AreLawful (cluster ids) rows → Known append p width P spaced small n limits all (world_of ids rows) (transfers_of_rows (cluster ids) rows [])
       known rows so_far = record {
         earlier = (shown rows so_far).shows.past;
@@ -49,7 +49,7 @@ module _ (laws : FrameLaws) (called : (t : AllocatorState) (number : ℕ) (event
       }
 
       settled : AreSettled append p width P spaced small n limits all made (heard_by n (cluster ids) (rows_in before))
-      settled = along append p width P spaced small n limits all short wide narrow ids known before [] (now ∷ []) (cluster ids) [] [] [] refl refl refl refl tt lawful slow
+      settled = along append p width P spaced small n limits all short wide ids known before [] (now ∷ []) (cluster ids) [] [] [] refl refl refl refl tt lawful slow
           rests (λ t up. absurd (cc (up))) (λ x y i. absurd i)
 
       pub comes_late : (x y : SentTransfer) → In x made → In y made → x.by ≡ n → y.by ≡ n → x.offer.what ≡ y.offer.what → x.offer.to ≡ y.offer.to
@@ -65,7 +65,7 @@ module _ (laws : FrameLaws) (called : (t : AllocatorState) (number : ℕ) (event
 
       by_kind : (x.offer.what ≡ AppQ) ⊎ (x.offer.what ≡ VoteQ) → (time_of all x.step + 2 * limits.hold < time_of all y.step)
           ⊎ IsAnsweredSince made (heard_by n (cluster ids) (rows_in before)) x
-      by_kind (inl append) = comes_late true x.offer.to 32000 (λ M b m times moment. Open x.offer.to M b m times moment) (spaced_appends x.offer.to) (small (ap kind_of append))
-          (omega arith) (omega arith) x y i j by by_too what to id less append refl
-      by_kind (inr vote) = comes_late false x.offer.to 21000 (λ M b m times moment. Asked x.offer.to M b m times moment) (spaced_votes x.offer.to) (small (ap kind_of vote))
-          (omega arith) (omega arith) x y i j by by_too what to id less vote refl
+      by_kind (inl append) = comes_late true x.offer.to 31000 (λ M b m times moment. Open x.offer.to M b m times moment) (spaced_appends x.offer.to) (small (ap kind_of append))
+          (omega arith) x y i j by by_too what to id less append refl
+      by_kind (inr vote) = comes_late false x.offer.to 20000 (λ M b m times moment. Asked x.offer.to M b m times moment) (spaced_votes x.offer.to) (small (ap kind_of vote))
+          (omega arith) x y i j by by_too what to id less vote refl

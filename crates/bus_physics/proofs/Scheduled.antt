@@ -22,7 +22,7 @@ use Rattle.bus_agreement.proofs.Concatenations.{ids_stay}
 use Rattle.bus_agreement.proofs.Lists.{never}
 use Rattle.bus_agreement.proofs.OneRowMore.{grown, lawful as one_more}
 use Rattle.bus_rows.specs.Timed.{Timed, rows_in}
-use Rattle.bus_physics.specs.Physics.{AllComeInTurn, Come, ComeInOrder, ComesAt, ComesInOrder, ComesInTurn, Limits, WhereIts, heard_in}
+use Rattle.bus_physics.specs.Physics.{AllComeInOrder, ComeInOrder, Limits}
 use Rattle.bus_physics.specs.Reuse.{LacksFrames}
 use Rattle.bus_physics.specs.Schedule.{DeviceHears, MemberHears, HappenOnBus, HappensOnBus, LawfulButForBus, LosesFrames, is_of_bus}
 use Rattle.bus_physics.proofs.Refusals.{of_torn, refused}
@@ -167,24 +167,11 @@ module _ (limits : Limits) (ids : List ℕ) where
   lawful_more before t w at lawful e = subst (λ (l : List Row). AreLawful (cluster ids) l) (sym (rows_of_more before t))
       (one_more (cluster ids) (rows_in before) t.row lawful (ap (λ (u : Cluster). cause u t.row) at ∙ e))
 
-  -- frames that come in turn come in order
-  in_order_at : (n : ℕ) (heard : List Queued) (w : Cluster) (row : Row) → ComesAt (ComesInTurn n) n heard w row → ComesAt (ComesInOrder n) n heard w row
-  in_order_at n heard w (Rx m k ms) turn = by (n == m) turn where
-    by : (same : Bool) → WhereIts same (ComesInTurn n heard (frame_at w.frames k)) → WhereIts same (ComesInOrder n heard (frame_at w.frames k))
-    by true turn = turn.0
-    by false turn = tt
-  in_order_at n heard w row turn = tt
-
-  come_in_order : (n : ℕ) (heard : List Queued) (w : Cluster) (rows : List Row) → Come (ComesInTurn n) n heard w rows → ComeInOrder n heard w rows
-  come_in_order n heard w [] turns = tt
-  come_in_order n heard w (row ∷ rows) turns =
-      (in_order_at n heard w row turns.0, come_in_order n (heard ++ heard_in n w row) (after_row w row) rows turns.1)
-
-  -- so it is of those that a member heard before one that is torn
-  pub heard_in_order : (before : List Timed) (n k ms : ℕ) → AllComeInTurn ids (cluster ids) (rows_in before) → cause (w_of before) (Rx n k ms) ≡ Some unlawful.Torn
+  -- who hears a frame that is torn is a member, so frames came to it in order
+  pub heard_in_order : (before : List Timed) (n k ms : ℕ) → AllComeInOrder ids (cluster ids) (rows_in before) → cause (w_of before) (Rx n k ms) ≡ Some unlawful.Torn
       → ComeInOrder n [] (cluster ids) (rows_in before)
-  heard_in_order before n k ms turns e = come_in_order n [] (cluster ids) (rows_in before)
-      (turns n (subst (λ (l : List ℕ). In n l) (ids_stay (cluster ids) (rows_in before)) (refused unlawful.Torn Torn of_torn (w_of before) n k ms e).member))
+  heard_in_order before n k ms orders e =
+      orders n (subst (λ (l : List ℕ). In n l) (ids_stay (cluster ids) (rows_in before)) (refused unlawful.Torn Torn of_torn (w_of before) n k ms e).member)
 
   module _ (device_law : DeviceLaw) (torn_law : TornLaw) (stale_law : StaleLaw) where
     -- a row that is refused lacks frames

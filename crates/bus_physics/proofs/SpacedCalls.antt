@@ -1,5 +1,5 @@
 -- Where a transfer ID of a member's calls to a node comes round, much time has passed, or one of them was answered.
-use Rattle.std.proofs.Common.{◌≡◌, ℕ, suc, ◌+◌, ◌*◌, ◌<◌, ◌≤◌, Bool, true, false, List, [], ◌∷◌, ◌++◌, length, refl, sym, ap, subst, ◌∙◌, arith, ◌⊎◌, inl, inr, None, append_assoc}
+use Rattle.std.proofs.Common.{◌≡◌, ℕ, zero, suc, ◌+◌, ◌*◌, ◌<◌, ◌≤◌, Bool, true, false, List, [], ◌∷◌, ◌++◌, length, refl, sym, ap, subst, ◌∙◌, arith, ◌⊎◌, inl, inr, None, append_assoc}
 use Rattle.std.specs.Prelude.{◌-◌, ◌==◌, max, nat_eq, slice_index_or, if◌then◌else◌}
 use Rattle.std.proofs.lemmas.Bool.Decides.{eqb_tells, leb_tells}
 use Rattle.std.proofs.lemmas.List.{length-replicate}
@@ -31,13 +31,13 @@ use Rattle.bus_spec.specs.Refinement.{transfers_of_offers, transfers_of_row, tra
 use Rattle.bus_agreement.specs.Said.{carrier}
 use Rattle.bus_agreement.proofs.Lists.{in_front}
 use Rattle.bus_agreement.proofs.OneRowMore.{lawful as one_more}
-use Rattle.bus_agreement.proofs.MadeTransfers.{IsNew, made_when, still_made}
+use Rattle.bus_agreement.proofs.MadeTransfers.{IsNew, made_by, made_when, newly_made, still_made}
 use Rattle.bus_rows.specs.Timed.{Timed, rows_in}
 use Rattle.bus_physics.specs.Physics.{HoldsAreShort, IsAnsweredSince, IsNotFast, IsResponseOf, Limits, WhereIts, Reading, Reads, ReadsAt, RestsBeforeOpening, heard_by, heard_in, member_readings, now_in, row_of, time_of}
 use Rattle.bus_physics.proofs.Scheduled.{rows_of_more}
 use Rattle.bus_physics.proofs.Now.{now_of_a_step}
 use Rattle.bus_physics.proofs.Waking.{IsAwake}
-use Rattle.bus_physics.proofs.StepCalls.{Called, IsAnswerOf, IsCall, IsQuietAt, IsSpaced, Open, Since, calls_of_a_step, ids_to}
+use Rattle.bus_physics.proofs.StepCalls.{Called, Counted, IsAnswerOf, IsCall, IsMade, IsQuietAt, IsSpaced, Open, Since, calls_of_a_step, ids_to}
 use Rattle.bus_physics.proofs.LawfulRows.{rows_joined}
 
 one_up : (a b : AllocatorState) → Up a ≡ Up b → a ≡ b
@@ -124,13 +124,19 @@ module _ (append : Bool) (p width : ℕ) (P : ℕ → ℕ → Memory → Times �
     pub last : (x : SentTransfer) → In x made → IsCallTo x → x.step ≤ later.step
 
   module _ (limits : Limits) (all : List Timed) where
+    -- a call was made later
+    abbrev pub IsFollowed : List SentTransfer → SentTransfer → Type 0
+    IsFollowed made x = (y : SentTransfer) × (In y made) × (IsCallTo y) × (x.step < y.step)
+
     -- since the call so many were made, and its moment is that of a reading
-    pub record Waits (past : List Reading) (t : AllocatorState) (x : SentTransfer) : Type 0 where
+    pub record Waits (made : List SentTransfer) (past : List Reading) (t : AllocatorState) (x : SentTransfer) : Type 0 where
       pub moment : ℕ
       pub reading : In (record { at = time_of all x.step; now = moment }) past
-      pub since : Since append p P x.offer.id moment t.raft_server.memory t.times t.ids t.now
+      pub more : ℕ
+      pub since : Since append p P x.offer.id moment more t.raft_server.memory t.times t.ids t.now
+      pub followed : 1 ≤ more → IsFollowed made x
 
-    -- it was answered, or the member rested since, before it was opened at this time
+    -- one behind it was answered, or the member rested since, before it was opened at this time
     abbrev pub IsEnded : List SentTransfer → List Queued → ℕ → SentTransfer → Type 0
     IsEnded made heard at x = IsAnsweredSince made heard x ⊎ (time_of all x.step + limits.rest ≤ at)
 
@@ -141,7 +147,7 @@ module _ (append : Bool) (p width : ℕ) (P : ℕ → ℕ → Memory → Times �
       pub opening : Reading
       pub reading : In opening past
       pub awake : IsAwake opening.now t.raft_server.memory t.times t.now
-      pub each : (x : SentTransfer) → In x made → IsCallTo x → IsEnded made heard opening.at x ⊎ Waits past t x
+      pub each : (x : SentTransfer) → In x made → IsCallTo x → IsEnded made heard opening.at x ⊎ Waits made past t x
 
     abbrev pub RunsWhereUp : List SentTransfer → List Queued → List Reading → MemberStatus → Type 0
     RunsWhereUp made heard past status = (t : AllocatorState) → status ≡ Up t → Runs made heard past t
@@ -171,11 +177,15 @@ module _ (append : Bool) (p width : ℕ) (P : ℕ → ℕ → Memory → Times �
     settled_more made more heard further grows hears x y (inl far) = inl far
     settled_more made more heard further grows hears x y (inr a) = inr (answered_more made more heard further grows hears x a)
 
-    answered_by : (made : List SentTransfer) (heard : List Queued) (step : ℕ) → IsHeard made heard step → (x : SentTransfer) → In x made → IsCallTo x → IsAnsweredSince made heard x
-    answered_by made heard step h x i call = record {
+    followed_more : (made more : List SentTransfer) → ((x : SentTransfer) → In x made → In x more) → (x : SentTransfer) → IsFollowed made x → IsFollowed more x
+    followed_more made more grows x f = (f.0, grows f.0 f.1, f.2, f.3)
+
+    answered_by : (made : List SentTransfer) (heard : List Queued) (step : ℕ) → IsHeard made heard step → (x : SentTransfer) → IsCallTo x → IsFollowed made x
+        → IsAnsweredSince made heard x
+    answered_by made heard step h x call f = record {
       later = h.later;
       was_made = h.was_made;
-      after = h.last x i call;
+      after = omega (arith, h.last f.0 f.1 f.2, f.3);
       answer = h.answer;
       came = h.came;
       is = h.response x call;
@@ -184,7 +194,7 @@ module _ (append : Bool) (p width : ℕ) (P : ℕ → ℕ → Memory → Times �
 
     -- ---- a step of the member
 
-    module _ (short : HoldsAreShort limits) (wide : 21000 ≤ width) (narrow : width ≤ 32000) (made : List SentTransfer) (heard further : List Queued)
+    module _ (short : HoldsAreShort limits) (wide : 20000 ≤ width) (made : List SentTransfer) (heard further : List Queued)
         (hears : (f : Queued) → In f heard → In f further) (past : List Reading) (rows came : ℕ) (its_time : time_of all (rows + 1) ≡ came)
         (earlier : (x : SentTransfer) → In x made → x.step ≤ rows) (t : AllocatorState) (runs : Runs made heard past t)
         (settled : AreSettled made heard) (event : Event)
@@ -202,28 +212,30 @@ module _ (append : Bool) (p width : ℕ) (P : ℕ → ℕ → Memory → Times �
       abbrev later_past : List Reading
       later_past = record { at = came; now = max t.now (moment_of event) } ∷ past
 
-      -- a call that waits, where the event is no answer to it
-      pub record Past (id M : ℕ) : Type 0 where
+      -- a call behind which so many were made, none where the event is an answer
+      pub record Past (id M b : ℕ) : Type 0 where
         pub x : SentTransfer
         pub there : In x made
         pub call : IsCallTo x
         pub same : x.offer.id ≡ id
-        pub waits : Waits past t x
+        pub waits : Waits made past t x
         pub moment : waits.moment ≡ M
-        pub silent : Answers event begun.allocator → ⊥
+        pub more : waits.more ≡ b
+        pub silent : Answers event begun.allocator → b ≡ 0
 
       opened : Open append p width P is number runs.opening.now Past t.raft_server.memory t.times t.ids t.now
       opened = record {
         wait = runs.wait;
         awake = runs.awake;
         room = runs.room;
-        past = λ id M i. subst (λ (k : ℕ). Since append p P k M t.raft_server.memory t.times t.ids t.now) i.same
-            (subst (λ (k : ℕ). Since append p P i.x.offer.id k t.raft_server.memory t.times t.ids t.now) i.moment i.waits.since);
+        past = λ id M b i. subst (λ (k : ℕ). Since append p P k M b t.raft_server.memory t.times t.ids t.now) i.same
+            (subst (λ (k : ℕ). Since append p P i.x.offer.id k b t.raft_server.memory t.times t.ids t.now) i.moment
+            (subst (λ (k : ℕ). Since append p P i.x.offer.id i.waits.moment k t.raft_server.memory t.times t.ids t.now) i.more i.waits.since));
       }
 
       quiet : (e : Event) → event ≡ e → IsQuietAt append p width P is number runs.opening.now Past e begun
       quiet (Ticks now word) e = tt
-      quiet (Receives arrival) e = λ d gives answers id M i. i.silent (subst (λ (x : Event). Answers x begun.allocator) (sym e) (d, gives, answers))
+      quiet (Receives arrival) e = λ d gives answers id M b i. i.silent (subst (λ (x : Event). Answers x begun.allocator) (sym e) (d, gives, answers))
 
       called : Called append p width P is number runs.opening.now Past g.allocator.raft_server.memory g.allocator.times g.allocator.ids g.allocator.now g.offers
       called = calls_of_a_step append p width P is number runs.opening.now Past t event opened (quiet event refl)
@@ -246,37 +258,73 @@ module _ (append : Bool) (p width : ℕ) (P : ℕ → ℕ → Memory → Times �
       now_is : g.allocator.now ≡ max t.now (moment_of event)
       now_is = now_of_a_step t number event
 
+      -- a call of this step follows each earlier one
+      follows : (x : SentTransfer) → In x made → IsMade append p width P is number runs.opening.now Past g.offers → IsFollowed more x
+      follows x i is_made = (
+        made_by number n is_made.0,
+        newly_made number n g.offers made is_made.0 is_made.1 is_made.2.fitted,
+        record { by = refl; what = is_made.2.what; to = is_made.2.to },
+        omega (arith, earlier x i),
+      )
+
+      -- an answer that is heard ends what waited, but for the last call
+      decided : (x : SentTransfer) → In x made → IsCallTo x → (w : Waits made past t x)
+          → IsAnsweredSince more further x ⊎ (Answers event begun.allocator → w.more ≡ 0)
+      decided x i call w = elim (event_is event begun.allocator) [ inr silent ↦ inr (λ answers. absurd (silent answers)) | inl answers ↦ by answers w.more refl ]
+        where
+          by : Answers event begun.allocator → (b : ℕ) → w.more ≡ b → IsAnsweredSince more further x ⊎ (Answers event begun.allocator → w.more ≡ 0)
+          by answers zero e = inr (λ a. e)
+          by answers (suc b) e =
+              inl (answered_more made more further further grows (λ f j. j) x (answered_by made further number (heard_it answers) x call (w.followed (omega (arith, e)))))
+
+      past_of : (x : SentTransfer) → In x made → IsCallTo x → (w : Waits made past t x) → (Answers event begun.allocator → w.more ≡ 0)
+          → Past x.offer.id w.moment w.more
+      past_of x i call w silent = record { x = x; there = i; call = call; same = refl; waits = w; moment = refl; more = refl; silent = silent }
+
       pub runs_then : Runs more further later_past g.allocator
       runs_then = record {
-        wait = called.opened.wait;
-        room = called.opened.room;
+        wait = called.wait;
+        room = called.room;
         opening = runs.opening;
         reading = inr runs.reading;
-        awake = called.opened.awake;
+        awake = called.awake;
         each = λ x i call. by x call (made_when number n g.offers made x i);
       }
         where
-          old : (x : SentTransfer) → In x made → IsCallTo x → IsEnded made heard runs.opening.at x ⊎ Waits past t x
-              → Answers event begun.allocator ⊎ (Answers event begun.allocator → ⊥) → IsEnded more further runs.opening.at x ⊎ Waits later_past g.allocator x
-          old x i call (inl (inl a)) decided = inl (inl (answered_more made more heard further grows hears x a))
-          old x i call (inl (inr rested)) decided = inl (inr rested)
-          old x i call (inr w) (inl answers) =
-              inl (inl (answered_more made more further further grows (λ f j. j) x (answered_by made further number (heard_it answers) x i call)))
-          old x i call (inr w) (inr silent) = inr (record {
+          goes_on : (x : SentTransfer) → In x made → IsCallTo x → (w : Waits made past t x) → (Answers event begun.allocator → w.more ≡ 0)
+              → Waits more later_past g.allocator x
+          goes_on x i call w silent = record {
             moment = w.moment;
             reading = inr w.reading;
-            since = called.opened.past x.offer.id w.moment
-                (record { x = x; there = i; call = call; same = refl; waits = w; moment = refl; silent = silent });
-          })
+            more = counted.more;
+            since = counted.since;
+            followed = by counted.made;
+          }
+            where
+              counted : Counted append p width P is number runs.opening.now Past x.offer.id w.moment w.more
+                  g.allocator.raft_server.memory g.allocator.times g.allocator.ids g.allocator.now g.offers
+              counted = called.past x.offer.id w.moment w.more (past_of x i call w silent)
 
-          by : (x : SentTransfer) → IsCallTo x → In x made ⊎ IsNew number n g.offers x → IsEnded more further runs.opening.at x ⊎ Waits later_past g.allocator x
-          by x call (inl i) = old x i call (runs.each x i call) (event_is event begun.allocator)
+              by : (counted.more ≡ w.more) ⊎ IsMade append p width P is number runs.opening.now Past g.offers → 1 ≤ counted.more → IsFollowed more x
+              by (inl same) some = followed_more made more grows x (w.followed (omega (arith, some, same)))
+              by (inr is_made) some = follows x i is_made
+
+          old : (x : SentTransfer) → In x made → IsCallTo x → IsEnded made heard runs.opening.at x ⊎ Waits made past t x
+              → IsEnded more further runs.opening.at x ⊎ Waits more later_past g.allocator x
+          old x i call (inl (inl a)) = inl (inl (answered_more made more heard further grows hears x a))
+          old x i call (inl (inr rested)) = inl (inr rested)
+          old x i call (inr w) = elim (decided x i call w) [ inl a ↦ inl (inl a) | inr silent ↦ inr (goes_on x i call w silent) ]
+
+          by : (x : SentTransfer) → IsCallTo x → In x made ⊎ IsNew number n g.offers x → IsEnded more further runs.opening.at x ⊎ Waits more later_past g.allocator x
+          by x call (inl i) = old x i call (runs.each x i call)
           by x call (inr new) = inr (record {
             moment = g.allocator.now;
             reading = inl (ap (λ (k : ℕ). record { at = time_of all k; now = g.allocator.now }) (ap (λ (y : SentTransfer). y.step) new.is)
                 ∙ (ap (λ (k : ℕ). record { at = k; now = g.allocator.now }) its_time ∙ ap (λ (k : ℕ). record { at = came; now = k }) now_is));
-            since = subst (λ (o : Offer). Since append p P o.id g.allocator.now g.allocator.raft_server.memory g.allocator.times g.allocator.ids g.allocator.now)
+            more = 0;
+            since = subst (λ (o : Offer). Since append p P o.id g.allocator.now 0 g.allocator.raft_server.memory g.allocator.times g.allocator.ids g.allocator.now)
                 (ap (λ (y : SentTransfer). y.offer) (sym new.is)) (called.own new.offer new.offered (new_call x new call));
+            followed = λ some. absurd (omega (arith, some));
           })
 
       pub settled_then : AreSettled more further
@@ -285,7 +333,7 @@ module _ (append : Bool) (p width : ℕ) (P : ℕ → ℕ → Memory → Times �
         step_of z new = ap (λ (y : SentTransfer). y.step) new.is
 
         -- so much went by on the member's clock, and so on a true one
-        far : (w : Waits past t x) → w.moment + width ≤ g.allocator.now → time_of all x.step + 2 * limits.hold < came
+        far : (w : Waits made past t x) → w.moment + width ≤ g.allocator.now → time_of all x.step + 2 * limits.hold < came
         far w passed = elim (leb_tells came (time_of all x.step + 60000)) [
           | inr long ↦ omega (arith, long.1, short.round)
           | inl soon ↦ omega (arith, slow (record { at = time_of all x.step; now = w.moment }) w.reading soon.1, passed, now_is, short.round, wide)
@@ -301,20 +349,18 @@ module _ (append : Bool) (p width : ℕ) (P : ℕ → ℕ → Memory → Times �
         at_step : IsNew number n g.offers y → time_of all x.step + 2 * limits.hold < came → time_of all x.step + 2 * limits.hold < time_of all y.step
         at_step new passed = subst (λ (m : ℕ). time_of all x.step + 2 * limits.hold < m) (sym its_time ∙ ap (time_of all) (sym (step_of y new))) passed
 
-        old : In x made → IsNew number n g.offers y → IsEnded made heard runs.opening.at x ⊎ Waits past t x
-            → Answers event begun.allocator ⊎ (Answers event begun.allocator → ⊥) → IsSettled more further x y
-        old k new (inl (inl a)) decided = inr (answered_more made more heard further grows hears x a)
-        old k new (inl (inr rested)) decided = inl (at_step new (far_after_rest rested (called.over new.offer new.offered (new_call y new called_too))))
-        old k new (inr w) (inl answers) =
-            inr (answered_more made more further further grows (λ f l. l) x (answered_by made further number (heard_it answers) x k call))
-        old k new (inr w) (inr silent) =
-            inl (at_step new (far w (called.far x.offer.id w.moment
-            (record { x = x; there = k; call = call; same = refl; waits = w; moment = refl; silent = silent })
-            new.offer new.offered (new_call y new called_too) (ap (λ (z : SentTransfer). z.offer.id) (sym new.is) ∙ sym id))))
+        old : In x made → IsNew number n g.offers y → IsEnded made heard runs.opening.at x ⊎ Waits made past t x → IsSettled more further x y
+        old k new (inl (inl a)) = inr (answered_more made more heard further grows hears x a)
+        old k new (inl (inr rested)) = inl (at_step new (far_after_rest rested (called.over new.offer new.offered (new_call y new called_too))))
+        old k new (inr w) = elim (decided x k call w) [
+          | inl a ↦ inr a
+          | inr silent ↦ inl (at_step new (far w (called.far x.offer.id w.moment w.more (past_of x k call w silent)
+              new.offer new.offered (new_call y new called_too) (ap (λ (z : SentTransfer). z.offer.id) (sym new.is) ∙ sym id))))
+        ]
 
         by : In x made ⊎ IsNew number n g.offers x → In y made ⊎ IsNew number n g.offers y → IsSettled more further x y
         by (inl k) (inl l) = settled_more made more heard further grows hears x y (settled x y k l call called_too id less)
-        by (inl k) (inr new) = old k new (runs.each x k call) (event_is event begun.allocator)
+        by (inl k) (inr new) = old k new (runs.each x k call)
         by (inr new) (inl l) = absurd (omega (arith, less, step_of x new, earlier y l))
         by (inr new) (inr other) = absurd (omega (arith, less, step_of x new, step_of y other))
 
@@ -342,10 +388,16 @@ module _ (append : Bool) (p width : ℕ) (P : ℕ → ℕ → Memory → Times �
           each = λ x i c. by x (r.each x (only x i c) c);
         }
           where
-            by : (x : SentTransfer) → IsEnded made heard r.opening.at x ⊎ Waits past t x → IsEnded more further r.opening.at x ⊎ Waits past t x
+            by : (x : SentTransfer) → IsEnded made heard r.opening.at x ⊎ Waits made past t x → IsEnded more further r.opening.at x ⊎ Waits more past t x
             by x (inl (inl a)) = inl (inl (answered_more made more heard further grows hears x a))
             by x (inl (inr rested)) = inl (inr rested)
-            by x (inr v) = inr v
+            by x (inr v) = inr (record {
+              moment = v.moment;
+              reading = v.reading;
+              more = v.more;
+              since = v.since;
+              followed = λ some. followed_more made more grows x (v.followed some);
+            })
 
         -- its status stays
         still : (status : MemberStatus) → ((u : AllocatorState) → status ≡ Up u → (w.member n).status ≡ Up u) → Next more further past status
@@ -424,7 +476,7 @@ module _ (append : Bool) (p width : ℕ) (P : ℕ → ℕ → Memory → Times �
               | inr new ↦ absurd (other (ap (λ (z : SentTransfer). z.by) (sym new.is) ∙ c.by))
             ]) (w.member n).status (λ u up. up)
 
-      module _ (short : HoldsAreShort limits) (wide : 21000 ≤ width) (narrow : width ≤ 32000) (event : Event) (further : List Queued)
+      module _ (short : HoldsAreShort limits) (wide : 20000 ≤ width) (event : Event) (further : List Queued)
           (hears : (f : Queued) → In f heard → In f further) where
         stepped_own : (status : MemberStatus) → (w.member n).status ≡ status → IsNotFast limits past came (now_in status (moment_of event))
             → ((t : AllocatorState) → status ≡ Up t → Answers event (begin_phase (w.rows + 1) (moment_of event) t).allocator → IsHeard made further (w.rows + 1))
@@ -455,8 +507,8 @@ module _ (append : Bool) (p width : ℕ) (P : ℕ → ℕ → Memory → Times �
               else after_cut_off (w.member n) (w.rows + 1) t g (puts_on (puts_of (w.member n) g) (w.member n).disk)).status
           by true = record {
             running = λ u up. subst (λ (v : AllocatorState). Runs (transfers_of_offers (w.rows + 1) n g.offers made) further reads v) (one_up g.allocator u up)
-                (runs_then short wide narrow made heard further hears past w.rows came its_time earlier t (runs t is_it) settled event slow (answered t refl));
-            apart = settled_then short wide narrow made heard further hears past w.rows came its_time earlier t (runs t is_it) settled event slow (answered t refl);
+                (runs_then short wide made heard further hears past w.rows came its_time earlier t (runs t is_it) settled event slow (answered t refl));
+            apart = settled_then short wide made heard further hears past w.rows came its_time earlier t (runs t is_it) settled event slow (answered t refl);
           }
           by false = record {
             running = λ u up. absurd (cut u (puts_on (puts_of (w.member n) g) (w.member n).disk).calls.stopped _ (λ v f. absurd (cc (f))) up);
@@ -465,7 +517,7 @@ module _ (append : Bool) (p width : ℕ) (P : ℕ → ℕ → Memory → Times �
 
       -- ---- a row
 
-      module _ (short : HoldsAreShort limits) (wide : 21000 ≤ width) (narrow : width ≤ 32000) (row : Row) (its_row : row_of all (w.rows + 1) ≡ row)
+      module _ (short : HoldsAreShort limits) (wide : 20000 ≤ width) (row : Row) (its_row : row_of all (w.rows + 1) ≡ row)
           (slow : ReadsAt (IsNotFast limits) n past w came row)
           (answered : (k ms : ℕ) → row ≡ Rx n k ms → (t : AllocatorState) → (w.member n).status ≡ Up t
           → Answers (receipt_of w k ms) (begin_phase (w.rows + 1) ms t).allocator → IsHeard made (heard ++ heard_in n w row) (w.rows + 1)) where
@@ -484,7 +536,7 @@ module _ (append : Bool) (p width : ℕ) (P : ℕ → ℕ → Memory → Times �
             subst (λ (k : ℕ). IsNotFast limits past came (now_in (w.member k).status ms)
             → Next (transfers_of_step (w.rows + 1) k (tick_of ms word) (w.member k).status (w.member k) made) (heard ++ [])
             (record { at = came; now = now_in (w.member k).status ms } ∷ past) (member_after_step (w.rows + 1) (tick_of ms word) (w.member k).status (w.member k)).status)
-            (is_same m e) (λ s. stepped_own short wide narrow (tick_of ms word) (heard ++ []) (λ f i. in_front f heard [] i) (w.member n).status refl s (λ t up a. absurd a)) slow_
+            (is_same m e) (λ s. stepped_own short wide (tick_of ms word) (heard ++ []) (λ f i. in_front f heard [] i) (w.member n).status refl s (λ t up a. absurd a)) slow_
 
         rx_row : (m k ms : ℕ) → row ≡ Rx m k ms → (same : Bool) → (n == m) ≡ same → WhereIts same (IsNotFast limits past came (now_in (w.member m).status ms))
             → Next (transfers_of_step (w.rows + 1) m (receipt_of w k ms) (w.member m).status (w.member m) made) (heard ++ (if same then frame_at w.frames k ∷ [] else []))
@@ -495,7 +547,7 @@ module _ (append : Bool) (p width : ℕ) (P : ℕ → ℕ → Memory → Times �
             subst (λ (j : ℕ). row ≡ Rx j k ms → IsNotFast limits past came (now_in (w.member j).status ms)
             → Next (transfers_of_step (w.rows + 1) j (receipt_of w k ms) (w.member j).status (w.member j) made) (heard ++ frame_at w.frames k ∷ [])
             (record { at = came; now = now_in (w.member j).status ms } ∷ past) (member_after_step (w.rows + 1) (receipt_of w k ms) (w.member j).status (w.member j)).status)
-            (is_same m e) (λ r_ s. stepped_own short wide narrow (receipt_of w k ms) (heard ++ frame_at w.frames k ∷ [])
+            (is_same m e) (λ r_ s. stepped_own short wide (receipt_of w k ms) (heard ++ frame_at w.frames k ∷ [])
             (λ f i. in_front f heard (frame_at w.frames k ∷ []) i) (w.member n).status refl s
             (λ t up a. subst (λ (l : List Queued). IsHeard made (heard ++ l) (w.rows + 1)) (ap (λ (x : Row). heard_in n w x) r_ ∙ itself k)
             (answered k ms r_ t up a))) r slow_
@@ -525,9 +577,16 @@ module _ (append : Bool) (p width : ℕ) (P : ℕ → ℕ → Memory → Times �
                   each = λ x i c. popped r.opening.at x (r.each x i c);
                 })
               where
-                popped : (at : ℕ) (x : SentTransfer) → IsEnded made (heard ++ []) at x ⊎ Waits past t x → IsEnded made (heard ++ []) at x ⊎ Waits past (after_pop t) x
+                popped : (at : ℕ) (x : SentTransfer) → IsEnded made (heard ++ []) at x ⊎ Waits made past t x
+                    → IsEnded made (heard ++ []) at x ⊎ Waits made past (after_pop t) x
                 popped at x (inl e) = inl e
-                popped at x (inr v) = inr (record { moment = v.moment; reading = v.reading; since = v.since })
+                popped at x (inr v) = inr (record {
+                  moment = v.moment;
+                  reading = v.reading;
+                  more = v.more;
+                  since = record { spaced = v.since.spaced; next = v.since.next };
+                  followed = v.followed;
+                })
 
         crash_row : (m calls : ℕ) (pattern : Pattern) (same : Bool) → (n == m) ≡ same
             → Next made (heard ++ []) past (if same then after_crash calls pattern (w.member m) else w.member n).status
@@ -604,7 +663,7 @@ module _ (append : Bool) (p width : ℕ) (P : ℕ → ℕ → Memory → Times �
     sent_by_rows [] w made x i = i
     sent_by_rows (row ∷ rows) w made x i = sent_by_rows rows (after_row w row) (transfers_of_row w row made) x (sent_by_row w row made x i)
 
-    module _ (short : HoldsAreShort limits) (wide : 21000 ≤ width) (narrow : width ≤ 32000) (ids : List ℕ)
+    module _ (short : HoldsAreShort limits) (wide : 20000 ≤ width) (ids : List ℕ)
         (known : (rows : List Row) → AreLawful (cluster ids) rows → Known (world_of ids rows) (transfers_of_rows (cluster ids) rows [])) where
       pub along : (rest done tail : List Timed) (w : Cluster) (made : List SentTransfer) (heard : List Queued) (past : List Reading)
           → world_of ids (rows_in done) ≡ w → transfers_of_rows (cluster ids) (rows_in done) [] ≡ made → all ≡ done ++ (rest ++ tail) → w.rows ≡ length done
@@ -658,5 +717,5 @@ module _ (append : Bool) (p width : ℕ) (P : ℕ → ℕ → Memory → Times �
 
           next : Next w made heard past t.at (ap (λ (x : Timed). x.at) itself) here.earlier rests_here runs settled (transfers_of_row w t.row made) (heard ++ heard_in n w t.row)
               (member_readings n past w t.at t.row) ((after_row w t.row).member n).status
-          next = next_row w made heard past t.at (ap (λ (x : Timed). x.at) itself) here.earlier rests_here runs settled short wide narrow t.row (ap (λ (x : Timed). x.row) itself) slow.0
+          next = next_row w made heard past t.at (ap (λ (x : Timed). x.at) itself) here.earlier rests_here runs settled short wide t.row (ap (λ (x : Timed). x.row) itself) slow.0
               (λ k ms e u up a. here.answered t.row lawful.0 heard k ms e u up a)

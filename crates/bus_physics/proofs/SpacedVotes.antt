@@ -351,13 +351,13 @@ module _ (p M : ℕ) where
     first : M ≡ now → Asked 0 (memory_after members me number server (CallForVote p)) (times_after members me given server (CallForVote p) times) now
     first e = by_call 0 0 0 (M + 1000) refl (omega arith) (inr (refl, refl)) (omega (arith, e)) (omega (arith, e))
 
-  round : (b : ℕ) (m : Memory) (times : Times) (now : ℕ) → Asked b m times now → m.role ≡ Candidate → m.pending p ≡ None → 31 ≤ b → M + 21000 ≤ now
+  round : (b : ℕ) (m : Memory) (times : Times) (now : ℕ) → Asked b m times now → m.role ≡ Candidate → m.pending p ≡ None → 30 ≤ b → M + 20000 ≤ now
   round b m times now o role none many =
       let s = o.candidate role in
       omega (arith, s.start, s.free none, one_by_one s.before s.own, ap least s.sum, many)
 
--- vote requests to a node that does not answer come round after 21 s
-pub spaced_votes : (p : ℕ) → IsSpaced false p 21000 (λ M b m times now. Asked p M b m times now)
+-- 31 vote requests to a node that does not answer take 20 s
+pub spaced_votes : (p : ℕ) → IsSpaced false p 20000 (λ M b m times now. Asked p M b m times now)
 spaced_votes p = record {
   later = λ M b m times now then_ less o. later p M b m times now then_ less o;
   moves = λ M b server times now o members me number given is move reason. any_move p M b server times now o members me number given is move reason;
@@ -384,6 +384,6 @@ spaced_votes p = record {
         (sym own.2) (first p now server times now members me number given is own.0 refl)
     begins server times now low members me number given is move own = absurd own
 
-    far : (M b : ℕ) (m : Memory) (times : Times) (now : ℕ) → Asked p M b m times now → (move : Move) → IsOwnCall false p m move → 31 ≤ b → M + 21000 ≤ now
+    far : (M b : ℕ) (m : Memory) (times : Times) (now : ℕ) → Asked p M b m times now → (move : Move) → IsOwnCall false p m move → 30 ≤ b → M + 20000 ≤ now
     far M b m times now o (CallForVote q) own many = round p M b m times now o own.0 (ap m.pending (sym own.2) ∙ own.1) many
     far M b m times now o move own many = absurd own

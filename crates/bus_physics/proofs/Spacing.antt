@@ -366,8 +366,8 @@ module _ (p M : ℕ) where
       the_sending : (x y : Sending) → Some x ≡ Some y → x ≡ y
       the_sending x y e = cc (e)
 
--- append requests to a node that does not answer come round after 32 s
-pub spaced_appends : (p : ℕ) → IsSpaced true p 32000 (λ M b m times now. Open p M b m times now)
+-- 31 append requests to a node that does not answer take 31 s
+pub spaced_appends : (p : ℕ) → IsSpaced true p 31000 (λ M b m times now. Open p M b m times now)
 spaced_appends p = record {
   later = λ M b m times now then_ less o. later p M b m times now then_ less o;
   moves = λ M b server times now o members me number given is move reason. any_move p M b server times now o members me number given is move reason;
@@ -396,6 +396,6 @@ spaced_appends p = record {
         (sym own.2) (first p now server times now refl low members me number given is previous with_entry own.0)
     begins server times now low members me number given is move own = absurd own
 
-    far : (M b : ℕ) (m : Memory) (times : Times) (now : ℕ) → Open p M b m times now → (move : Move) → IsOwnCall true p m move → 31 ≤ b → M + 32000 ≤ now
+    far : (M b : ℕ) (m : Memory) (times : Times) (now : ℕ) → Open p M b m times now → (move : Move) → IsOwnCall true p m move → 30 ≤ b → M + 31000 ≤ now
     far M b m times now o (CallToAppend q previous with_entry) own many = omega (arith, o.leader own.0 (ap m.pending (sym own.2) ∙ own.1), many)
     far M b m times now o move own many = absurd own

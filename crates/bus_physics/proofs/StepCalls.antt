@@ -1,6 +1,6 @@
 -- Calls of a member to a node that does not answer them: what a step keeps of how far apart they are.
-use Rattle.std.proofs.Common.{◌≡◌, ◌≢◌, ℕ, suc, ◌+◌, ◌<◌, ◌≤◌, Bool, true, false, List, [], ◌∷◌, ◌++◌, length, refl, sym, ap, subst, ◌∙◌, arith, ◌⊎◌, inl, inr, Option, Some, None, drop, get_or-set_other, get_or-set_same, length-set}
-use Rattle.std.specs.Prelude.{⊤, ◌-◌, ◌%◌, ◌==◌, ◌&&◌, ◌||◌, max, not, nat_eq, nat_le, nat_lt, slice_index, slice_index_or, slice_set, if◌then◌else◌}
+use Rattle.std.proofs.Common.{◌≡◌, ◌≢◌, ℕ, zero, suc, ◌+◌, ◌<◌, ◌≤◌, Bool, true, false, List, [], ◌∷◌, ◌++◌, length, refl, sym, ap, subst, ◌∙◌, arith, ◌⊎◌, inl, inr, Option, Some, None, drop, get_or-set_other, get_or-set_same, length-set}
+use Rattle.std.specs.Prelude.{⊤, ◌-◌, ◌%◌, ◌==◌, ◌&&◌, ◌||◌, max, not, nat_eq, nat_le, nat_lt, slice_index, slice_index_or, slice_set, is_some, if◌then◌else◌}
 use Rattle.std.proofs.lemmas.Bool.Decides.{eqb_tells}
 use Rattle.alloc_exchange.specs.declared.heard.Heard.{Heard}
 use Rattle.alloc_exchange.specs.declared.heard.Heard.TheVariants.{Denied, FollowUp, Ignored, Whole}
@@ -59,7 +59,7 @@ use Rattle.alloc_spec_laws.proofs.EndOffers.{tells as told_offers}
 use Rattle.alloc_spec_laws.proofs.Lists.{in_append}
 use Rattle.alloc_spec.proofs.Blanks.{adds_blank, move_with_blank, tick_with_blank}
 use Rattle.bus_agreement.specs.Said.{carrier}
-use Rattle.bus_agreement.proofs.Lists.{never, tell}
+use Rattle.bus_agreement.proofs.Lists.{in_back, in_front, never, tell}
 use Rattle.alloc_spec_laws.proofs.Transfers.{event_offers}
 use Rattle.bus_physics.proofs.Waking.{HasWaited, IsAwake, awake_after, awake_later, moved_since}
 
@@ -89,7 +89,7 @@ IsOwnCall false p m (CallForVote q) = (m.role ≡ Candidate) × (m.pending q ≡
 IsOwnCall append p m move = ⊥
 
 -- So far apart are calls: P says that since a call at moment M so many more were made, and none was answered. Where they
--- are 31 or more, and another one is made, so much time has passed.
+-- are 30 or more, and another one is made, so much time has passed.
 pub record IsSpaced (append : Bool) (p width : ℕ) (P : ℕ → ℕ → Memory → Times → ℕ → Type 0) : Type 0 where
   pub later : (M b : ℕ) (m : Memory) (times : Times) (now then_ : ℕ) → now ≤ then_ → P M b m times now → P M b m times then_
   pub moves : (M b : ℕ) (server : RaftServer) (times : Times) (now : ℕ) → P M b server.memory times now → (members : List ℕ) (me number : ℕ)
@@ -101,7 +101,7 @@ pub record IsSpaced (append : Bool) (p width : ℕ) (P : ℕ → ℕ → Memory 
   pub begins : (server : RaftServer) (times : Times) (now : ℕ) → times.since ≤ now → (members : List ℕ) (me number : ℕ)
       (given : HandedIn) → given.now ≡ now → (move : Move) → IsOwnCall append p server.memory move
       → P now 0 (memory_after members me number server move) (times_after members me given server move times) now
-  pub far : (M b : ℕ) (m : Memory) (times : Times) (now : ℕ) → P M b m times now → (move : Move) → IsOwnCall append p m move → 31 ≤ b → M + width ≤ now
+  pub far : (M b : ℕ) (m : Memory) (times : Times) (now : ℕ) → P M b m times now → (move : Move) → IsOwnCall append p m move → 30 ≤ b → M + width ≤ now
 
 -- ---- of these moves a member stands for election only after the least wait, and a follower makes no call
 
@@ -210,20 +210,25 @@ awaited_call false (Some call) (Some sending) id e request is = ap (λ (r : Requ
 
 -- ---- along a step
 
+-- Since a call at moment M so many were made, and none of these was answered: P is so of the first of them. Of the call
+-- itself nothing is said; it may be answered, and more than once.
+abbrev pub Behind : (ℕ → ℕ → Memory → Times → ℕ → Type 0) → ℕ → ℕ → Memory → Times → ℕ → Type 0
+Behind P M zero m times now = M ≤ now
+Behind P M (suc b) m times now = (first : ℕ) × (M ≤ first) × P first b m times now
+
 -- since a call at moment M under a transfer ID so many were made, by the transfer ID that comes next
-pub record Since (append : Bool) (p : ℕ) (P : ℕ → ℕ → Memory → Times → ℕ → Type 0) (id M : ℕ) (m : Memory) (times : Times) (ids : Ids) (now : ℕ) : Type 0 where
-  pub more : ℕ
-  pub spaced : P M more m times now
+pub record Since (append : Bool) (p : ℕ) (P : ℕ → ℕ → Memory → Times → ℕ → Type 0) (id M more : ℕ) (m : Memory) (times : Times) (ids : Ids) (now : ℕ) : Type 0 where
+  pub spaced : Behind P M more m times now
   pub next : slice_index (ids_to append ids) p ≡ (id + 1 + more) % 32
 
 -- the member was opened at this moment
 module _ (append : Bool) (p width : ℕ) (P : ℕ → ℕ → Memory → Times → ℕ → Type 0) (is : IsSpaced append p width P) (number opening : ℕ)
-    (Past : ℕ → ℕ → Type 0) where
+    (Past : ℕ → ℕ → ℕ → Type 0) where
   pub record Open (m : Memory) (times : Times) (ids : Ids) (now : ℕ) : Type 0 where
     pub wait : times.since ≤ now
     pub awake : IsAwake opening m times now
     pub room : p < length (ids_to append ids)
-    pub past : (id M : ℕ) → Past id M → Since append p P id M m times ids now
+    pub past : (id M b : ℕ) → Past id M b → Since append p P id M b m times ids now
 
   abbrev pub Opens : StepState → Type 0
   Opens g = Open g.allocator.raft_server.memory g.allocator.times g.allocator.ids g.allocator.now
@@ -231,16 +236,17 @@ module _ (append : Bool) (p width : ℕ) (P : ℕ → ℕ → Memory → Times �
   abbrev Shows : StepResult → Type 0
   Shows step_result = Opens step_result.step_state
 
-  same_ids : (id M : ℕ) (m : Memory) (times : Times) (ids then_ : Ids) (now : ℕ)
-      → slice_index (ids_to append then_) p ≡ slice_index (ids_to append ids) p → Since append p P id M m times ids now → Since append p P id M m times then_ now
-  same_ids id M m times ids then_ now e c = record { more = c.more; spaced = c.spaced; next = e ∙ c.next }
+  same_ids : (id M b : ℕ) (m : Memory) (times : Times) (ids then_ : Ids) (now : ℕ)
+      → slice_index (ids_to append then_) p ≡ slice_index (ids_to append ids) p → Since append p P id M b m times ids now → Since append p P id M b m times then_ now
+  same_ids id M b m times ids then_ now e c = record { spaced = c.spaced; next = e ∙ c.next }
 
+  -- a move needs a reason only where a call was made since
   since_moved : (server : RaftServer) (times : Times) (ids : Ids) (now : ℕ) (members : List ℕ) (me : ℕ) (given : HandedIn) → given.now ≡ now → (move : Move)
-      → IsReason append p server times now move → (id M : ℕ) → Since append p P id M server.memory times ids now
-      → Since append p P id M (memory_after members me number server move) (times_after members me given server move times) ids now
-  since_moved server times ids now members me given e move reason id M c = record {
-    more = c.more;
-    spaced = is.moves M c.more server times now c.spaced members me number given e move reason;
+      → (id M b : ℕ) → (1 ≤ b → IsReason append p server times now move) → Since append p P id M b server.memory times ids now
+      → Since append p P id M b (memory_after members me number server move) (times_after members me given server move times) ids now
+  since_moved server times ids now members me given e move id M zero reason c = record { spaced = c.spaced; next = c.next }
+  since_moved server times ids now members me given e move id M (suc b) reason c = record {
+    spaced = (c.spaced.0, c.spaced.1, is.moves c.spaced.0 b server times now c.spaced.2 members me number given e move (reason (omega arith)));
     next = c.next;
   }
 
@@ -251,7 +257,7 @@ module _ (append : Bool) (p width : ℕ) (P : ℕ → ℕ → Memory → Times �
     wait = moved_since members me number now given e server times k.wait move;
     awake = awake_after opening members me number now given e server times k.wait move (waited_by append p server times now move reason) k.awake;
     room = k.room;
-    past = λ id M i. since_moved server times ids now members me given e move reason id M (k.past id M i);
+    past = λ id M b i. since_moved server times ids now members me given e move id M b (λ some. reason) (k.past id M b i);
   }
 
   -- a transfer of another kind
@@ -261,9 +267,9 @@ module _ (append : Bool) (p width : ℕ) (P : ℕ → ℕ → Memory → Times �
     wait = k.wait;
     awake = k.awake;
     room = subst (λ (l : List ℕ). p < length l) (sym (counted (has_room g.allocator.queue payload))) k.room;
-    past = λ id M i. same_ids id M g.allocator.raft_server.memory g.allocator.times g.allocator.ids
+    past = λ id M b i. same_ids id M b g.allocator.raft_server.memory g.allocator.times g.allocator.ids
         (counted_if (has_room g.allocator.queue payload) what to g.allocator.ids) g.allocator.now
-        (ap (λ (l : List ℕ). slice_index l p) (counted (has_room g.allocator.queue payload))) (k.past id M i);
+        (ap (λ (l : List ℕ). slice_index l p) (counted (has_room g.allocator.queue payload))) (k.past id M b i);
   }
     where
       counted : (fitted : Bool) → ids_to append (counted_if fitted what to g.allocator.ids) ≡ ids_to append g.allocator.ids
@@ -464,12 +470,12 @@ module _ (append : Bool) (p width : ℕ) (P : ℕ → ℕ → Memory → Times �
       (λ e. read (takes_vote_request number d) (vote_request_of d.payload) g k (λ says.
       either Opens (is_listed d g.allocator) _ g (λ e. voted d (asked_vote says d.mark.step d.ident.source g.allocator.me) g k) (λ e. k))))
 
-  -- an answer of this service: of node p to the calls in question there is none, or none of them counts any more
+  -- an answer of this service: where it is one of node p to the calls in question, none was made behind those that count
   call_ends : (own : Bool) (d : Delivery) (take : Request → Move) → ((call : Request) (times : Times) (now : ℕ) → HasWaited times now (take call)) → (g : StepState)
       → is_awaited g.allocator.raft_server g.allocator.times d.ident.source own d.id ≡ true
       → ((call : Request) (server : RaftServer) (times : Times) (now : ℕ) → server.memory.pending d.ident.source ≡ Some call → call.append ≡ own
       → (append ≡ own → (p == d.ident.source) ≡ false) → IsReason append p server times now (take call))
-      → (append ≡ own → (p == d.ident.source) ≡ true → (id M : ℕ) → Past id M → ⊥)
+      → (append ≡ own → (p == d.ident.source) ≡ true → (id M b : ℕ) → Past id M b → b ≡ 0)
       → Opens g → Opens (answers_call number take (g.allocator.raft_server.memory.pending d.ident.source) g)
   call_ends own d take idle g awaited reason quiet k = by (g.allocator.raft_server.memory.pending d.ident.source) refl where
     by : (pending : Option Request) → g.allocator.raft_server.memory.pending d.ident.source ≡ pending → Opens (answers_call number take pending g)
@@ -486,16 +492,19 @@ module _ (append : Bool) (p width : ℕ) (P : ℕ → ℕ → Memory → Times �
           awake = awake_after opening (members_of g.allocator) g.allocator.me number g.allocator.now (given_at g.allocator.now) refl g.allocator.raft_server
               g.allocator.times k.wait (take call) (idle call g.allocator.times g.allocator.now) k.awake;
           room = k.room;
-          past = λ id M i. since_moved g.allocator.raft_server g.allocator.times g.allocator.ids g.allocator.now (members_of g.allocator) g.allocator.me
-              (given_at g.allocator.now) refl (take call)
-              (reason call g.allocator.raft_server g.allocator.times g.allocator.now e
+          past = λ id M b i. since_moved g.allocator.raft_server g.allocator.times g.allocator.ids g.allocator.now (members_of g.allocator) g.allocator.me
+              (given_at g.allocator.now) refl (take call) id M b
+              (λ some. reason call g.allocator.raft_server g.allocator.times g.allocator.now e
               (awaited_call own (g.allocator.raft_server.memory.pending d.ident.source) (g.allocator.times.sending d.ident.source) d.id awaited call e)
-              (λ same. elim (tell (p == d.ident.source)) [ inl here ↦ absurd (quiet same here id M i) | inr there ↦ there ])) id M (k.past id M i);
+              (λ same. elim (tell (p == d.ident.source)) [
+                | inl here ↦ absurd (omega (arith, some, quiet same here id M b i))
+                | inr there ↦ there
+              ])) (k.past id M b i);
         }
 
-  -- no call in question is left that the delivered transfer would answer
+  -- where the delivered transfer is an answer to a call in question, none was made behind those that count
   abbrev IsQuiet : Delivery → StepState → Type 0
-  IsQuiet d g = IsAnswerOf append p d (members_of g.allocator) g.allocator.raft_server g.allocator.times → (id M : ℕ) → Past id M → ⊥
+  IsQuiet d g = IsAnswerOf append p d (members_of g.allocator) g.allocator.raft_server g.allocator.times → (id M b : ℕ) → Past id M b → b ≡ 0
 
   answer_comes : (own : Bool) (d : Delivery) (take : Request → Move) → ((call : Request) (times : Times) (now : ℕ) → HasWaited times now (take call)) → (g : StepState)
       → is_listed d g.allocator ≡ true → d.ident.kind ≡ Response → nat_eq d.ident.number 1 ≡ false
@@ -583,11 +592,25 @@ module _ (append : Bool) (p width : ℕ) (P : ℕ → ℕ → Memory → Times �
     pub to : offer.to ≡ p
     pub fitted : offer.fitted ≡ true
 
+  -- one of them was made
+  abbrev pub IsMade : List Offer → Type 0
+  IsMade offers = (offer : Offer) × (In offer offers) × IsCall offer
+
+  -- since a call so many were made before this step, and so many with those of the step
+  pub record Counted (id M b : ℕ) (m : Memory) (times : Times) (ids : Ids) (now : ℕ) (offers : List Offer) : Type 0 where
+    pub more : ℕ
+    pub since : Since append p P id M more m times ids now
+    pub made : (more ≡ b) ⊎ IsMade offers
+
   pub record Called (m : Memory) (times : Times) (ids : Ids) (now : ℕ) (offers : List Offer) : Type 0 where
-    pub opened : Open m times ids now
+    pub wait : times.since ≤ now
+    pub awake : IsAwake opening m times now
+    pub room : p < length (ids_to append ids)
+    pub past : (id M b : ℕ) → Past id M b → Counted id M b m times ids now offers
+    pub waits : (offer : Offer) → In offer offers → IsCall offer → is_some (m.pending p) ≡ true
     pub over : (offer : Offer) → In offer offers → IsCall offer → opening + 2000 ≤ now
-    pub far : (id M : ℕ) → Past id M → (offer : Offer) → In offer offers → IsCall offer → offer.id ≡ id → M + width ≤ now
-    pub own : (offer : Offer) → In offer offers → IsCall offer → Since append p P offer.id now m times ids now
+    pub far : (id M b : ℕ) → Past id M b → (offer : Offer) → In offer offers → IsCall offer → offer.id ≡ id → M + width ≤ now
+    pub own : (offer : Offer) → In offer offers → IsCall offer → Since append p P offer.id now 0 m times ids now
 
   abbrev pub Calls : StepState → Type 0
   Calls g = Called g.allocator.raft_server.memory g.allocator.times g.allocator.ids g.allocator.now g.offers
@@ -600,24 +623,45 @@ module _ (append : Bool) (p width : ℕ) (P : ℕ → ℕ → Memory → Times �
     | inr (inr j) ↦ absurd j
   ]
 
+  one_made : (offers : List Offer) (new : Offer) → IsMade offers → IsMade (offers ++ new ∷ [])
+  one_made offers new is_made = (is_made.0, in_front is_made.0 offers (new ∷ []) is_made.1, is_made.2)
+
   same_but : (m : Memory) (times : Times) (ids then_ : Ids) (now : ℕ) (offers : List Offer) (new : Offer) → (IsCall new → ⊥)
       → length (ids_to append then_) ≡ length (ids_to append ids) → slice_index (ids_to append then_) p ≡ slice_index (ids_to append ids) p
       → Called m times ids now offers → Called m times then_ now (offers ++ new ∷ [])
   same_but m times ids then_ now offers new none long next k = record {
-    opened = record { wait = k.opened.wait; awake = k.opened.awake; room = omega (arith, k.opened.room, long); past = λ id M i. same_ids id M m times ids then_ now next (k.opened.past id M i) };
+    wait = k.wait;
+    awake = k.awake;
+    room = omega (arith, k.room, long);
+    past = λ id M b i. let c = k.past id M b i in
+        record { more = c.more; since = same_ids id M c.more m times ids then_ now next c.since; made = still c.made };
+    waits = λ offer j call. k.waits offer (one_more offers new none offer j call) call;
     over = λ offer j call. k.over offer (one_more offers new none offer j call) call;
-    far = λ id M i offer j call same. k.far id M i offer (one_more offers new none offer j call) call same;
-    own = λ offer j call. same_ids offer.id now m times ids then_ now next (k.own offer (one_more offers new none offer j call) call);
+    far = λ id M b i offer j call same. k.far id M b i offer (one_more offers new none offer j call) call same;
+    own = λ offer j call. same_ids offer.id now 0 m times ids then_ now next (k.own offer (one_more offers new none offer j call) call);
   }
+    where
+      still : {more b : ℕ} → (more ≡ b) ⊎ IsMade offers → (more ≡ b) ⊎ IsMade (offers ++ new ∷ [])
+      still (inl none_) = inl none_
+      still (inr is_made) = inr (one_made offers new is_made)
+
+  -- the move leaves no less waiting for node p
+  abbrev StaysWaiting : RaftServer → Move → List ℕ → ℕ → Type 0
+  StaysWaiting server move members me = is_some (server.memory.pending p) ≡ true → is_some ((memory_after members me number server move).pending p) ≡ true
 
   after_move : (server : RaftServer) (times : Times) (ids : Ids) (now : ℕ) (offers : List Offer) (members : List ℕ) (me : ℕ) (given : HandedIn) → given.now ≡ now → (move : Move)
-      → IsReason append p server times now move → Called server.memory times ids now offers
+      → IsReason append p server times now move → StaysWaiting server move members me → Called server.memory times ids now offers
       → Called (memory_after members me number server move) (times_after members me given server move times) ids now offers
-  after_move server times ids now offers members me given e move reason k = record {
-    opened = moved server times ids now members me given e move reason k.opened;
+  after_move server times ids now offers members me given e move reason stays k = record {
+    wait = moved_since members me number now given e server times k.wait move;
+    awake = awake_after opening members me number now given e server times k.wait move (waited_by append p server times now move reason) k.awake;
+    room = k.room;
+    past = λ id M b i. let c = k.past id M b i in
+        record { more = c.more; since = since_moved server times ids now members me given e move id M c.more (λ some. reason) c.since; made = c.made };
+    waits = λ offer j call. stays (k.waits offer j call);
     over = k.over;
     far = k.far;
-    own = λ offer i call. since_moved server times ids now members me given e move reason offer.id now (k.own offer i call);
+    own = λ offer i call. since_moved server times ids now members me given e move offer.id now 0 (λ some. reason) (k.own offer i call);
   }
 
   -- a call of the other service, or to another node
@@ -626,12 +670,13 @@ module _ (append : Bool) (p width : ℕ) (P : ℕ → ℕ → Memory → Times �
       ⊎ ((what ≡ carrier append) × (p ≢ peer))
 
   calls_other : (what : What) (peer : ℕ) (move : Move) (call : Request) (payload : List ℕ) (g : StepState) → IsElsewhere what peer
-      → IsReason append p g.allocator.raft_server g.allocator.times g.allocator.now move → Calls g → Calls (calls_by number what peer move call payload g)
-  calls_other what peer move call payload g other reason k =
+      → IsReason append p g.allocator.raft_server g.allocator.times g.allocator.now move
+      → StaysWaiting g.allocator.raft_server move (members_of g.allocator) g.allocator.me → Calls g → Calls (calls_by number what peer move call payload g)
+  calls_other what peer move call payload g other reason stays k =
       either Calls (has_room g.allocator.queue payload) _ _
       (λ e. after_move g.allocator.raft_server g.allocator.times (then_ids (has_room g.allocator.queue payload)) g.allocator.now
       (g.offers ++ sent what peer payload (Some (Requests call)) g ∷ []) (members_of g.allocator) g.allocator.me
-      (given_call g.allocator.now (id_of g.allocator.ids what peer)) refl move reason offered) (λ e. offered)
+      (given_call g.allocator.now (id_of g.allocator.ids what peer)) refl move reason stays offered) (λ e. offered)
     where
       then_ids : Bool → Ids
       then_ids fitted = counted_if fitted what peer g.allocator.ids
@@ -684,17 +729,20 @@ module _ (append : Bool) (p width : ℕ) (P : ℕ → ℕ → Memory → Times �
 
     next_id : slice_index (ids_to append (ids_after what p ids)) p ≡ id_after (slice_index (ids_to append ids) p)
     next_id = ap (λ (l : List ℕ). slice_index l p) (own_after append what p ids carried)
-        ∙ get_or-set_same (ids_to append ids) p (id_after (slice_index (ids_to append ids) p)) 0 k.opened.room
+        ∙ get_or-set_same (ids_to append ids) p (id_after (slice_index (ids_to append ids) p)) 0 k.room
 
     one_further : (id more n : ℕ) → n ≡ (id + 1 + more) % 32 → id_after n ≡ (id + 1 + suc more) % 32
     one_further id more n e = omega (arith, e)
 
-    further : (id M : ℕ) → Since append p P id M server.memory g.allocator.times ids now → Since append p P id M m_after times_then (ids_after what p ids) now
-    further id M c = record {
-      more = suc c.more;
-      spaced = is.calls M c.more server g.allocator.times now c.spaced (members_of g.allocator) g.allocator.me number given refl move own;
-      next = next_id ∙ one_further id c.more (slice_index (ids_to append ids) p) c.next;
-    }
+    further : (id M b : ℕ) → Since append p P id M b server.memory g.allocator.times ids now → Since append p P id M (suc b) m_after times_then (ids_after what p ids) now
+    further id M b c = record { spaced = spaced b c.spaced; next = next_id ∙ one_further id b (slice_index (ids_to append ids) p) c.next } where
+      spaced : (b : ℕ) → Behind P M b server.memory g.allocator.times now → Behind P M (suc b) m_after times_then now
+      spaced zero before = (now, before, is.begins server g.allocator.times now k.wait (members_of g.allocator) g.allocator.me number given refl move own)
+      spaced (suc b) before = (
+        before.0,
+        before.1,
+        is.calls before.0 b server g.allocator.times now before.2 (members_of g.allocator) g.allocator.me number given refl move own,
+      )
 
     round : (id more : ℕ) → id ≡ (id + 1 + more) % 32 → 31 ≤ more
     round id more e = omega (arith, e)
@@ -702,34 +750,65 @@ module _ (append : Bool) (p width : ℕ) (P : ℕ → ℕ → Memory → Times �
     new_id : new.id ≡ slice_index (ids_to append ids) p
     new_id = own_next append what p ids carried
 
+    own_free : (a : Bool) (move : Move) → IsOwnCall a p server.memory move → server.memory.pending p ≡ None
+    own_free true (CallToAppend q previous with_entry) own_ = ap server.memory.pending (sym own_.2) ∙ own_.1
+    own_free false (CallForVote q) own_ = ap server.memory.pending (sym own_.2) ∙ own_.1
+    own_free a move own_ = absurd own_
+
+    itself : (q : ℕ) → q ≡ p → (p == q) ≡ true
+    itself q e = elim (eqb_tells p q) [ inl s ↦ s.0 | inr apart ↦ absurd (apart.1 (sym e)) ]
+
+    own_waits : (a : Bool) (members : List ℕ) (me : ℕ) (move : Move) → IsOwnCall a p server.memory move
+        → is_some ((memory_after members me number server move).pending p) ≡ true
+    own_waits true members me (CallToAppend q previous with_entry) own_ =
+        ap (λ (b : Bool). is_some (if b then Some (append_request me number server.store q previous with_entry) else server.memory.pending p)) (itself q own_.2)
+    own_waits false members me (CallForVote q) own_ =
+        ap (λ (b : Bool). is_some (if b then Some (vote_request me number server.store q) else server.memory.pending p)) (itself q own_.2)
+    own_waits a members me move own_ = absurd own_
+
+    -- where the transfer ID came round, so much time has passed
+    far_behind : (M b : ℕ) → Behind P M b server.memory g.allocator.times now → 31 ≤ b → M + width ≤ now
+    far_behind M zero before many = absurd (omega (arith, many))
+    far_behind M (suc b) before many = omega (
+      arith,
+      before.1,
+      is.far before.0 b server.memory g.allocator.times now before.2 move own (omega (arith, many)),
+    )
+
+    -- none was made in this step before
+    first_one : (offer : Offer) → In offer g.offers → IsCall offer → ⊥
+    first_one offer j is_call = never (ap (λ (o : Option Request). is_some o) (sym (own_free append move own)) ∙ k.waits offer j is_call)
+
+    the_new : (offer : Offer) → In offer (g.offers ++ new ∷ []) → IsCall offer → offer ≡ new
+    the_new offer j is_call = elim (in_append offer g.offers (new ∷ []) j) [
+      | inl earlier ↦ absurd (first_one offer earlier is_call)
+      | inr (inl e) ↦ e
+      | inr (inr l) ↦ absurd l
+    ]
+
+    is_new : IsCall new → IsMade (g.offers ++ new ∷ [])
+    is_new is_call = (new, in_back new g.offers (new ∷ []) (inl refl), is_call)
+
     fits : has_room g.allocator.queue payload ≡ true → Called m_after times_then (ids_after what p ids) now (g.offers ++ new ∷ [])
     fits room = record {
-      opened = record {
-        wait = moved_since (members_of g.allocator) g.allocator.me number now given refl server g.allocator.times k.opened.wait move;
-        awake = awake_after opening (members_of g.allocator) g.allocator.me number now given refl server g.allocator.times k.opened.wait move
-            (waited_to_call append p server.memory g.allocator.times now move own) k.opened.awake;
-        room = subst (λ (l : List ℕ). p < length l) (sym (own_after append what p ids carried))
-            (omega (arith, k.opened.room, length-set (ids_to append ids) p (id_after (slice_index (ids_to append ids) p))));
-        past = λ id M i. further id M (k.opened.past id M i);
+      wait = moved_since (members_of g.allocator) g.allocator.me number now given refl server g.allocator.times k.wait move;
+      awake = awake_after opening (members_of g.allocator) g.allocator.me number now given refl server g.allocator.times k.wait move
+          (waited_to_call append p server.memory g.allocator.times now move own) k.awake;
+      room = subst (λ (l : List ℕ). p < length l) (sym (own_after append what p ids carried))
+          (omega (arith, k.room, length-set (ids_to append ids) p (id_after (slice_index (ids_to append ids) p))));
+      past = λ id M b i. let c = k.past id M b i in record {
+        more = suc c.more;
+        since = further id M c.more c.since;
+        made = inr (is_new (record { what = carried; to = refl; fitted = room }));
       };
-      over = λ offer j is_call. over_at_call append p opening server.memory g.allocator.times now move own k.opened.awake;
-      far = λ id M i offer j is_call same. elim (in_append offer g.offers (new ∷ []) j) [
-        | inl earlier ↦ k.far id M i offer earlier is_call same
-        | inr (inl e) ↦
-            let c = k.opened.past id M i in
-            is.far M c.more server.memory g.allocator.times now c.spaced move own
-            (round id c.more (sym same ∙ (ap (λ (o : Offer). o.id) e ∙ (new_id ∙ c.next))))
-        | inr (inr j) ↦ absurd j
-      ];
-      own = λ offer j is_call. elim (in_append offer g.offers (new ∷ []) j) [
-        | inl earlier ↦ further offer.id now (k.own offer earlier is_call)
-        | inr (inl e) ↦ record {
-          more = 0;
-          spaced = is.begins server g.allocator.times now k.opened.wait (members_of g.allocator) g.allocator.me number given refl move own;
-          next = next_id ∙ ap (λ (n : ℕ). (n + 1) % 32) (sym new_id ∙ ap (λ (o : Offer). o.id) (sym e)) ∙ omega arith;
-        }
-        | inr (inr j) ↦ absurd j
-      ];
+      waits = λ offer j is_call. own_waits append (members_of g.allocator) g.allocator.me move own;
+      over = λ offer j is_call. over_at_call append p opening server.memory g.allocator.times now move own k.awake;
+      far = λ id M b i offer j is_call same. let c = k.past id M b i in
+          far_behind M c.more c.since.spaced (round id c.more (sym same ∙ (ap (λ (o : Offer). o.id) (the_new offer j is_call) ∙ (new_id ∙ c.since.next))));
+      own = λ offer j is_call. record {
+        spaced = omega arith;
+        next = next_id ∙ ap (λ (n : ℕ). (n + 1) % 32) (sym new_id ∙ ap (λ (o : Offer). o.id) (sym (the_new offer j is_call))) ∙ omega arith;
+      };
     }
 
     by : (fitted : Bool) → has_room g.allocator.queue payload ≡ fitted → Calls (calls_by number what p move call payload g)
@@ -738,6 +817,13 @@ module _ (append : Bool) (p width : ℕ) (P : ℕ → ℕ → Memory → Times �
     by false full = subst (λ (b : Bool). Calls (with_move_if b number given move (with_transfer number what p payload (Some (Requests call)) g)))
         (sym full) (subst (λ (b : Bool). Called server.memory g.allocator.times (counted_if b what p ids) now (g.offers ++ new ∷ [])) (sym full)
         (same_but server.memory g.allocator.times ids ids now g.offers new (λ is_call. never (sym full ∙ is_call.fitted)) refl refl k))
+
+  -- a call to another node, or of the other service, leaves no less waiting
+  one_waits : (peer : ℕ) (call : Request) (waiting : Option Request) → is_some waiting ≡ true → is_some (if p == peer then Some call else waiting) ≡ true
+  one_waits peer call waiting some = by (p == peer) where
+    by : (b : Bool) → is_some (if b then Some call else waiting) ≡ true
+    by true = refl
+    by false = some
 
   votes_apart : append ≡ true → (VoteQ ≡ carrier append → ⊥) × ((to : ℕ) (ids : Ids) → ids_to append (ids_after VoteQ to ids) ≡ ids_to append ids)
   votes_apart e = (
@@ -754,13 +840,13 @@ module _ (append : Bool) (p width : ℕ) (P : ℕ → ℕ → Memory → Times �
   asks_vote_of : (peer q : ℕ) (g : StepState) → IsOwed g.allocator.raft_server peer (Some (CallForVote q)) → Calls g
       → Calls (calls_owed number (Some (CallForVote q)) g)
   asks_vote_of peer q g owed_it k = elim (tell append) [
-    | inl e ↦ calls_other VoteQ q (CallForVote q) call (vote_call_bytes call) g (inl (votes_apart e)) (owed_it.0, λ f. never (sym f ∙ e)) k
+    | inl e ↦ calls_other VoteQ q (CallForVote q) call (vote_call_bytes call) g (inl (votes_apart e)) (owed_it.0, λ f. never (sym f ∙ e)) (one_waits q call _) k
     | inr e ↦ elim (eqb_tells p q) [
       | inl s ↦ subst (λ (n : ℕ). Calls (calls_owed number (Some (CallForVote n)) g)) s.1 (calls_own VoteQ (sym (ap carrier e)) (CallForVote p)
           (vote_request g.allocator.me number g.allocator.raft_server.store p) (vote_call_bytes (vote_request g.allocator.me number g.allocator.raft_server.store p)) g
           (subst (λ (a : Bool). IsOwnCall a p g.allocator.raft_server.memory (CallForVote p)) (sym e)
           (owed_it.0, ap g.allocator.raft_server.memory.pending (s.1 ∙ owed_it.2) ∙ owed_it.1, refl)) k)
-      | inr apart ↦ calls_other VoteQ q (CallForVote q) call (vote_call_bytes call) g (inr (sym (ap carrier e), apart.1)) (owed_it.0, λ f. apart.0) k
+      | inr apart ↦ calls_other VoteQ q (CallForVote q) call (vote_call_bytes call) g (inr (sym (ap carrier e), apart.1)) (owed_it.0, λ f. apart.0) (one_waits q call _) k
     ]
   ]
     where
@@ -770,14 +856,14 @@ module _ (append : Bool) (p width : ℕ) (P : ℕ → ℕ → Memory → Times �
   asks_append_of : (peer q previous : ℕ) (with_entry : Bool) (g : StepState) → IsOwed g.allocator.raft_server peer (Some (CallToAppend q previous with_entry)) → Calls g
       → Calls (calls_owed number (Some (CallToAppend q previous with_entry)) g)
   asks_append_of peer q previous with_entry g owed_it k = elim (tell append) [
-    | inr e ↦ calls_other AppQ q (CallToAppend q previous with_entry) (call q) (append_call_bytes (call q)) g (inl (appends_apart e)) (owed_it.0, λ f. never (sym e ∙ f)) k
+    | inr e ↦ calls_other AppQ q (CallToAppend q previous with_entry) (call q) (append_call_bytes (call q)) g (inl (appends_apart e)) (owed_it.0, λ f. never (sym e ∙ f)) (one_waits q (call q) _) k
     | inl e ↦ elim (eqb_tells p q) [
       | inl s ↦ subst (λ (n : ℕ). Calls (calls_owed number (Some (CallToAppend n previous with_entry)) g)) s.1
           (calls_own AppQ (sym (ap carrier e)) (CallToAppend p previous with_entry) (call p) (append_call_bytes (call p)) g
           (subst (λ (a : Bool). IsOwnCall a p g.allocator.raft_server.memory (CallToAppend p previous with_entry)) (sym e)
           (owed_it.0, ap g.allocator.raft_server.memory.pending (s.1 ∙ owed_it.2) ∙ owed_it.1, refl)) k)
       | inr apart ↦ calls_other AppQ q (CallToAppend q previous with_entry) (call q) (append_call_bytes (call q)) g (inr (sym (ap carrier e), apart.1))
-          (owed_it.0, λ f. apart.0) k
+          (owed_it.0, λ f. apart.0) (one_waits q (call q) _) k
     ]
   ]
     where
@@ -802,18 +888,25 @@ module _ (append : Bool) (p width : ℕ) (P : ℕ → ℕ → Memory → Times �
     wait = grind (arith, k.wait);
     awake = awake_later opening t.raft_server.memory t.times t.now (max t.now moment) (grind arith) k.awake;
     room = k.room;
-    past = λ id M i. let c = k.past id M i in
-        record { more = c.more; spaced = is.later M c.more t.raft_server.memory t.times t.now (max t.now moment) (grind arith) c.spaced; next = c.next };
+    past = λ id M b i. let c = k.past id M b i in record { spaced = behind M b c.spaced; next = c.next };
   }
+    where
+      behind : (M b : ℕ) → Behind P M b t.raft_server.memory t.times t.now → Behind P M b t.raft_server.memory t.times (max t.now moment)
+      behind M zero before = grind (arith, before)
+      behind M (suc b) before = (before.0, before.1, is.later before.0 b t.raft_server.memory t.times t.now (max t.now moment) (grind arith) before.2)
 
   pub calls_of_a_step : (t : AllocatorState) (event : Event) → Open t.raft_server.memory t.times t.ids t.now
       → IsQuietAt event (begin_phase number (moment_of event) t) → Calls (step t number event).step_state
   unfolding step
   calls_of_a_step t event k quiet =
       all_calls (drop 1 (members_of told.allocator)) told (record {
-        opened = tells committed (commits seen (happens event begun quiet (expired (initial_state (at_moment (moment_of event) t)) (older t (moment_of event) k))));
+        wait = all_told.wait;
+        awake = all_told.awake;
+        room = all_told.room;
+        past = λ id M b i. record { more = b; since = all_told.past id M b i; made = inl refl };
+        waits = λ offer j is_call. absurd (no_call offer j is_call);
         over = λ offer j is_call. absurd (no_call offer j is_call);
-        far = λ id M i offer j is_call. absurd (no_call offer j is_call);
+        far = λ id M b i offer j is_call. absurd (no_call offer j is_call);
         own = λ offer j is_call. absurd (no_call offer j is_call);
       })
     where
@@ -828,6 +921,9 @@ module _ (append : Bool) (p width : ℕ) (P : ℕ → ℕ → Memory → Times �
 
       told : StepState
       told = tell_phase number committed
+
+      all_told : Opens told
+      all_told = tells committed (commits seen (happens event begun quiet (expired (initial_state (at_moment (moment_of event) t)) (older t (moment_of event) k))))
 
       a_call : (a : Bool) → 8 ≤ rank (carrier a)
       a_call true = omega arith

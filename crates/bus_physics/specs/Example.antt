@@ -20,15 +20,18 @@ before = record { at = 7; row = Open 1 false 0 0 }
     ∷ record { at = 1008; row = Send 1 }
     ∷ []
 
--- frame 1 comes to member 2, and to allocatee 1
+-- frame 1 comes to member 2, to it again, and to allocatee 1
 abbrev pub at_member : Timed
 at_member = record { at = 1050; row = Rx 2 1 1541 }
+
+abbrev pub again : Timed
+again = record { at = 1050; row = Rx 2 1 1541 }
 
 abbrev pub at_allocatee : Timed
 at_allocatee = record { at = 1050; row = ARx 1 1 1080 0 }
 
 abbrev pub everything : List Timed
-everything = before ++ (at_member ∷ (at_allocatee ∷ []))
+everything = before ++ (at_member ∷ (again ∷ (at_allocatee ∷ [])))
 
 -- Two minutes after it was opened member 2 reads its clock again. It was 500 then, so a clock that keeps the pace says
 -- 120,500.

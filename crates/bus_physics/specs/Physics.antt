@@ -8,7 +8,7 @@ use Rattle.can_frame.specs.declared.step.What.{What}
 use Rattle.can_frame.specs.declared.step.What.TheVariants.{Alloc, AppQ, Info, VoteQ}
 use Rattle.can_frame.specs.Cutting.{piece_from}
 use Rattle.can_frame.specs.Identifier.{identifier_number, identifier_of}
-use Rattle.can_frame.specs.Timing.{call_timeout, election_wait, transfer_timeout}
+use Rattle.can_frame.specs.Timing.{election_wait, transfer_timeout}
 use Rattle.raft_model.specs.Lists.{In}
 use Rattle.bus_rows.specs.declared.row.Row.{Row}
 use Rattle.bus_rows.specs.Timed.{Timed}
@@ -95,10 +95,10 @@ DeviceRowsArePhysical limits all a past w (timed ∷ rest) = RowIsPhysical limit
 abbrev pub joining_span : Limits → ℕ
 joining_span limits = limits.hold + transfer_timeout + limits.drift
 
--- No transfer ID of vote requests comes round sooner (21 s): the 32 requests to one member that make it
--- come round take ten elections and one call more.
+-- No transfer ID of vote requests comes round sooner (20 s), where none of the requests to this member behind the first
+-- was answered: an election has three of them at the most, so there are ten elections.
 abbrev pub vote_round : ℕ
-vote_round = 10 * election_wait + call_timeout
+vote_round = 10 * election_wait
 
 -- Two holds and the drift are over before a transfer ID of vote requests comes round; and before a member that rested
 -- calls anybody, which no member does before its first wait for an election is over. A clock goes wrong by less than
@@ -185,25 +185,25 @@ pub record IsResponseOf (number source dest : ℕ) (frame : Queued) : Type 0 whe
   pub from : ident.source ≡ source
   pub to : ident.dest ≡ dest
 
--- the answers of a node to member n come in the order of the calls, each once: one that was heard answers an earlier
--- call of the service
+-- the answers of a node to member n come in the order of the calls: one that was heard answers no later call of the
+-- service
 abbrev pub AnswersInOrder : ℕ → List Queued → Queued → Type 0
 AnswersInOrder n heard frame = (other : Queued) (number source : ℕ) → source ≢ n → In other heard
     → is_members_service number ≡ true → IsResponseOf number source n other → IsResponseOf number source n frame
-    → other.mark.re < frame.mark.re
+    → other.mark.re ≤ frame.mark.re
 
--- a call of these was answered: the first one, or one that the member made later to the same node, of the same service
+-- a call of these was answered that the member made later than the first one, to the same node, of the same service
 pub record IsAnsweredSince (made : List SentTransfer) (heard : List Queued) (first : SentTransfer) : Type 0 where
   pub later : SentTransfer
   pub was_made : In later made
-  pub after : first.step ≤ later.step
+  pub after : first.step < later.step
   pub answer : Queued
   pub came : In answer heard
   pub is : IsResponseOf (number_of first.offer.what) first.offer.to first.by answer
   pub answers : answer.mark.re ≡ later.step
 
 -- Member n makes one call to a node at a time: so where a transfer ID of a service comes round, more time has passed
--- than a call and its answer may take, or one of the calls since the first one was answered.
+-- than a call and its answer may take, or a call behind the first one was answered.
 abbrev pub WaitsForAnswers : Limits → List Timed → List SentTransfer → List Queued → ℕ → Type 0
 WaitsForAnswers limits all made heard n = (x y : SentTransfer) → In x made → In y made → x.by ≡ n → y.by ≡ n
     → x.offer.what ≡ y.offer.what → x.offer.to ≡ y.offer.to → x.offer.id ≡ y.offer.id → x.step < y.step
@@ -233,35 +233,19 @@ abbrev pub ComesInOrder : ℕ → List Queued → Queued → Type 0
 ComesInOrder n heard frame = (other : Queued) (key : Key) → In other heard → HasKeyAt n key other → HasKeyAt n key frame
     → other.mark.step ≤ frame.mark.step
 
--- what is asked of a frame, by those that were heard before, is so of each one of member n
-abbrev pub ComesAt : (List Queued → Queued → Type 0) → ℕ → List Queued → Cluster → Row → Type 0
-ComesAt Asked n heard w (Rx m k ms) = WhereIts (n == m) (Asked heard (frame_at w.frames k))
-ComesAt Asked n heard w row = ⊤
-
-abbrev pub Come : (List Queued → Queued → Type 0) → ℕ → List Queued → Cluster → List Row → Type 0
-Come Asked n heard w [] = ⊤
-Come Asked n heard w (row ∷ rows) =
-    ComesAt Asked n heard w row × Come Asked n (heard ++ heard_in n w row) (after_row w row) rows
-
 abbrev pub IsInOrder : ℕ → List Queued → Cluster → Row → Type 0
-IsInOrder n heard w row = ComesAt (ComesInOrder n) n heard w row
+IsInOrder n heard w (Rx m k ms) = WhereIts (n == m) (ComesInOrder n heard (frame_at w.frames k))
+IsInOrder n heard w row = ⊤
 
 -- to member n, which heard these before
 abbrev pub ComeInOrder : ℕ → List Queued → Cluster → List Row → Type 0
-ComeInOrder n heard w rows = Come (ComesInOrder n) n heard w rows
-
--- a frame that a step made comes once
-abbrev pub ComesOnce : List Queued → Queued → Type 0
-ComesOnce heard frame = (other : Queued) → In other heard → 1 ≤ frame.mark.step → other.id ≡ frame.id
-    → other.mark ≡ frame.mark → ⊥
-
--- in order, and once
-abbrev pub ComesInTurn : ℕ → List Queued → Queued → Type 0
-ComesInTurn n heard frame = ComesInOrder n heard frame × ComesOnce heard frame
+ComeInOrder n heard w [] = ⊤
+ComeInOrder n heard w (row ∷ rows) =
+    IsInOrder n heard w row × ComeInOrder n (heard ++ heard_in n w row) (after_row w row) rows
 
 -- to each member
-abbrev pub AllComeInTurn : List ℕ → Cluster → List Row → Type 0
-AllComeInTurn ids w rows = (m : ℕ) → In m ids → Come (ComesInTurn m) m [] w rows
+abbrev pub AllComeInOrder : List ℕ → Cluster → List Row → Type 0
+AllComeInOrder ids w rows = (m : ℕ) → In m ids → ComeInOrder m [] w rows
 
 -- a frame was heard that was made between these two, under the same identifier: a first one, and with a transfer ID
 -- that is neither theirs nor the one before

@@ -8,7 +8,7 @@ use Rattle.bus_spec.specs.Cluster.{Cluster, after_row, arrival_at, cluster, fram
 use Rattle.bus_spec.specs.Lawful.{AreLawful, cause}
 use Rattle.bus_spec.specs.Refinement.{transfers_of_rows}
 use Rattle.bus_rows.specs.Timed.{Timed, rows_in}
-use Rattle.bus_physics.specs.Physics.{AllComeInTurn, AllocatesApart, DeviceRowsArePhysical, ClockGoesOn, ClockIsNotFast, ComeInOrderToDevice, ComesInOrderToDevice, ComesInTurn, FramesComeInTime, device_heard_by, Limits, RestsBeforeOpening, UsesIdsApart, heard_by}
+use Rattle.bus_physics.specs.Physics.{AllComeInOrder, AllocatesApart, DeviceRowsArePhysical, ClockGoesOn, ClockIsNotFast, ComeInOrderToDevice, ComesInOrder, ComesInOrderToDevice, FramesComeInTime, device_heard_by, Limits, RestsBeforeOpening, UsesIdsApart, heard_by}
 use Rattle.bus_physics.specs.Reuse.{LacksFrames}
 
 -- ---- the premises
@@ -17,8 +17,8 @@ use Rattle.bus_physics.specs.Reuse.{LacksFrames}
 pub record MemberHears (limits : Limits) (ids : List ℕ) (before : List Timed) (now : Timed) (n k : ℕ) : Type 0 where
   pub comes : FramesComeInTime limits (before ++ now ∷ []) (cluster ids) (before ++ now ∷ [])
   pub clock : ClockGoesOn limits n [] (cluster ids) (before ++ now ∷ [])
-  pub turns : AllComeInTurn ids (cluster ids) (rows_in before)
-  pub turn : ComesInTurn n (heard_by n (cluster ids) (rows_in before))
+  pub orders : AllComeInOrder ids (cluster ids) (rows_in before)
+  pub order : ComesInOrder n (heard_by n (cluster ids) (rows_in before))
       (frame_at (world_of ids (rows_in before)).frames k)
   pub fast : ClockIsNotFast limits n [] (cluster ids) before
   pub rests : RestsBeforeOpening limits (before ++ now ∷ []) (transfers_of_rows (cluster ids) (rows_in before) []) n

@@ -13,15 +13,17 @@ ghost use Rattle.alloc_spec.specs.ClusterMembers.{AreMembers};
 ghost use Rattle.bus_spec.specs.Cluster.{arrival_at, cluster, frame_at, world_of};
 ghost use Rattle.bus_spec.specs.Lawful.{AreLawful, cause, no_such_frame};
 ghost use Rattle.bus_spec.specs.Refinement.{transfers_of_rows};
-ghost use Rattle.bus_physics.specs.Physics.{AllComeInTurn, ComesInTurn, ComesOnce};
-ghost use Rattle.bus_physics.specs.Physics.{AllocatesApart, AnswersInOrder, DeviceRowsArePhysical, ClockGoesOn, ComeInOrder};
+ghost use Rattle.bus_physics.specs.Physics.{AllComeInOrder, AllocatesApart, AnswersInOrder, DeviceRowsArePhysical};
+ghost use Rattle.bus_physics.specs.Physics.{ClockGoesOn, ComeInOrder};
 ghost use Rattle.bus_physics.specs.Physics.{ComeInOrderToDevice, ComesInOrderToDevice, device_heard_by};
 ghost use Rattle.bus_physics.specs.Physics.{ComesInOrder, FramesComeInTime};
 ghost use Rattle.bus_rows.specs.Timed.{Timed};
-ghost use Rattle.bus_physics.specs.Physics.{ClockIsNotFast, HoldsAreShort, Limits, RestsBeforeOpening, UsesIdsApart, WaitsForAnswers, heard_by};
+ghost use Rattle.bus_physics.specs.Physics.{ClockIsNotFast, HoldsAreShort, Limits, RestsBeforeOpening, UsesIdsApart};
+ghost use Rattle.bus_physics.specs.Physics.{WaitsForAnswers, heard_by};
 ghost use Rattle.bus_rows.specs.Timed.{rows_in};
 ghost use Rattle.bus_physics.specs.Physics.{may_be_long};
-ghost use Rattle.bus_physics.specs.Example.{at_allocatee, at_member, before as first_rows, everything, limits as some_limits, two, two_minutes_later};
+ghost use Rattle.bus_physics.specs.Example.{at_allocatee, at_member, before as first_rows, everything};
+ghost use Rattle.bus_physics.specs.Example.{limits as some_limits, two, two_minutes_later};
 ghost use Rattle.bus_physics.specs.Reuse.{IsStaleAt, IsTornAt, IsTornAtDevice, LacksFrames};
 ghost use Rattle.bus_agreement.specs.Headline.{HasHeadline};
 ghost use Rattle.cmd_node_laws.specs.Traces.{Event, MayAllHappen, all_rows};
@@ -29,7 +31,6 @@ ghost use Rattle.bus_physics.specs.Processes.{MayAllDo};
 ghost use Rattle.bus_physics.specs.Runs.{StandOnBus};
 ghost use Rattle.bus_physics.specs.Schedule.{HappenOnBus, LawfulButForBus, LosesFrames};
 
-use alloc_spec_laws::laws::transfers_of_a_step_are_apart;
 use allocatee::laws::sessions_of_a_step;
 use bus_agreement::below::{what_is_said_of_a_step, what_is_said_of_frames};
 use bus_agreement::headline::{a_choice_fits, lawful_rows_do_no_harm, rows_are_shown};
@@ -100,10 +101,11 @@ pub fn a_device_puts_nothing_together_of_two()
 }
 
 /// A member makes one call to a node at a time, for 1,000 ms, and forgets it as it stands for election. So a transfer ID
-/// of its calls to a node comes round only when more time has passed than a call and its answer may take, or one of the
-/// calls since was answered: where its clock does not run fast, and it rests before it is opened. Append requests come
-/// round after 32 s, vote requests after 21 s. A member that is opened calls nobody for 2,000 ms, since it follows
-/// and stands for election only after such a wait: so calls over an opening are as far apart as the rest and these.
+/// of its calls to a node comes round only when more time has passed than a call and its answer may take, or a call
+/// behind the first one was answered: where its clock does not run fast, and it rests before it is opened. The 31 calls
+/// behind the first take 31 s where they are append requests, and 20 s where they are vote requests. A member that is
+/// opened calls nobody for 2,000 ms, since it follows and stands for election only after such a wait: so calls over an
+/// opening are as far apart as the rest and these.
 pub fn calls_come_round_late()
     ensures { (limits : Limits) (ids : List ℕ) (before : List Timed) (now : Timed) (n : ℕ) → AreMembers ids →
         HoldsAreShort limits → AreLawful (cluster ids) (rows_in before) →
@@ -119,33 +121,32 @@ pub fn calls_come_round_late()
     rows_are_shown();
 }
 
-/// The answers of another node come to a member in the order of the calls, each once: where the frames of one kind,
-/// number and source come to each member in the order in which they were made, and none comes twice.
+/// The answers of another node come to a member in the order of the calls, where the frames of one kind, number and
+/// source come to each member in the order in which they were made. Each may come more than once.
 pub fn answers_come_in_order()
     ensures { (ids : List ℕ) (rows : List Row) (n k : ℕ) → AreMembers ids → AreLawful (cluster ids) rows →
-        no_such_frame (world_of ids rows) k ≡ None → AllComeInTurn ids (cluster ids) rows →
-        ComesInTurn n (heard_by n (cluster ids) rows) (frame_at (world_of ids rows).frames k) →
+        no_such_frame (world_of ids rows) k ≡ None → AllComeInOrder ids (cluster ids) rows →
+        ComesInOrder n (heard_by n (cluster ids) rows) (frame_at (world_of ids rows).frames k) →
         AnswersInOrder n (heard_by n (cluster ids) rows) (frame_at (world_of ids rows).frames k) }
 {
     a_choice_fits();
     lawful_rows_do_no_harm();
     rows_are_shown();
-    transfers_of_a_step_are_apart();
     what_is_said_of_a_step();
     what_is_said_of_frames();
 }
 
 /// A member on a physical bus, whatever frames are lost, takes no response to an earlier call: where each frame comes
 /// after it was made and within the longest hold, where the member's clock goes on with the time and does not run fast,
-/// where frames come to each member in order and once, and where the member rests before it is opened.
+/// where frames come to each member in order, each once or more often, and where the member rests before it is opened.
 pub fn no_response_outlives_its_transfer_id()
     ensures { (limits : Limits) (ids : List ℕ) (before : List Timed) (now : Timed) (n k ms : ℕ) →
         AreMembers ids → HoldsAreShort limits → now.row ≡ Rx n k ms →
         AreLawful (cluster ids) (rows_in before) →
         FramesComeInTime limits (before ++ now ∷ []) (cluster ids) (before ++ now ∷ []) →
         ClockGoesOn limits n [] (cluster ids) (before ++ now ∷ []) → ClockIsNotFast limits n [] (cluster ids) before →
-        AllComeInTurn ids (cluster ids) (rows_in before) →
-        ComesInTurn n (heard_by n (cluster ids) (rows_in before)) (frame_at (world_of ids (rows_in before)).frames k) →
+        AllComeInOrder ids (cluster ids) (rows_in before) →
+        ComesInOrder n (heard_by n (cluster ids) (rows_in before)) (frame_at (world_of ids (rows_in before)).frames k) →
         RestsBeforeOpening limits (before ++ now ∷ []) (transfers_of_rows (cluster ids) (rows_in before) []) n →
         cause (world_of ids (rows_in before)) (Rx n k ms) ≡ Some Stale → ⊥ }
 {
@@ -185,8 +186,8 @@ pub fn a_member_puts_nothing_together_of_two()
     rows_are_shown();
 }
 
-/// The premises can be met: in this cluster a member hears a frame of another one, and so does an allocatee. Beyond a
-/// minute a clock may lose (`slow`) and gain (`quick`) more than the drift in all.
+/// The premises can be met: in this cluster a member hears a frame of another one twice, as CAN repeats it, and an
+/// allocatee hears it too. Beyond a minute a clock may lose (`slow`) and gain (`quick`) more than the drift in all.
 pub fn premises_can_be_met()
     ensures lawful { AreLawful (cluster two) (rows_in first_rows) }
     ensures clock { ClockGoesOn some_limits 2 [] (cluster two) (first_rows ++ at_member ∷ []) }
@@ -203,9 +204,7 @@ pub fn premises_can_be_met()
     ensures quick { ClockIsNotFast some_limits 2 [] (cluster two) (first_rows ++ two_minutes_later 120510 ∷ []) }
     ensures rests { RestsBeforeOpening some_limits (first_rows ++ at_member ∷ [])
         (transfers_of_rows (cluster two) (rows_in first_rows) []) 2 }
-    ensures turns { AllComeInTurn two (cluster two) (rows_in first_rows) }
-    ensures once { ComesOnce (heard_by 2 (cluster two) (rows_in first_rows))
-        (frame_at (world_of two (rows_in first_rows)).frames 1) }
+    ensures orders { AllComeInOrder two (cluster two) (rows_in (first_rows ++ at_member ∷ [])) }
     ensures member { cause (world_of two (rows_in first_rows)) at_member.row ≡ None }
     ensures allocatee { cause (world_of two (rows_in first_rows)) at_allocatee.row ≡ None }
     ensures bus { HappenOnBus some_limits two [] everything }

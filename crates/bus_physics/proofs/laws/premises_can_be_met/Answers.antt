@@ -1,5 +1,5 @@
-use Rattle.std.proofs.Common.{◌≡◌, ℕ, ◌+◌, ◌≤◌, List, [], ◌∷◌, ◌++◌, refl, ap, sym, ◌∙◌, arith, inl, inr}
-use Rattle.std.specs.Prelude.{◌-◌, min}
+use Rattle.std.proofs.Common.{◌≡◌, ℕ, ◌+◌, ◌≤◌, Bool, true, false, List, [], ◌∷◌, ◌++◌, refl, ap, sym, ◌∙◌, arith, inl, inr}
+use Rattle.std.specs.Prelude.{◌-◌, ◌==◌, min}
 use Rattle.can_frame.specs.Cutting.{frames_of, payload_of}
 use Rattle.can_frame.specs.Identifier.{identifier_of}
 use Rattle.raft_model.specs.Lists.{In}
@@ -7,7 +7,7 @@ use Rattle.transfer_rx.specs.Acceptance.{wanted}
 use Rattle.transfer_rx.specs.Outcome.{fits_no_payload, outcome}
 use Rattle.transfer_rx.specs.Reassembly.{session_step, step as frame_step}
 use Rattle.transfer_rx.specs.Sessions.{session_for}
-use Rattle.transfer_tx.specs.Queue.{left_behind, next_out, queued_frames}
+use Rattle.transfer_tx.specs.Queue.{Queued, left_behind, next_out, queued_frames}
 use Rattle.allocatee.specs.Judging.{arrival_judgement as device_judgement}
 use Rattle.allocatee.specs.Accepted.{rows as device_rows}
 use Rattle.alloc_spec.specs.Accepted.{rows}
@@ -16,13 +16,13 @@ use Rattle.alloc_spec.specs.Judging.{arrival_judgement}
 use Rattle.alloc_spec.specs.Step.{all_nodes, step}
 use Rattle.alloc_spec.specs.Transfers.{SentTransfer}
 use Rattle.bus_rows.specs.declared.row.Row.{Row}
-use Rattle.bus_spec.specs.Cluster.{Cluster, after_row, cluster}
+use Rattle.bus_spec.specs.Cluster.{Cluster, after_row, cluster, frame_at, world_of}
 use Rattle.bus_spec.specs.Lawful.{AreLawful}
 use Rattle.bus_spec.specs.Refinement.{transfers_of_rows}
-use Rattle.bus_physics.specs.Example.{at_allocatee, at_member, before, everything, limits, two}
+use Rattle.bus_physics.specs.Example.{again, at_allocatee, at_member, before, everything, limits, two}
 use Rattle.bus_rows.specs.Timed.{rows_in}
-use Rattle.bus_physics.specs.Physics.{GoesOn, IsNotFast, Reading}
-use Rattle.bus_physics.specs.Schedule.{DeviceHears, LawfulButForBus}
+use Rattle.bus_physics.specs.Physics.{AllComeInOrder, ComesInOrder, GoesOn, IsNotFast, Reading, WhereIts}
+use Rattle.bus_physics.specs.Schedule.{DeviceHears, LawfulButForBus, MemberHears}
 use Rattle.bus_physics.proofs.laws.premises_can_be_met.Goals as goal
 
 pub returns-clause-lawful : goal.returns-clause-lawful
@@ -77,11 +77,14 @@ returns-clause-fast c = (tt, (tt, (tt, (tt, (tt, tt)))))
 pub returns-clause-rests : goal.returns-clause-rests
 returns-clause-rests c = λ x number told moment word i mine less opened. absurd (omega (arith, (made_in x i).1, mine))
 
-pub returns-clause-turns : goal.returns-clause-turns
-returns-clause-turns c = λ m i. (tt, (tt, (tt, (tt, (tt, tt)))))
+-- frame 1 comes first, or again
+comes_first : (m : ℕ) (b : Bool) → WhereIts b (ComesInOrder m [] (frame_at (world_of two (rows_in before)).frames 1))
+comes_first m true = λ other key i first second. absurd i
+comes_first m false = tt
 
-pub returns-clause-once : goal.returns-clause-once
-returns-clause-once c = λ other i some id mark. absurd i
+pub returns-clause-orders : goal.returns-clause-orders
+unfolding step all_nodes queued_frames next_out left_behind frames_of
+returns-clause-orders c = λ m i. (tt, (tt, (tt, (tt, (tt, (comes_first m (m == 2), tt))))))
 
 pub returns-clause-comes : goal.returns-clause-comes
 unfolding step all_nodes queued_frames next_out left_behind frames_of
@@ -127,22 +130,114 @@ but w (row ∷ rows) lawful = ((λ why e. absurd (cc (sym lawful.0 ∙ e))), but
 
 all_lawful : AreLawful (cluster two) (rows_in everything)
 unfolding step frame_step outcome fits_no_payload all_nodes delivery_phase arrival_judgement device_judgement session_for session_step wanted queued_frames next_out left_behind frames_of identifier_of payload_of rows device_rows
-all_lawful = (refl, (refl, (refl, (refl, (refl, (refl, (refl, tt)))))))
+all_lawful = (refl, (refl, (refl, (refl, (refl, (refl, (refl, (refl, tt))))))))
 
 pub returns-clause-otherwise : goal.returns-clause-otherwise
 returns-clause-otherwise c = but (cluster two) (rows_in everything) all_lawful
 
-made_then : (x : SentTransfer) → In x (transfers_of_rows (cluster two) (rows_in (before ++ at_member ∷ [])) []) → x.step ≡ 4
+made_then : (x : SentTransfer) → In x (transfers_of_rows (cluster two) (rows_in (before ++ at_member ∷ [])) []) → (x.step ≡ 4) × (x.by ≡ 1)
 unfolding step frame_step outcome fits_no_payload all_nodes delivery_phase session_for session_step wanted queued_frames next_out left_behind frames_of identifier_of payload_of rows
-made_then x (inl e) = ap (λ (y : SentTransfer). y.step) e
-made_then x (inr (inl e)) = ap (λ (y : SentTransfer). y.step) e
+made_then x (inl e) = (ap (λ (y : SentTransfer). y.step) e, ap (λ (y : SentTransfer). y.by) e)
+made_then x (inr (inl e)) = (ap (λ (y : SentTransfer). y.step) e, ap (λ (y : SentTransfer). y.by) e)
 made_then x (inr (inr i)) = absurd i
 
-device_hears : DeviceHears limits two (before ++ at_member ∷ []) at_allocatee 1 1
+made_last : (x : SentTransfer) → In x (transfers_of_rows (cluster two) (rows_in (before ++ (at_member ∷ (again ∷ [])))) []) → x.step ≡ 4
+unfolding step frame_step outcome fits_no_payload all_nodes delivery_phase session_for session_step wanted queued_frames next_out left_behind frames_of identifier_of payload_of rows
+made_last x (inl e) = ap (λ (y : SentTransfer). y.step) e
+made_last x (inr (inl e)) = ap (λ (y : SentTransfer). y.step) e
+made_last x (inr (inr i)) = absurd i
+
+-- of two readings
+passes_both : (first second : Reading) (then moment : ℕ) → GoesOn limits (first ∷ []) then moment → GoesOn limits (second ∷ []) then moment
+    → GoesOn limits (second ∷ (first ∷ [])) then moment
+passes_both first second then moment a b p (inl e) = b p (inl e)
+passes_both first second then moment a b p (inr i) = a p i
+
+not_fast : (at now then moment : ℕ) → moment ≤ now + (then - at) + 5 → IsNotFast limits (record { at = at; now = now } ∷ []) then moment
+not_fast at now then moment less p (inl e) soon = omega (arith, less, ap (λ (r : Reading). r.at) e, ap (λ (r : Reading). r.now) e)
+not_fast at now then moment less p (inr i) soon = absurd i
+
+hears_again : (orders : AllComeInOrder two (cluster two) (rows_in (before ++ at_member ∷ []))) → MemberHears limits two (before ++ at_member ∷ []) again 2 1
+unfolding step frame_step outcome fits_no_payload all_nodes delivery_phase session_for session_step wanted queued_frames next_out left_behind frames_of identifier_of payload_of rows
+hears_again orders = record {
+  comes = (
+    tt,
+    (
+      tt,
+      (
+        tt,
+        (
+          tt,
+          (
+            tt,
+            (
+              record { after = λ some. omega arith; soon = λ some. omega arith },
+              (record { after = λ some. omega arith; soon = λ some. omega arith }, tt),
+            ),
+          ),
+        ),
+      ),
+    ),
+  );
+  clock = (
+    tt,
+    (
+      tt,
+      (
+        tt,
+        (
+          tt,
+          (
+            tt,
+            (
+              passes 8 500 1050 1541 (omega arith) (omega arith),
+              (
+                passes_both (record { at = 8; now = 500 }) (record { at = 1050; now = 1541 }) 1050 1541
+                    (passes 8 500 1050 1541 (omega arith) (omega arith)) (passes 1050 1541 1050 1541 (omega arith) (omega arith)),
+                tt,
+              ),
+            ),
+          ),
+        ),
+      ),
+    ),
+  );
+  orders = orders;
+  order = λ other key i first second. elim i [ inl e ↦ omega (arith, ap (λ (f : Queued). f.mark.step) e) | inr j ↦ absurd j ];
+  fast = (tt, (tt, (tt, (tt, (tt, (not_fast 8 500 1050 1541 (omega arith), tt))))));
+  rests = λ x number told moment word i mine less opened. absurd (omega (arith, (made_then x i).1, mine));
+  apart = λ x y i j by what to to_too id less long. absurd (omega (arith, (made_then x i).0, (made_then y j).0, less));
+}
+
+device_hears : DeviceHears limits two (before ++ (at_member ∷ (again ∷ []))) at_allocatee 1 1
 unfolding step frame_step outcome fits_no_payload all_nodes delivery_phase session_for session_step wanted queued_frames next_out left_behind frames_of identifier_of payload_of rows
 device_hears = record {
-  comes = (tt, (tt, (tt, (tt, (tt, (tt, ((passes 9 40 1050 1080 (omega arith) (omega arith), record { after = λ some. omega arith; soon = λ some. omega arith }), tt)))))));
-  slow = λ x y i j what other by id less. absurd (omega (arith, made_then x i, made_then y j, less));
+  comes = (
+    tt,
+    (
+      tt,
+      (
+        tt,
+        (
+          tt,
+          (
+            tt,
+            (
+              tt,
+              (
+                tt,
+                (
+                  (passes 9 40 1050 1080 (omega arith) (omega arith), record { after = λ some. omega arith; soon = λ some. omega arith }),
+                  tt,
+                ),
+              ),
+            ),
+          ),
+        ),
+      ),
+    ),
+  );
+  slow = λ x y i j what other by id less. absurd (omega (arith, made_last x i, made_last y j, less));
 }
 
 pub returns-clause-bus : goal.returns-clause-bus
@@ -161,13 +256,13 @@ returns-clause-bus c = (
             record {
               comes = returns-clause-comes c;
               clock = returns-clause-clock c;
-              turns = returns-clause-turns c;
-              turn = (λ other key i first second. absurd i, returns-clause-once c);
+              orders = λ m i. (tt, (tt, (tt, (tt, (tt, tt)))));
+              order = λ other key i first second. absurd i;
               fast = returns-clause-fast c;
               rests = returns-clause-rests c;
               apart = returns-clause-apart c;
             },
-            (device_hears, tt),
+            (hears_again (returns-clause-orders c), (device_hears, tt)),
           ),
         ),
       ),

@@ -10,8 +10,8 @@ returns c = λ limits ids all members enough happen but.
     let device : DeviceLaw limits ids = λ before now a k ms word row lawful hears e.
     c.a_device_puts_nothing_together_of_two.ensures limits ids before now a k ms word members sane row lawful hears.comes hears.slow e in
     let torn : TornLaw limits ids = λ before now n k ms row lawful hears e.
-    c.a_member_puts_nothing_together_of_two.ensures limits ids before now n k ms members sane row lawful hears.comes hears.clock (heard_in_order limits ids before n k ms hears.turns e) hears.turn.0 hears.apart e in
+    c.a_member_puts_nothing_together_of_two.ensures limits ids before now n k ms members sane row lawful hears.comes hears.clock (heard_in_order limits ids before n k ms hears.orders e) hears.order hears.apart e in
     let stale : StaleLaw limits ids = λ before now n k ms row lawful hears e.
     c.no_response_outlives_its_transfer_id.ensures limits ids before now n k ms members enough row lawful hears.comes hears.clock
-    hears.fast hears.turns hears.turn hears.rests e in
+    hears.fast hears.orders hears.order hears.rests e in
     scheduled limits ids device torn stale all [] (cluster ids) refl tt happen but
