@@ -418,14 +418,19 @@ class Times(unittest.TestCase):
             ["allocator_app/specs/Vehicle.antt", "host_pace/specs/*.antt", "bus_physics/specs/Physics.antt"]
             + ["can_frame/specs/Timing.antt"]
         )
-        hold, drift, turn, wait = (
-            vehicle.value(name, {}) / 1000 for name in ("longest_hold", "most_drift", "vote_round", "election_wait")
+        hold, drift, turn, vote_round, wait = (
+            vehicle.value(name, {}) / 1000
+            for name in ("longest_hold", "most_drift", "longest_turn", "vote_round", "election_wait")
         )
         self.assertIn(f"a frame arrives within {hold:g} s of its making", self.readme)
         self.assertIn("a clock gains or loses less than half a second in a minute", self.readme)
-        self.assertEqual(drift, 0.499)
-        said = f"Two holds of {hold:g} s and a drift of 0.5 s are below the rest and {wait:g} s, and below {turn:g} s"
-        self.assertIn(said, self.premises)
+        self.assertIn("a member's turn takes a second at most", self.readme)
+        self.assertEqual((drift, turn), (0.499, 1))
+        said = f"Two holds of {hold:g} s and a drift of 0.5 s are below the rest and {wait:g} s. "
+        self.assertIn(f"{said}With a turn of {turn:g} s they are below {vote_round:g} s", self.premises)
+        device, member = hold + 2 + 0.5, hold + 2 + 0.5 + turn
+        self.assertIn(f"none again within {device:g} s of Allocations", self.premises)
+        self.assertIn(f"within {member:g} s of requests of Raft", self.premises)
         self.assertIn(f"A member is opened {table.REST / 1000:g} s after its last transfer", self.premises)
 
 

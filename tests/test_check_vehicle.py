@@ -294,7 +294,7 @@ class Logs(unittest.TestCase):
         lines = self.lines()
         said = self.of(lines[:100] + [lines[99]] + lines[100:])
         self.assertEqual(said.status, 0, said.written)
-        self.assertRegex(said.written, r"A7 +ok +frames of one identifier came in order; 1 came twice at once")
+        self.assertRegex(said.written, r"A7 +ok: +frames of one identifier came in order; 1 came twice at once")
 
     def test_frames_that_changed_places(self) -> None:
         lines = self.lines()

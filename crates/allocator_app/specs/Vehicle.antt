@@ -13,6 +13,10 @@ longest_hold = 2 * longest_wait + 2 * 500 + 500
 abbrev pub most_drift : ℕ
 most_drift = 499
 
+-- how long a turn takes at most, from its reading of the clock to the frame that it takes
+abbrev pub longest_turn : ℕ
+longest_turn = 1000
+
 -- what a bus, a clock and a process that was told this keep, where the process ran one of its members before
 abbrev pub vehicle_limits : Told → Limits
-vehicle_limits told = record { hold = longest_hold; drift = most_drift; rest = rest_of told true }
+vehicle_limits told = record { hold = longest_hold; drift = most_drift; rest = rest_of told true; turn = longest_turn }

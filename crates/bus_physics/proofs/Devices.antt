@@ -47,11 +47,12 @@ module _ (limits : Limits) (all : List Timed) where
     pub is : is_of device.setting key h.arrival ≡ true
     pub timely : IsTimely h.arrival h.at
 
-  abbrev pub width : ℕ
-  width = 2000 + limits.drift
+  -- so far apart are the frames of a session at most, by a clock that may be so much wrong
+  abbrev pub width : ℕ → ℕ
+  width wrong = 2000 + wrong
 
   abbrev pub AllInTime : List Queued → List Reading → List Session → Type 0
-  AllInTime frames past sessions = (s : Session) → In s sessions → IsInTime (IsKnown frames) width past s
+  AllInTime frames past sessions = (s : Session) → In s sessions → IsInTime (IsKnown frames) (width limits.drift) past s
 
   -- for allocatee a
   abbrev pub Inv : ℕ → List Queued → List Reading → (ℕ → Option Device) → Type 0
@@ -74,29 +75,29 @@ module _ (limits : Limits) (all : List Timed) where
   pub all_more : (frames more : List Queued) (past later : List Reading) → ((p : Reading) → In p past → In p later) → (sessions : List Session) → AllInTime frames past sessions
       → AllInTime (frames ++ more) later sessions
   all_more frames more past later grows sessions each s i =
-      still (IsKnown frames) (IsKnown (frames ++ more)) (more_frames frames more) width past later grows s (each s i)
+      still (IsKnown frames) (IsKnown (frames ++ more)) (more_frames frames more) (width limits.drift) past later grows s (each s i)
 
   all_later : (frames : List Queued) (past later : List Reading) → ((p : Reading) → In p past → In p later) → (sessions : List Session) → AllInTime frames past sessions
       → AllInTime frames later sessions
-  all_later frames past later grows sessions each s i = still (IsKnown frames) (IsKnown frames) (λ key h is. is) width past later grows s (each s i)
+  all_later frames past later grows sessions each s i = still (IsKnown frames) (IsKnown frames) (λ key h is. is) (width limits.drift) past later grows s (each s i)
 
   -- ---- a frame that the allocatee receives
 
-  module _ (sane : limits.drift < 58000) (past : List Reading) (came now : ℕ) (goes : GoesOn limits past came now) where
+  module _ (wrong : ℕ) (sane : wrong < 58000) (past : List Reading) (came now : ℕ) (goes : GoesOn wrong past came now) where
     -- since a reading that is no older than a session may be, not more time has passed
-    pub soon : (p : Reading) → In p past → now - p.now ≤ 2000 → (p.at ≤ came) × (came ≤ p.at + width)
+    pub soon : (p : Reading) → In p past → now - p.now ≤ 2000 → (p.at ≤ came) × (came ≤ p.at + width wrong)
     soon p i young = let g = goes p i in (g.0, omega (arith, g.0, g.1, young, sane))
 
   module _ (laws : SessionLaws) (of_its_key : (key : Key) (b : Arrival) → is_of device.setting key b ≡ true → IsOfKey device.setting key b)
       (sane : limits.drift < 58000) (a : ℕ) (w : Cluster) (past : List Reading) (came : ℕ) where
     received : (d : Device) (number k ms word : ℕ) → AllInTime w.frames past d.sessions → In (frame_at w.frames k) w.frames
-        → GoesOn limits past came (max d.asking.moment ms) → ComesInTime limits all came (frame_at w.frames k)
-        → AllInTime w.frames (record { at = came; now = max d.asking.moment ms } ∷ past) (step d number (receipt_at w k ms word)).device.sessions
+        → GoesOn limits.drift past came (max d.asking.moment ms) → ComesInTime limits all came (frame_at w.frames k)
+        → AllInTime w.frames (record { at = came; now = max d.asking.moment ms; opens = false } ∷ past) (step d number (receipt_at w k ms word)).device.sessions
     received d number k ms word each there goes timely =
-        subst (λ (l : List Session). AllInTime w.frames (record { at = came; now = max d.asking.moment ms } ∷ past) l)
+        subst (λ (l : List Session). AllInTime w.frames (record { at = came; now = max d.asking.moment ms; opens = false } ∷ past) l)
         (sym (laws.frame d number word (arrival_at (frame_at w.frames k) ms)))
-        (stepped (IsKnown w.frames) (IsKnown w.frames) (λ key h is. is) width past (record { at = came; now = max d.asking.moment ms } ∷ past) (λ p i. inr i)
-        device.setting d.sessions each (at_step d (arrival_at (frame_at w.frames k) ms)) came (inl refl) (soon sane past came (max d.asking.moment ms) goes)
+        (stepped (IsKnown w.frames) (IsKnown w.frames) (λ key h is. is) (width limits.drift) past (record { at = came; now = max d.asking.moment ms; opens = false } ∷ past) (λ p i. inr i)
+        device.setting d.sessions each (at_step d (arrival_at (frame_at w.frames k) ms)) came (inl refl) (soon limits.drift sane past came (max d.asking.moment ms) goes)
         (λ key is. record {
           came = record { frame = frame_at w.frames k; there = there; id = refl; bytes = refl; mark = refl };
           of_key = of_its_key key (at_step d (arrival_at (frame_at w.frames k) ms)) is;
@@ -111,40 +112,40 @@ module _ (limits : Limits) (all : List Timed) where
 
     module _ (inv : Inv a w.frames past w.allocatee) where
       rx_by : (b k ms word : ℕ) (same : Bool) → (a == b) ≡ same → In (frame_at w.frames k) w.frames
-          → WhereIts same (GoesOn limits past came (now_of (w.allocatee b) ms) × ComesInTime limits all came (frame_at w.frames k)) → (x : Device)
+          → WhereIts same (GoesOn limits.drift past came (now_of (w.allocatee b) ms) × ComesInTime limits all came (frame_at w.frames k)) → (x : Device)
           → (if same then device_after_step (w.rows + 1) (receipt_at w k ms word) (w.allocatee b) else w.allocatee a) ≡ Some x
-          → AllInTime w.frames (if same then record { at = came; now = now_of (w.allocatee b) ms } ∷ past else past) x.sessions
+          → AllInTime w.frames (if same then record { at = came; now = now_of (w.allocatee b) ms; opens = false } ∷ past else past) x.sessions
       rx_by b k ms word false e there phys x is = inv x is
       rx_by b k ms word true e there phys x is = by (w.allocatee b) refl phys is where
         a_is : a ≡ b
         a_is = elim (eqb_tells a b) [ inl s ↦ s.1 | inr n ↦ absurd (cc (sym n.0 ∙ e)) ]
 
-        by : (o : Option Device) → w.allocatee b ≡ o → GoesOn limits past came (now_of o ms) × ComesInTime limits all came (frame_at w.frames k)
-            → device_after_step (w.rows + 1) (receipt_at w k ms word) o ≡ Some x → AllInTime w.frames (record { at = came; now = now_of o ms } ∷ past) x.sessions
+        by : (o : Option Device) → w.allocatee b ≡ o → GoesOn limits.drift past came (now_of o ms) × ComesInTime limits all came (frame_at w.frames k)
+            → device_after_step (w.rows + 1) (receipt_at w k ms word) o ≡ Some x → AllInTime w.frames (record { at = came; now = now_of o ms; opens = false } ∷ past) x.sessions
         by None o phys is = absurd (cc (is))
-        by (Some d) o phys is = subst (λ (y : Device). AllInTime w.frames (record { at = came; now = max d.asking.moment ms } ∷ past) y.sessions)
+        by (Some d) o phys is = subst (λ (y : Device). AllInTime w.frames (record { at = came; now = max d.asking.moment ms; opens = false } ∷ past) y.sessions)
             (some_is (step d (w.rows + 1) (receipt_at w k ms word)).device x is)
             (received d (w.rows + 1) k ms word (inv d (ap w.allocatee a_is ∙ o)) there phys.0 phys.1)
 
       tick_by : (b ms word : ℕ) (same : Bool) → (a == b) ≡ same → (x : Device)
           → (if same then device_after_step (w.rows + 1) (Ticks ms word) (w.allocatee b) else w.allocatee a) ≡ Some x
-          → AllInTime w.frames (if same then record { at = came; now = now_of (w.allocatee b) ms } ∷ past else past) x.sessions
+          → AllInTime w.frames (if same then record { at = came; now = now_of (w.allocatee b) ms; opens = false } ∷ past else past) x.sessions
       tick_by b ms word false e x is = inv x is
       tick_by b ms word true e x is = by (w.allocatee b) refl is where
         a_is : a ≡ b
         a_is = elim (eqb_tells a b) [ inl s ↦ s.1 | inr n ↦ absurd (cc (sym n.0 ∙ e)) ]
 
         by : (o : Option Device) → w.allocatee b ≡ o → device_after_step (w.rows + 1) (Ticks ms word) o ≡ Some x
-            → AllInTime w.frames (record { at = came; now = now_of o ms } ∷ past) x.sessions
+            → AllInTime w.frames (record { at = came; now = now_of o ms; opens = false } ∷ past) x.sessions
         by None o is = absurd (cc (is))
-        by (Some d) o is = subst (λ (y : Device). AllInTime w.frames (record { at = came; now = max d.asking.moment ms } ∷ past) y.sessions)
+        by (Some d) o is = subst (λ (y : Device). AllInTime w.frames (record { at = came; now = max d.asking.moment ms; opens = false } ∷ past) y.sessions)
             (some_is (step d (w.rows + 1) (Ticks ms word)).device x is)
-            (subst (λ (l : List Session). AllInTime w.frames (record { at = came; now = max d.asking.moment ms } ∷ past) l) (sym (laws.tick d (w.rows + 1) ms word))
-            (all_later w.frames past (record { at = came; now = max d.asking.moment ms } ∷ past) (λ p i. inr i) d.sessions (inv d (ap w.allocatee a_is ∙ o))))
+            (subst (λ (l : List Session). AllInTime w.frames (record { at = came; now = max d.asking.moment ms; opens = false } ∷ past) l) (sym (laws.tick d (w.rows + 1) ms word))
+            (all_later w.frames past (record { at = came; now = max d.asking.moment ms; opens = false } ∷ past) (λ p i. inr i) d.sessions (inv d (ap w.allocatee a_is ∙ o))))
 
       open_by : (b : ℕ) (uid : List ℕ) (pref ms word : ℕ) (same : Bool) → (x : Device)
           → (if same then Some (opening uid pref ms word) else w.allocatee a) ≡ Some x
-          → AllInTime w.frames (if same then record { at = came; now = ms } ∷ [] else past) x.sessions
+          → AllInTime w.frames (if same then record { at = came; now = ms; opens = true } ∷ [] else past) x.sessions
       open_by b uid pref ms word false x is = inv x is
       open_by b uid pref ms word true x is = λ s i. absurd (subst (λ (y : Device). In s y.sessions) (sym (some_is (opening uid pref ms word) x is)) i)
 

@@ -39,7 +39,7 @@ AreClose width (h ∷ k ∷ rest) = (h.at ≤ k.at) × (k.at ≤ h.at + width) �
 -- the last one came at this reading
 abbrev pub LastCameAt : List Reading → ℕ → List Heard → Type 0
 LastCameAt past moment [] = ⊤
-LastCameAt past moment (h ∷ []) = In (record { at = h.at; now = moment }) past
+LastCameAt past moment (h ∷ []) = In (record { at = h.at; now = moment; opens = false }) past
 LastCameAt past moment (h ∷ k ∷ rest) = LastCameAt past moment (k ∷ rest)
 
 pub record IsInTime (P : Key → Heard → Type 0) (width : ℕ) (past : List Reading) (session : Session) : Type 0 where
@@ -79,10 +79,10 @@ module _ (width : ℕ) (past : List Reading) (at now : ℕ)
   pub close_more : (heard : List Heard) (moment : ℕ) → now - moment ≤ 2000 → AreClose width heard → LastCameAt past moment heard
       → AreClose width (heard ++ record { arrival = arrival; at = at } ∷ [])
   close_more [] moment recent close ends = tt
-  close_more (h ∷ []) moment recent close ends = let s = soon (record { at = h.at; now = moment }) ends recent in (s.0, s.1, tt)
+  close_more (h ∷ []) moment recent close ends = let s = soon (record { at = h.at; now = moment; opens = false }) ends recent in (s.0, s.1, tt)
   close_more (h ∷ k ∷ rest) moment recent close ends = (close.0, close.1, close_more (k ∷ rest) moment recent close.2 ends)
 
-module _ (later : List Reading) (at now : ℕ) (last : In (record { at = at; now = now }) later) (arrival : Arrival) where
+module _ (later : List Reading) (at now : ℕ) (last : In (record { at = at; now = now; opens = false }) later) (arrival : Arrival) where
   ends_more : (heard : List Heard) → LastCameAt later now (heard ++ record { arrival = arrival; at = at } ∷ [])
   ends_more [] = last
   ends_more (h ∷ []) = last
@@ -109,7 +109,7 @@ module _ (P : Key → Heard → Type 0) (width : ℕ) (past : List Reading) (ses
 ends_later : (past later : List Reading) → ((p : Reading) → In p past → In p later) → (moment : ℕ) (heard : List Heard) → LastCameAt past moment heard
     → LastCameAt later moment heard
 ends_later past later more moment [] ends = tt
-ends_later past later more moment (h ∷ []) ends = more (record { at = h.at; now = moment }) ends
+ends_later past later more moment (h ∷ []) ends = more (record { at = h.at; now = moment; opens = false }) ends
 ends_later past later more moment (h ∷ k ∷ rest) ends = ends_later past later more moment (k ∷ rest) ends
 
 -- what is known of frames, and which readings there were, may grow
@@ -132,7 +132,7 @@ idle Q width later session taken marks = record { heard = []; each = λ h i. abs
 module _ (P Q : Key → Heard → Type 0) (known : (key : Key) (h : Heard) → P key h → Q key h) (width : ℕ) (past later : List Reading)
     (more : (p : Reading) → In p past → In p later) (setting : Setting) (sessions : List Session)
     (before : (session : Session) → In session sessions → IsInTime P width past session) (arrival : Arrival) (at : ℕ)
-    (last : In (record { at = at; now = arrival.moment }) later)
+    (last : In (record { at = at; now = arrival.moment; opens = false }) later)
     (soon : (p : Reading) → In p past → arrival.moment - p.now ≤ 2000 → (p.at ≤ at) × (at ≤ p.at + width))
     (own : (key : Key) → is_of setting key arrival ≡ true → Q key (record { arrival = arrival; at = at })) where
   abbrev Then : Session → Type 0

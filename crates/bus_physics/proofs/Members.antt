@@ -34,7 +34,7 @@ use Rattle.bus_agreement.proofs.Lists.{in_front}
 use Rattle.bus_agreement.proofs.OneRow.{stands}
 use Rattle.bus_agreement.proofs.RowsWithoutEvents.{past_first}
 use Rattle.bus_rows.specs.Timed.{Timed, rows_in}
-use Rattle.bus_physics.specs.Physics.{ClockGoesOn, ClockGoesOnAt, ComesInTime, FrameComesInTime, FramesComeInTime, GoesOn, Limits, WhereIts, Reading, member_readings, now_in, time_of}
+use Rattle.bus_physics.specs.Physics.{ClockGoesOn, ClockGoesOnAt, ComesInTime, FrameComesInTime, FramesComeInTime, GoesOn, Limits, WhereIts, Reading, member_readings, now_in, time_of, lag}
 use Rattle.bus_physics.proofs.Devices.{IsTimely, soon, width}
 use Rattle.bus_physics.proofs.InTime.{Heard, IsInTime, still, stepped}
 
@@ -64,12 +64,12 @@ module _ (limits : Limits) (all : List Timed) where
     pub timely : IsTimely limits all h.arrival h.at
 
   abbrev pub AllInTimeTo : Setting → List Queued → List Reading → List Session → Type 0
-  AllInTimeTo setting frames past sessions = (s : Session) → In s sessions → IsInTime (IsKnownTo setting frames) (width limits all) past s
+  AllInTimeTo setting frames past sessions = (s : Session) → In s sessions → IsInTime (IsKnownTo setting frames) (width limits all (lag limits)) past s
 
   -- a pending call was made at one of the readings
   abbrev pub AreCalledAt : List Reading → AllocatorState → Type 0
   AreCalledAt past t = (peer : ℕ) (request : Request) (sending : Sending) → t.raft_server.memory.pending peer ≡ Some request
-      → t.times.sending peer ≡ Some sending → In (record { at = time_of all request.step; now = sending.moment }) past
+      → t.times.sending peer ≡ Some sending → In (record { at = time_of all request.step; now = sending.moment; opens = false }) past
 
   pub record MemberInv (frames : List Queued) (past : List Reading) (t : AllocatorState) : Type 0 where
     pub heard : AllInTimeTo (setting_for t.me) frames past t.sessions
@@ -95,17 +95,17 @@ module _ (limits : Limits) (all : List Timed) where
   with_more : (frames more : List Queued) (past : List Reading) (t : AllocatorState) → MemberInv frames past t → MemberInv (frames ++ more) past t
   with_more frames more past t inv = record {
     heard = λ s i. still (IsKnownTo (setting_for t.me) frames) (IsKnownTo (setting_for t.me) (frames ++ more)) (more_frames (setting_for t.me) frames more)
-        (width limits all) past past (λ p j. j) s (inv.heard s i);
+        (width limits all (lag limits)) past past (λ p j. j) s (inv.heard s i);
     called = inv.called;
   }
 
   -- ---- a step
 
   module _ (laws : MemberLaws) (of_its_key : (setting : Setting) (key : Key) (b : Arrival) → is_of setting key b ≡ true → IsOfKey setting key b)
-      (sane : limits.drift < 58000) (frames : List Queued) (past : List Reading) (came : ℕ) (t : AllocatorState) (inv : MemberInv frames past t)
+      (sane : lag limits < 58000) (frames : List Queued) (past : List Reading) (came : ℕ) (t : AllocatorState) (inv : MemberInv frames past t)
       (number : ℕ) (its_time : time_of all number ≡ came) where
     abbrev read : ℕ → Reading
-    read now = record { at = came; now = now }
+    read now = record { at = came; now = now; opens = false }
 
     called_then : (event : Event) → AreCalledAt (read (max t.now (moment_of event)) ∷ past) (step t number event).step_state.allocator
     called_then event peer request sending pending sent = elim (laws.called t number event peer request pending) [
@@ -113,16 +113,16 @@ module _ (limits : Limits) (all : List Timed) where
       | inr made ↦ inl (now_is made)
     ]
       where
-        now_is : IsCalled number (step t number event).step_state peer request → record { at = time_of all request.step; now = sending.moment } ≡ read (max t.now (moment_of event))
+        now_is : IsCalled number (step t number event).step_state peer request → record { at = time_of all request.step; now = sending.moment; opens = false } ≡ read (max t.now (moment_of event))
         now_is made =
             let same : sending ≡ record { id = made.offer.id; moment = (step t number event).step_state.allocator.now } =
             one_sending sending _ (sym sent ∙ made.kept) in
-            ap (λ (k : ℕ). record { at = time_of all k; now = sending.moment }) made.step
-            ∙ (ap (λ (k : ℕ). record { at = k; now = sending.moment }) its_time
-            ∙ ap (λ (k : ℕ). record { at = came; now = k }) (ap (λ (s : Sending). s.moment) same ∙ laws.now t number event))
+            ap (λ (k : ℕ). record { at = time_of all k; now = sending.moment; opens = false }) made.step
+            ∙ (ap (λ (k : ℕ). record { at = k; now = sending.moment; opens = false }) its_time
+            ∙ ap (λ (k : ℕ). record { at = came; now = k; opens = false }) (ap (λ (s : Sending). s.moment) same ∙ laws.now t number event))
 
     later_heard : (now : ℕ) (sessions : List Session) → AllInTimeTo (setting_for t.me) frames past sessions → AllInTimeTo (setting_for t.me) frames (read now ∷ past) sessions
-    later_heard now sessions each s i = still (IsKnownTo (setting_for t.me) frames) (IsKnownTo (setting_for t.me) frames) (λ key h is. is) (width limits all) past
+    later_heard now sessions each s i = still (IsKnownTo (setting_for t.me) frames) (IsKnownTo (setting_for t.me) frames) (λ key h is. is) (width limits all (lag limits)) past
         (read now ∷ past) (λ p j. inr j) s (each s i)
 
     for_me : (event : Event) (now : ℕ) → AllInTimeTo (setting_for t.me) frames (read now ∷ past) (step t number event).step_state.allocator.sessions
@@ -137,14 +137,14 @@ module _ (limits : Limits) (all : List Timed) where
       called = called_then (Ticks ms word);
     }
 
-    pub receives : (frame : Queued) → In frame frames → (ms : ℕ) → GoesOn limits past came (max t.now ms) → ComesInTime limits all came frame
+    pub receives : (frame : Queued) → In frame frames → (ms : ℕ) → GoesOn (lag limits) past came (max t.now ms) → ComesInTime limits all came frame
         → MemberInv frames (read (max t.now ms) ∷ past) (step t number (Receives (arrival_at frame ms))).step_state.allocator
     receives frame there ms goes timely = record {
       heard = for_me (Receives (arrival_at frame ms)) (max t.now ms)
           (subst (λ (l : List Session). AllInTimeTo (setting_for t.me) frames (read (max t.now ms) ∷ past) l) (sym (laws.heard t number (arrival_at frame ms)))
-          (stepped (IsKnownTo (setting_for t.me) frames) (IsKnownTo (setting_for t.me) frames) (λ key h is. is) (width limits all) past (read (max t.now ms) ∷ past)
+          (stepped (IsKnownTo (setting_for t.me) frames) (IsKnownTo (setting_for t.me) frames) (λ key h is. is) (width limits all (lag limits)) past (read (max t.now ms) ∷ past)
           (λ p i. inr i) (setting_for t.me) t.sessions inv.heard (arrival_at frame (max t.now ms)) came (inl refl)
-          (soon limits all sane past came (max t.now ms) goes)
+          (soon limits all (lag limits) sane past came (max t.now ms) goes)
           (λ key is. record {
             came = record { frame = frame; there = there; id = refl; bytes = refl; mark = refl };
             of_key = of_its_key (setting_for t.me) key (arrival_at frame (max t.now ms)) is;
@@ -176,52 +176,52 @@ module _ (limits : Limits) (all : List Timed) where
         (puts_on (puts_of x (step t number event).step_state) x.disk) _ (λ v f. absurd (cc (f))) e)
 
   module _ (laws : MemberLaws) (of_its_key : (setting : Setting) (key : Key) (b : Arrival) → is_of setting key b ≡ true → IsOfKey setting key b)
-      (sane : limits.drift < 58000) (n : ℕ) (w : Cluster) (past : List Reading) (came : ℕ) (inv : InvOf n w.frames past w.member)
+      (sane : lag limits < 58000) (n : ℕ) (w : Cluster) (past : List Reading) (came : ℕ) (inv : InvOf n w.frames past w.member)
       (its_time : time_of all (w.rows + 1) ≡ came) where
     is_same : (m : ℕ) → (n == m) ≡ true → n ≡ m
     is_same m e = elim (eqb_tells n m) [ inl s ↦ s.1 | inr apart ↦ absurd (cc (sym apart.0 ∙ e)) ]
 
     tick_by : (m ms word : ℕ) (same : Bool) → (n == m) ≡ same → (u : AllocatorState)
         → (if same then member_after_step (w.rows + 1) (tick_of ms word) (w.member m).status (w.member m) else w.member n).status ≡ Up u
-        → MemberInv w.frames (if same then record { at = came; now = now_in (w.member m).status ms } ∷ past else past) u
+        → MemberInv w.frames (if same then record { at = came; now = now_in (w.member m).status ms; opens = false } ∷ past else past) u
     tick_by m ms word false e u up = inv u up
     tick_by m ms word true e u up = by (w.member m).status refl up where
       by : (status : MemberStatus) → (w.member m).status ≡ status → (member_after_step (w.rows + 1) (tick_of ms word) status (w.member m)).status ≡ Up u
-          → MemberInv w.frames (record { at = came; now = now_in status ms } ∷ past) u
+          → MemberInv w.frames (record { at = came; now = now_in status ms; opens = false } ∷ past) u
       by Down runs f = absurd (cc (sym runs ∙ f))
       by (Failed failure) runs f = absurd (cc (sym runs ∙ f))
-      by (Up t) runs f = subst (λ (v : AllocatorState). MemberInv w.frames (record { at = came; now = max t.now ms } ∷ past) v)
+      by (Up t) runs f = subst (λ (v : AllocatorState). MemberInv w.frames (record { at = came; now = max t.now ms; opens = false } ∷ past) v)
           (up_after (w.rows + 1) t (tick_of ms word) (w.member m) u f)
           (ticks laws of_its_key sane w.frames past came t (inv t (ap (λ (k : ℕ). (w.member k).status) (is_same m e) ∙ runs)) (w.rows + 1) its_time ms word)
 
-    rx_by : (m k ms : ℕ) (same : Bool) → (n == m) ≡ same → In (frame_at w.frames k) w.frames → WhereIts same (GoesOn limits past came (now_in (w.member m).status ms))
+    rx_by : (m k ms : ℕ) (same : Bool) → (n == m) ≡ same → In (frame_at w.frames k) w.frames → WhereIts same (GoesOn (lag limits) past came (now_in (w.member m).status ms))
         → ComesInTime limits all came (frame_at w.frames k) → (u : AllocatorState)
         → (if same then member_after_step (w.rows + 1) (receipt_of w k ms) (w.member m).status (w.member m) else w.member n).status ≡ Up u
-        → MemberInv w.frames (if same then record { at = came; now = now_in (w.member m).status ms } ∷ past else past) u
+        → MemberInv w.frames (if same then record { at = came; now = now_in (w.member m).status ms; opens = false } ∷ past else past) u
     rx_by m k ms false e there goes timely u up = inv u up
     rx_by m k ms true e there goes timely u up = by (w.member m).status refl goes up where
-      by : (status : MemberStatus) → (w.member m).status ≡ status → GoesOn limits past came (now_in status ms)
+      by : (status : MemberStatus) → (w.member m).status ≡ status → GoesOn (lag limits) past came (now_in status ms)
           → (member_after_step (w.rows + 1) (receipt_of w k ms) status (w.member m)).status ≡ Up u
-          → MemberInv w.frames (record { at = came; now = now_in status ms } ∷ past) u
+          → MemberInv w.frames (record { at = came; now = now_in status ms; opens = false } ∷ past) u
       by Down runs on f = absurd (cc (sym runs ∙ f))
       by (Failed failure) runs on f = absurd (cc (sym runs ∙ f))
-      by (Up t) runs on f = subst (λ (v : AllocatorState). MemberInv w.frames (record { at = came; now = max t.now ms } ∷ past) v)
+      by (Up t) runs on f = subst (λ (v : AllocatorState). MemberInv w.frames (record { at = came; now = max t.now ms; opens = false } ∷ past) v)
           (up_after (w.rows + 1) t (receipt_of w k ms) (w.member m) u f)
           (receives laws of_its_key sane w.frames past came t (inv t (ap (λ (j : ℕ). (w.member j).status) (is_same m e) ∙ runs)) (w.rows + 1) its_time
           (frame_at w.frames k) there ms on timely)
 
     opened : (m : ℕ) (rules : Rules) (ms word : ℕ) (u : AllocatorState) → (after_opening m rules ms word (w.member m)).status ≡ Up u
-        → MemberInv w.frames (record { at = came; now = ms } ∷ []) u
+        → MemberInv w.frames (record { at = came; now = ms; opens = true } ∷ []) u
     opened m rules ms word u = by (is_open_on (w.member m).disk) where
-      fresh : (store : _) → MemberInv w.frames (record { at = came; now = ms } ∷ []) (opening_by m rules store ms word)
+      fresh : (store : _) → MemberInv w.frames (record { at = came; now = ms; opens = true } ∷ []) (opening_by m rules store ms word)
       fresh store = record { heard = λ s i. absurd i; called = λ peer request sending pending sent. absurd (cc (pending)) }
 
       by : (b : Bool) → (if b then record (w.member m) {
         status = Up (opening_by m rules (Rattle.raft_core.specs.StoredPuts.store_of (opening_on (w.member m).disk).store) ms word);
         disk = opening_on (w.member m).disk;
       } else Rattle.bus_spec.specs.Members.after_failed_opening (w.member m) (opening_on (w.member m).disk)).status ≡ Up u
-          → MemberInv w.frames (record { at = came; now = ms } ∷ []) u
-      by true e = subst (λ (v : AllocatorState). MemberInv w.frames (record { at = came; now = ms } ∷ []) v) (one_up _ u e)
+          → MemberInv w.frames (record { at = came; now = ms; opens = true } ∷ []) u
+      by true e = subst (λ (v : AllocatorState). MemberInv w.frames (record { at = came; now = ms; opens = true } ∷ []) v) (one_up _ u e)
           (fresh (Rattle.raft_core.specs.StoredPuts.store_of (opening_on (w.member m).disk).store))
       by false e = absurd (failed (opening_on (w.member m).disk).calls.stopped e) where
         failed : (b : Bool) → (if b then stopped_with (w.member m).pattern (opening_on (w.member m).disk) (w.member m)
@@ -230,7 +230,7 @@ module _ (limits : Limits) (all : List Timed) where
         failed false f = absurd (cc (f))
 
     open_by : (m : ℕ) (rules : Rules) (ms word : ℕ) (same : Bool) → (u : AllocatorState) → (if same then after_opening m rules ms word (w.member m) else w.member n).status ≡ Up u
-        → MemberInv w.frames (if same then record { at = came; now = ms } ∷ [] else past) u
+        → MemberInv w.frames (if same then record { at = came; now = ms; opens = true } ∷ [] else past) u
     open_by m rules ms word false u up = inv u up
     open_by m rules ms word true u up = opened m rules ms word u up
 
@@ -299,7 +299,7 @@ module _ (limits : Limits) (all : List Timed) where
   at_end (x ∷ done) t rest d = at_end done t rest d
 
   module _ (laws : MemberLaws) (of_its_key : (setting : Setting) (key : Key) (b : Arrival) → is_of setting key b ≡ true → IsOfKey setting key b)
-      (sane : limits.drift < 58000) (n : ℕ) (now : Timed) where
+      (sane : lag limits < 58000) (n : ℕ) (now : Timed) where
     pub along : (before done : List Timed) (w : Cluster) (past : List Reading) → all ≡ done ++ (before ++ now ∷ []) → w.rows ≡ length done
         → InvOf n w.frames past w.member → ClockGoesOn limits n past w (before ++ now ∷ []) → FramesComeInTime limits all w (before ++ now ∷ [])
         → AreLawful w (rows_in before) → MemberBefore n (after_rows w (rows_in before)) now

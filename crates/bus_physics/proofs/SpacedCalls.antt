@@ -33,7 +33,7 @@ use Rattle.bus_agreement.proofs.Lists.{in_front}
 use Rattle.bus_agreement.proofs.OneRowMore.{lawful as one_more}
 use Rattle.bus_agreement.proofs.MadeTransfers.{IsNew, made_by, made_when, newly_made, still_made}
 use Rattle.bus_rows.specs.Timed.{Timed, rows_in}
-use Rattle.bus_physics.specs.Physics.{HoldsAreShort, IsAnsweredSince, IsNotFast, IsResponseOf, Limits, WhereIts, Reading, Reads, ReadsAt, RestsBeforeOpening, heard_by, heard_in, member_readings, now_in, row_of, time_of}
+use Rattle.bus_physics.specs.Physics.{HoldsAreShort, IsAnsweredSince, IsNotFast, IsResponseOf, Limits, WhereIts, Reading, Reads, ReadsAt, RestsBeforeOpening, heard_by, heard_in, member_readings, now_in, row_of, time_of, lag}
 use Rattle.bus_physics.proofs.Scheduled.{rows_of_more}
 use Rattle.bus_physics.proofs.Now.{now_of_a_step}
 use Rattle.bus_physics.proofs.Waking.{IsAwake}
@@ -131,7 +131,7 @@ module _ (append : Bool) (p width : ℕ) (P : ℕ → ℕ → Memory → Times �
     -- since the call so many were made, and its moment is that of a reading
     pub record Waits (made : List SentTransfer) (past : List Reading) (t : AllocatorState) (x : SentTransfer) : Type 0 where
       pub moment : ℕ
-      pub reading : In (record { at = time_of all x.step; now = moment }) past
+      pub reading : In (record { at = time_of all x.step; now = moment; opens = false }) past
       pub more : ℕ
       pub since : Since append p P x.offer.id moment more t.raft_server.memory t.times t.ids t.now
       pub followed : 1 ≤ more → IsFollowed made x
@@ -145,6 +145,7 @@ module _ (append : Bool) (p width : ℕ) (P : ℕ → ℕ → Memory → Times �
       pub room : p < length (ids_to append t.ids)
       -- the reading of its opening
       pub opening : Reading
+      pub opens : opening.opens ≡ true
       pub reading : In opening past
       pub awake : IsAwake opening.now t.raft_server.memory t.times t.now
       pub each : (x : SentTransfer) → In x made → IsCallTo x → IsEnded made heard opening.at x ⊎ Waits made past t x
@@ -210,7 +211,7 @@ module _ (append : Bool) (p width : ℕ) (P : ℕ → ℕ → Memory → Times �
       g = (step t number event).step_state
 
       abbrev later_past : List Reading
-      later_past = record { at = came; now = max t.now (moment_of event) } ∷ past
+      later_past = record { at = came; now = max t.now (moment_of event); opens = false } ∷ past
 
       -- a call behind which so many were made, none where the event is an answer
       pub record Past (id M b : ℕ) : Type 0 where
@@ -286,6 +287,7 @@ module _ (append : Bool) (p width : ℕ) (P : ℕ → ℕ → Memory → Times �
         wait = called.wait;
         room = called.room;
         opening = runs.opening;
+        opens = runs.opens;
         reading = inr runs.reading;
         awake = called.awake;
         each = λ x i call. by x call (made_when number n g.offers made x i);
@@ -319,8 +321,8 @@ module _ (append : Bool) (p width : ℕ) (P : ℕ → ℕ → Memory → Times �
           by x call (inl i) = old x i call (runs.each x i call)
           by x call (inr new) = inr (record {
             moment = g.allocator.now;
-            reading = inl (ap (λ (k : ℕ). record { at = time_of all k; now = g.allocator.now }) (ap (λ (y : SentTransfer). y.step) new.is)
-                ∙ (ap (λ (k : ℕ). record { at = k; now = g.allocator.now }) its_time ∙ ap (λ (k : ℕ). record { at = came; now = k }) now_is));
+            reading = inl (ap (λ (k : ℕ). record { at = time_of all k; now = g.allocator.now; opens = false }) (ap (λ (y : SentTransfer). y.step) new.is)
+                ∙ (ap (λ (k : ℕ). record { at = k; now = g.allocator.now; opens = false }) its_time ∙ ap (λ (k : ℕ). record { at = came; now = k; opens = false }) now_is));
             more = 0;
             since = subst (λ (o : Offer). Since append p P o.id g.allocator.now 0 g.allocator.raft_server.memory g.allocator.times g.allocator.ids g.allocator.now)
                 (ap (λ (y : SentTransfer). y.offer) (sym new.is)) (called.own new.offer new.offered (new_call x new call));
@@ -336,14 +338,23 @@ module _ (append : Bool) (p width : ℕ) (P : ℕ → ℕ → Memory → Times �
         far : (w : Waits made past t x) → w.moment + width ≤ g.allocator.now → time_of all x.step + 2 * limits.hold < came
         far w passed = elim (leb_tells came (time_of all x.step + 60000)) [
           | inr long ↦ omega (arith, long.1, short.round)
-          | inl soon ↦ omega (arith, slow (record { at = time_of all x.step; now = w.moment }) w.reading soon.1, passed, now_is, short.round, wide)
+          | inl soon ↦ omega (arith, slow (record { at = time_of all x.step; now = w.moment; opens = false }) w.reading soon.1, passed, now_is, short.round, wide)
         ]
 
         -- it rested before it was opened, and 2,000 ms have passed since
         far_after_rest : time_of all x.step + limits.rest ≤ runs.opening.at → runs.opening.now + 2000 ≤ g.allocator.now → time_of all x.step + 2 * limits.hold < came
         far_after_rest rested passed = elim (leb_tells came (runs.opening.at + 60000)) [
           | inr long ↦ omega (arith, long.1, rested, short.rested)
-          | inl soon ↦ omega (arith, slow runs.opening runs.reading soon.1, passed, now_is, rested, short.rested, short.clock)
+          | inl soon ↦ omega (
+            arith,
+            slow runs.opening runs.reading soon.1,
+            ap (λ (b : Bool). if b then limits.drift else lag limits) runs.opens,
+            passed,
+            now_is,
+            rested,
+            short.rested,
+            short.clock,
+          )
         ]
 
         at_step : IsNew number n g.offers y → time_of all x.step + 2 * limits.hold < came → time_of all x.step + 2 * limits.hold < time_of all y.step
@@ -383,6 +394,7 @@ module _ (append : Bool) (p width : ℕ) (P : ℕ → ℕ → Memory → Times �
           wait = r.wait;
           room = r.room;
           opening = r.opening;
+          opens = r.opens;
           reading = r.reading;
           awake = r.awake;
           each = λ x i c. by x (r.each x (only x i c) c);
@@ -424,12 +436,13 @@ module _ (append : Bool) (p width : ℕ) (P : ℕ → ℕ → Memory → Times �
       wait_begun (node ∷ nodes) ms word = refl
 
       fresh : (m : ℕ) → n ≡ m → (told : Bool) (ms word : ℕ) → row_of all (w.rows + 1) ≡ Opens m told ms word → (rules : Rules) (store : Store) (u : AllocatorState)
-          → opening_by m rules store ms word ≡ u → Runs made (heard ++ []) (record { at = came; now = ms } ∷ []) u
+          → opening_by m rules store ms word ≡ u → Runs made (heard ++ []) (record { at = came; now = ms; opens = true } ∷ []) u
       fresh m same told ms word row rules store u is_it =
-          subst (λ (v : AllocatorState). Runs made (heard ++ []) (record { at = came; now = ms } ∷ []) v) is_it (record {
+          subst (λ (v : AllocatorState). Runs made (heard ++ []) (record { at = came; now = ms; opens = true } ∷ []) v) is_it (record {
             wait = omega (arith, wait_begun rules.told ms word);
             room = zeros append;
-            opening = record { at = came; now = ms };
+            opening = record { at = came; now = ms; opens = true };
+            opens = refl;
             reading = inl refl;
             awake = record { wait = omega (arith, wait_begun rules.told ms word); follows = inl refl };
             each = λ x i c. inl (inr (subst (λ (at : ℕ). time_of all x.step + limits.rest ≤ at) its_time
@@ -437,7 +450,7 @@ module _ (append : Bool) (p width : ℕ) (P : ℕ → ℕ → Memory → Times �
           })
 
       opened_row : (m : ℕ) (told : Bool) (ms word : ℕ) → row_of all (w.rows + 1) ≡ Opens m told ms word → (rules : Rules) (same : Bool) → (n == m) ≡ same
-          → Next made (heard ++ []) (if same then record { at = came; now = ms } ∷ [] else past)
+          → Next made (heard ++ []) (if same then record { at = came; now = ms; opens = true } ∷ [] else past)
           (if same then after_opening m rules ms word (w.member m) else w.member n).status
       opened_row m told ms word row rules false e = unchanged (w.member n).status (λ u up. up)
       opened_row m told ms word row rules true e = record {
@@ -449,7 +462,7 @@ module _ (append : Bool) (p width : ℕ) (P : ℕ → ℕ → Memory → Times �
             status = Up (opening_by m rules (store_of (opening_on (w.member m).disk).store) ms word);
             disk = opening_on (w.member m).disk;
           } else after_failed_opening (w.member m) (opening_on (w.member m).disk)).status ≡ Up u
-              → Runs made (heard ++ []) (record { at = came; now = ms } ∷ []) u
+              → Runs made (heard ++ []) (record { at = came; now = ms; opens = true } ∷ []) u
           by u true up = fresh m (is_same m e) told ms word row rules (store_of (opening_on (w.member m).disk).store) u (one_up _ u up)
           by u false up = absurd (failed (opening_on (w.member m).disk).calls.stopped up) where
             failed : (b : Bool) → (if b then stopped_with (w.member m).pattern (opening_on (w.member m).disk) (w.member m)
@@ -480,7 +493,7 @@ module _ (append : Bool) (p width : ℕ) (P : ℕ → ℕ → Memory → Times �
           (hears : (f : Queued) → In f heard → In f further) where
         stepped_own : (status : MemberStatus) → (w.member n).status ≡ status → IsNotFast limits past came (now_in status (moment_of event))
             → ((t : AllocatorState) → status ≡ Up t → Answers event (begin_phase (w.rows + 1) (moment_of event) t).allocator → IsHeard made further (w.rows + 1))
-            → Next (transfers_of_step (w.rows + 1) n event status (w.member n) made) further (record { at = came; now = now_in status (moment_of event) } ∷ past)
+            → Next (transfers_of_step (w.rows + 1) n event status (w.member n) made) further (record { at = came; now = now_in status (moment_of event); opens = false } ∷ past)
             (member_after_step (w.rows + 1) event status (w.member n)).status
         stepped_own Down is_it slow answered = record {
           running = λ u up. absurd (cc (sym is_it ∙ up));
@@ -495,7 +508,7 @@ module _ (append : Bool) (p width : ℕ) (P : ℕ → ℕ → Memory → Times �
           g = (step t (w.rows + 1) event).step_state
 
           reads : List Reading
-          reads = record { at = came; now = max t.now (moment_of event) } ∷ past
+          reads = record { at = came; now = max t.now (moment_of event); opens = false } ∷ past
 
           cut : (u : AllocatorState) (b : Bool) (failed : Member) → ((v : AllocatorState) → failed.status ≡ Up v → ⊥)
               → (if b then stopped_with (w.member n).pattern (puts_on (puts_of (w.member n) g) (w.member n).disk) (w.member n) else failed).status ≡ Up u → ⊥
@@ -529,24 +542,24 @@ module _ (append : Bool) (p width : ℕ) (P : ℕ → ℕ → Memory → Times �
 
         tick_row : (m ms word : ℕ) (same : Bool) → (n == m) ≡ same → WhereIts same (IsNotFast limits past came (now_in (w.member m).status ms))
             → Next (transfers_of_step (w.rows + 1) m (tick_of ms word) (w.member m).status (w.member m) made) (heard ++ [])
-            (if same then record { at = came; now = now_in (w.member m).status ms } ∷ past else past)
+            (if same then record { at = came; now = now_in (w.member m).status ms; opens = false } ∷ past else past)
             (if same then member_after_step (w.rows + 1) (tick_of ms word) (w.member m).status (w.member m) else w.member n).status
         tick_row m ms word false e slow_ = stepped_other m (is_other m e) (tick_of ms word) (w.member m).status (w.member m) (heard ++ []) (λ f i. in_front f heard [] i)
         tick_row m ms word true e slow_ =
             subst (λ (k : ℕ). IsNotFast limits past came (now_in (w.member k).status ms)
             → Next (transfers_of_step (w.rows + 1) k (tick_of ms word) (w.member k).status (w.member k) made) (heard ++ [])
-            (record { at = came; now = now_in (w.member k).status ms } ∷ past) (member_after_step (w.rows + 1) (tick_of ms word) (w.member k).status (w.member k)).status)
+            (record { at = came; now = now_in (w.member k).status ms; opens = false } ∷ past) (member_after_step (w.rows + 1) (tick_of ms word) (w.member k).status (w.member k)).status)
             (is_same m e) (λ s. stepped_own short wide (tick_of ms word) (heard ++ []) (λ f i. in_front f heard [] i) (w.member n).status refl s (λ t up a. absurd a)) slow_
 
         rx_row : (m k ms : ℕ) → row ≡ Rx m k ms → (same : Bool) → (n == m) ≡ same → WhereIts same (IsNotFast limits past came (now_in (w.member m).status ms))
             → Next (transfers_of_step (w.rows + 1) m (receipt_of w k ms) (w.member m).status (w.member m) made) (heard ++ (if same then frame_at w.frames k ∷ [] else []))
-            (if same then record { at = came; now = now_in (w.member m).status ms } ∷ past else past)
+            (if same then record { at = came; now = now_in (w.member m).status ms; opens = false } ∷ past else past)
             (if same then member_after_step (w.rows + 1) (receipt_of w k ms) (w.member m).status (w.member m) else w.member n).status
         rx_row m k ms r false e slow_ = stepped_other m (is_other m e) (receipt_of w k ms) (w.member m).status (w.member m) (heard ++ []) (λ f i. in_front f heard [] i)
         rx_row m k ms r true e slow_ =
             subst (λ (j : ℕ). row ≡ Rx j k ms → IsNotFast limits past came (now_in (w.member j).status ms)
             → Next (transfers_of_step (w.rows + 1) j (receipt_of w k ms) (w.member j).status (w.member j) made) (heard ++ frame_at w.frames k ∷ [])
-            (record { at = came; now = now_in (w.member j).status ms } ∷ past) (member_after_step (w.rows + 1) (receipt_of w k ms) (w.member j).status (w.member j)).status)
+            (record { at = came; now = now_in (w.member j).status ms; opens = false } ∷ past) (member_after_step (w.rows + 1) (receipt_of w k ms) (w.member j).status (w.member j)).status)
             (is_same m e) (λ r_ s. stepped_own short wide (receipt_of w k ms) (heard ++ frame_at w.frames k ∷ [])
             (λ f i. in_front f heard (frame_at w.frames k ∷ []) i) (w.member n).status refl s
             (λ t up a. subst (λ (l : List Queued). IsHeard made (heard ++ l) (w.rows + 1)) (ap (λ (x : Row). heard_in n w x) r_ ∙ itself k)
@@ -572,6 +585,7 @@ module _ (append : Bool) (p width : ℕ) (P : ℕ → ℕ → Memory → Times �
                   wait = r.wait;
                   room = r.room;
                   opening = r.opening;
+                  opens = r.opens;
                   reading = r.reading;
                   awake = r.awake;
                   each = λ x i c. popped r.opening.at x (r.each x i c);

@@ -16,7 +16,7 @@ use Rattle.bus_agreement.specs.Said.{carrier}
 use Rattle.alloc_spec_laws.proofs.DistinctTransfers.{rank}
 use Rattle.bus_agreement.proofs.Lists.{never}
 use Rattle.bus_rows.specs.Timed.{Timed}
-use Rattle.bus_physics.specs.Physics.{ClockGoesOnAt, ComesInTime, FrameComesInTime, GoesOn, Limits, WhereIts, IsAnsweredSince, AnswersInOrder, IsResponseOf, WaitsForAnswers, now_in, time_of}
+use Rattle.bus_physics.specs.Physics.{ClockGoesOnAt, ComesInTime, FrameComesInTime, GoesOn, Limits, WhereIts, IsAnsweredSince, AnswersInOrder, IsResponseOf, WaitsForAnswers, now_in, time_of, lag}
 use Rattle.bus_physics.specs.Reuse.{IsStaleAt}
 use Rattle.bus_physics.proofs.Members.{MemberBefore}
 use Rattle.bus_physics.proofs.Waiting.{WaitsLast}
@@ -39,7 +39,7 @@ is_call : (append : Bool) → 8 ≤ rank (carrier append)
 is_call true = omega arith
 is_call false = omega arith
 
-module _ (limits : Limits) (all : List Timed) (sane : limits.drift < 58000) (made : List SentTransfer) (numbered : (x : SentTransfer) → In x made → 1 ≤ x.step)
+module _ (limits : Limits) (all : List Timed) (sane : lag limits < 58000) (made : List SentTransfer) (numbered : (x : SentTransfer) → In x made → 1 ≤ x.step)
     (heard : List Queued) (w : Cluster) (now : Timed) (n k ms : ℕ) (waits : WaitsForAnswers limits all made heard n)
     (order : AnswersInOrder n heard (frame_at w.frames k)) (row : now.row ≡ Rx n k ms) (before : MemberBefore limits all n w now)
     (waits_last : WaitsLast n made (w.member n).status)
@@ -47,8 +47,8 @@ module _ (limits : Limits) (all : List Timed) (sane : limits.drift < 58000) (mad
   comes : ComesInTime limits all now.at (frame_at w.frames k)
   comes = subst (λ (r : Row). FrameComesInTime limits all w now.at r) row before.comes
 
-  goes : GoesOn limits before.past now.at (max s.server.now ms)
-  goes = subst (λ (status : MemberStatus). GoesOn limits before.past now.at (now_in status ms)) s.runs
+  goes : GoesOn (lag limits) before.past now.at (max s.server.now ms)
+  goes = subst (λ (status : MemberStatus). GoesOn (lag limits) before.past now.at (now_in status ms)) s.runs
       (of_it n (subst (λ (r : Row). ClockGoesOnAt limits n before.past w now.at r) row before.clock))
 
   re_is : s.response.offer.re ≡ s.first.step
@@ -60,7 +60,7 @@ module _ (limits : Limits) (all : List Timed) (sane : limits.drift < 58000) (mad
   some_step : 1 ≤ (frame_at w.frames k).mark.step
   some_step = omega (arith, s.response_step, numbered s.response s.response_made)
 
-  reading : In (record { at = time_of all s.request.step; now = s.sending.moment }) before.past
+  reading : In (record { at = time_of all s.request.step; now = s.sending.moment; opens = false }) before.past
   reading = (before.inv s.server s.runs).called s.second.offer.to s.request s.sending s.pending s.sent
 
   long_ago : time_of all s.first.step + 2 * limits.hold < time_of all s.second.step → ⊥
@@ -68,7 +68,7 @@ module _ (limits : Limits) (all : List Timed) (sane : limits.drift < 58000) (mad
       contradiction limits.hold (time_of all s.first.step) (time_of all s.second.step) (time_of all s.response.step) now.at
       (subst (λ (m : ℕ). time_of all s.response.step ≤ time_of all m + limits.hold) re_is (soon.1 some_re))
       (subst (λ (m : ℕ). now.at ≤ time_of all m + limits.hold) (sym s.response_step) (comes.soon some_step))
-      (subst (λ (m : ℕ). time_of all m ≤ now.at) (sym s.called) (goes (record { at = time_of all s.request.step; now = s.sending.moment }) reading).0)
+      (subst (λ (m : ℕ). time_of all m ≤ now.at) (sym s.called) (goes (record { at = time_of all s.request.step; now = s.sending.moment; opens = false }) reading).0)
       far
 
   -- the call that was answered was made before the one that waits

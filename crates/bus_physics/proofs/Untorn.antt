@@ -117,8 +117,8 @@ mapped f (h ∷ hs) = ap (λ (l : List _). f h.arrival ∷ l) (mapped f hs)
 -- ---- what the frame that is torn comes to
 
 module _ (limits : Limits) (all : List Timed) (sane : limits.drift < 58000) (past : List Reading) (came : ℕ) (frames : List Queued) (sessions : List Session)
-    (inv : (s : Session) → In s sessions → IsInTime (IsKnown limits all frames) (width limits all) past s) (arrival : Arrival)
-    (goes : GoesOn limits past came arrival.moment) (key : Key) where
+    (inv : (s : Session) → In s sessions → IsInTime (IsKnown limits all frames) (width limits all limits.drift) past s) (arrival : Arrival)
+    (goes : GoesOn limits.drift past came arrival.moment) (key : Key) where
   abbrev new : Heard
   new = record { arrival = arrival; at = came }
 
@@ -128,23 +128,23 @@ module _ (limits : Limits) (all : List Timed) (sane : limits.drift < 58000) (pas
     pub each : (h : Heard) → In h heard → IsKnown limits all frames key h
     pub taken : session.taken ≡ map (λ (h : Heard). piece_in h.arrival) heard
     pub marks : session.marks ≡ map (λ (h : Heard). h.arrival.mark) heard
-    pub close : AreClose (width limits all) (heard ++ new ∷ [])
+    pub close : AreClose (width limits all limits.drift) (heard ++ new ∷ [])
 
   taken_by : (session : Session) → session.key ≡ key
-      → IsIdle session ⊎ IsYoung (IsKnown limits all frames) (width limits all) past sessions inv arrival.moment session → TakenInTime session
+      → IsIdle session ⊎ IsYoung (IsKnown limits all frames) (width limits all limits.drift) past sessions inv arrival.moment session → TakenInTime session
   taken_by session own (inl none) = record { heard = []; each = λ h i. absurd i; taken = none.0; marks = none.1; close = tt }
   taken_by session own (inr is) = record {
     heard = is.0.heard;
     each = λ h i. subst (λ (k : Key). IsKnown limits all frames k h) own (is.0.each h i);
     taken = is.0.taken;
     marks = is.0.marks;
-    close = close_more (width limits all) past came arrival.moment (soon limits all sane past came arrival.moment goes) arrival
+    close = close_more (width limits all limits.drift) past came arrival.moment (soon limits all limits.drift sane past came arrival.moment goes) arrival
         is.0.heard session.moment is.1 is.0.close is.0.ends;
   }
 
   pub timed_taken : (session : Session) → IsIdleOrOf key (recent_sessions arrival.moment sessions) session → TakenInTime session
   timed_taken session is = taken_by session is.own
-      (comes (IsKnown limits all frames) (width limits all) past sessions inv arrival.moment key session is)
+      (comes (IsKnown limits all frames) (width limits all limits.drift) past sessions inv arrival.moment key session is)
 
   pub each_taken : (hs : List Heard) → ((h : Heard) → In h hs → IsKnown limits all frames key h) → (b : Arrival) → In b (map (λ (h : Heard). h.arrival) hs)
       → CameFrom frames b × IsOfKey device.setting key b
@@ -257,11 +257,11 @@ module _ (laws : FrameLaws) (choice : ℕ → Bool) (made : List SentTransfer) (
   abbrev coming : Arrival
   coming = arrival_at (frame_at w.frames k) (max x.asking.moment ms)
 
-  physical : GoesOn limits before.past now.at (now_of (w.allocatee a) ms) × ComesInTime limits all now.at (frame_at w.frames k)
+  physical : GoesOn limits.drift before.past now.at (now_of (w.allocatee a) ms) × ComesInTime limits all now.at (frame_at w.frames k)
   physical = of_it a (subst (λ (r : Row). Rattle.bus_physics.specs.Physics.RowIsPhysical limits all a before.past w now.at r) row before.row)
 
-  goes : GoesOn limits before.past now.at (max x.asking.moment ms)
-  goes = subst (λ (o : _). GoesOn limits before.past now.at (now_of o ms)) there physical.0
+  goes : GoesOn limits.drift before.past now.at (max x.asking.moment ms)
+  goes = subst (λ (o : _). GoesOn limits.drift before.past now.at (now_of o ms)) there physical.0
 
   module _ (d : Delivery) (gives : answer device.setting x.sessions coming ≡ Gives d) (broken : d.whole ≡ false) where
     abbrev its : IsDelivered device.setting x.sessions coming d
@@ -404,8 +404,8 @@ module _ (laws : FrameLaws) (choice : ℕ → Bool) (made : List SentTransfer) (
           lt_trichotomy : (a b : ℕ) → (a < b) ⊎ (b ≤ a)
           lt_trichotomy a b = elim (leb_tells b a) [ inl less ↦ inr less.1 | inr more ↦ inl (omega (arith, more.1)) ]
 
-          pair : AreNeighbours (hs ++ last ∷ []) (width limits all) two.one two.next
-          pair = neighbours (width limits all) (hs ++ last ∷ []) (taken c.session same_key).close two.front two.one two.next two.back (whole_list ∙ two.split)
+          pair : AreNeighbours (hs ++ last ∷ []) (width limits all limits.drift) two.one two.next
+          pair = neighbours (width limits all limits.drift) (hs ++ last ∷ []) (taken c.session same_key).close two.front two.one two.next two.back (whole_list ∙ two.split)
 
           apart_not : (m n p q : ℕ) → m ≤ p → p ≤ m + limits.hold → n ≤ q → q ≤ n + limits.hold → p ≤ q → q ≤ p + (2000 + limits.drift)
               → AreApart (limits.hold + 2000 + limits.drift) m n → ⊥

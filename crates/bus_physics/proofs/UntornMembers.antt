@@ -43,7 +43,7 @@ use Rattle.bus_agreement.proofs.Idents.{IsWanted, to_for, wanted_is}
 use Rattle.bus_agreement.proofs.Lists.{in_append, in_back, never, tell}
 use Rattle.bus_agreement.proofs.OneRow.{stands}
 use Rattle.bus_rows.specs.Timed.{Timed}
-use Rattle.bus_physics.specs.Physics.{AreApart, ClockGoesOnAt, ComesInTime, FrameComesInTime, ComesInOrder, GoesOn, HasKeyAt, IsParted, Limits, Reading, UsesIdsApart, may_be_long, now_in, time_of}
+use Rattle.bus_physics.specs.Physics.{AreApart, ClockGoesOnAt, ComesInTime, FrameComesInTime, ComesInOrder, GoesOn, HasKeyAt, IsParted, Limits, Reading, UsesIdsApart, may_be_long, now_in, time_of, lag}
 use Rattle.bus_physics.specs.Reuse.{AreOfOne, AreOfTwo, IsFrameOf, LacksFrames}
 use Rattle.bus_physics.proofs.Devices.{IsTimely, soon, width}
 use Rattle.bus_physics.proofs.InTime.{AreClose, Heard, IsIdle, IsInTime, IsYoung, close_more, comes, filtered, found}
@@ -58,9 +58,9 @@ use Rattle.bus_physics.proofs.Untorn.{AreNeighbours, in_its_turn, in_mapped, in_
 
 -- ---- what the frame that is torn comes to
 
-module _ (limits : Limits) (all : List Timed) (sane : limits.drift < 58000) (setting : Setting) (past : List Reading) (came : ℕ) (frames : List Queued) (sessions : List Session)
-    (inv : (s : Session) → In s sessions → IsInTime (IsKnownTo limits all setting frames) (width limits all) past s) (arrival : Arrival)
-    (goes : GoesOn limits past came arrival.moment) (key : Key) where
+module _ (limits : Limits) (all : List Timed) (sane : lag limits < 58000) (setting : Setting) (past : List Reading) (came : ℕ) (frames : List Queued) (sessions : List Session)
+    (inv : (s : Session) → In s sessions → IsInTime (IsKnownTo limits all setting frames) (width limits all (lag limits)) past s) (arrival : Arrival)
+    (goes : GoesOn (lag limits) past came arrival.moment) (key : Key) where
   abbrev new : Heard
   new = record { arrival = arrival; at = came }
 
@@ -70,23 +70,23 @@ module _ (limits : Limits) (all : List Timed) (sane : limits.drift < 58000) (set
     pub each : (h : Heard) → In h heard → IsKnownTo limits all setting frames key h
     pub taken : session.taken ≡ map (λ (h : Heard). piece_in h.arrival) heard
     pub marks : session.marks ≡ map (λ (h : Heard). h.arrival.mark) heard
-    pub close : AreClose (width limits all) (heard ++ new ∷ [])
+    pub close : AreClose (width limits all (lag limits)) (heard ++ new ∷ [])
 
   taken_by : (session : Session) → session.key ≡ key
-      → IsIdle session ⊎ IsYoung (IsKnownTo limits all setting frames) (width limits all) past sessions inv arrival.moment session → TakenInTime session
+      → IsIdle session ⊎ IsYoung (IsKnownTo limits all setting frames) (width limits all (lag limits)) past sessions inv arrival.moment session → TakenInTime session
   taken_by session own (inl none) = record { heard = []; each = λ h i. absurd i; taken = none.0; marks = none.1; close = tt }
   taken_by session own (inr is) = record {
     heard = is.0.heard;
     each = λ h i. subst (λ (k : Key). IsKnownTo limits all setting frames k h) own (is.0.each h i);
     taken = is.0.taken;
     marks = is.0.marks;
-    close = close_more (width limits all) past came arrival.moment (soon limits all sane past came arrival.moment goes) arrival
+    close = close_more (width limits all (lag limits)) past came arrival.moment (soon limits all (lag limits) sane past came arrival.moment goes) arrival
         is.0.heard session.moment is.1 is.0.close is.0.ends;
   }
 
   pub timed_taken : (session : Session) → IsIdleOrOf key (recent_sessions arrival.moment sessions) session → TakenInTime session
   timed_taken session is = taken_by session is.own
-      (comes (IsKnownTo limits all setting frames) (width limits all) past sessions inv arrival.moment key session is)
+      (comes (IsKnownTo limits all setting frames) (width limits all (lag limits)) past sessions inv arrival.moment key session is)
 
   pub each_taken : (hs : List Heard) → ((h : Heard) → In h hs → IsKnownTo limits all setting frames key h) → (b : Arrival) → In b (map (λ (h : Heard). h.arrival) hs)
       → CameFrom frames b × IsOfKey setting key b
@@ -116,7 +116,7 @@ apart_not hold drift m n p q a b c d e f (inl h) = absurd (omega (arith, a, b, c
 apart_not hold drift m n p q a b c d e f (inr h) = absurd (omega (arith, a, b, c, d, e, f, h))
 
 module _ (laws : FrameLaws) (choice : ℕ → Bool) (made : List SentTransfer) (w : Cluster) (run : raft.World) (members : AreMembers w.ids)
-    (shows : Shows choice made w run) (limits : Limits) (all : List Timed) (sane : limits.drift < 58000) (now : Timed) (n k ms : ℕ)
+    (shows : Shows choice made w run) (limits : Limits) (all : List Timed) (sane : lag limits < 58000) (now : Timed) (n k ms : ℕ)
     (row : now.row ≡ Rx n k ms) (before : MemberBefore limits all n w now) (heard : List Queued) (apart : UsesIdsApart limits all made heard n)
     (order : ComesInOrder n heard (frame_at w.frames k)) (follows : KeepsIn n heard (w.member n).status) (listed : In n w.ids)
     (others : (x : SentTransfer) → In x made → may_be_long x.offer.what ≡ false → frame_count (length x.offer.payload) ≤ 1)
@@ -133,14 +133,14 @@ module _ (laws : FrameLaws) (choice : ℕ → Bool) (made : List SentTransfer) (
       subst (λ (status : MemberStatus). ShowsMember choice made w.ids w.frames run n status (w.member n).disk) runs (shows.lives n listed) in
       subst (λ (m : ℕ). 1 ≤ m) (sym up.runs.me) (members.nodes n listed).0
 
-  goes : GoesOn limits before.past now.at (max t.now ms)
-  goes = subst (λ (status : MemberStatus). GoesOn limits before.past now.at (now_in status ms)) runs
+  goes : GoesOn (lag limits) before.past now.at (max t.now ms)
+  goes = subst (λ (status : MemberStatus). GoesOn (lag limits) before.past now.at (now_in status ms)) runs
       (of_it n (subst (λ (r : Row). ClockGoesOnAt limits n before.past w now.at r) row before.clock))
 
   timely_frame : ComesInTime limits all now.at (frame_at w.frames k)
   timely_frame = subst (λ (r : Row). FrameComesInTime limits all w now.at r) row before.comes
 
-  abbrev kept_before : (s : Session) → In s t.sessions → IsInTime (IsKnownTo limits all setting w.frames) (width limits all) before.past s
+  abbrev kept_before : (s : Session) → In s t.sessions → IsInTime (IsKnownTo limits all setting w.frames) (width limits all (lag limits)) before.past s
   kept_before s i = (before.inv t runs).heard s i
 
   module _ (d : Delivery) (gives : answer setting t.sessions coming ≡ Gives d) (broken : d.whole ≡ false) where
@@ -327,10 +327,10 @@ module _ (laws : FrameLaws) (choice : ℕ → Bool) (made : List SentTransfer) (
           lt_trichotomy : (a b : ℕ) → (a < b) ⊎ (b ≤ a)
           lt_trichotomy a b = elim (leb_tells b a) [ inl less ↦ inr less.1 | inr more ↦ inl (omega (arith, more.1)) ]
 
-          pair : AreNeighbours (hs ++ last ∷ []) (width limits all) two.one two.next
-          pair = neighbours (width limits all) (hs ++ last ∷ []) (taken c.session same_key).close two.front two.one two.next two.back (whole_list ∙ two.split)
+          pair : AreNeighbours (hs ++ last ∷ []) (width limits all (lag limits)) two.one two.next
+          pair = neighbours (width limits all (lag limits)) (hs ++ last ∷ []) (taken c.session same_key).close two.front two.one two.next two.back (whole_list ∙ two.split)
 
-          near : AreApart (limits.hold + 2000 + limits.drift) (time_of all two.first.step) (time_of all two.second.step) → ⊥
+          near : AreApart (limits.hold + 2000 + lag limits) (time_of all two.first.step) (time_of all two.second.step) → ⊥
           near far =
               let first = timely pair.first pair.first_in in
               let second = timely pair.second pair.second_in in
@@ -338,7 +338,7 @@ module _ (laws : FrameLaws) (choice : ℕ → Bool) (made : List SentTransfer) (
               let step_two : pair.second.arrival.mark.step ≡ two.second.step = ap (λ (b : Arrival). b.mark.step) pair.next_is ∙ two.of_second.step in
               let some_one : 1 ≤ pair.first.arrival.mark.step = omega (arith, step_one, shows.holds.transfers.numbered two.first two.twice.first_made) in
               let some_two : 1 ≤ pair.second.arrival.mark.step = omega (arith, step_two, shows.holds.transfers.numbered two.second two.twice.second_made) in
-              apart_not limits.hold limits.drift (time_of all two.first.step) (time_of all two.second.step) pair.first.at pair.second.at
+              apart_not limits.hold (lag limits) (time_of all two.first.step) (time_of all two.second.step) pair.first.at pair.second.at
               (subst (λ (m : ℕ). time_of all m ≤ pair.first.at) step_one (first.after some_one))
               (subst (λ (m : ℕ). pair.first.at ≤ time_of all m + limits.hold) step_one (first.soon some_one))
               (subst (λ (m : ℕ). time_of all m ≤ pair.second.at) step_two (second.after some_two))
@@ -369,7 +369,7 @@ module _ (laws : FrameLaws) (choice : ℕ → Bool) (made : List SentTransfer) (
           ]
 
 pub only_gaps : (laws : FrameLaws) (choice : ℕ → Bool) (made : List SentTransfer) (w : Cluster) (run : raft.World) (members : AreMembers w.ids)
-    (shows : Shows choice made w run) (limits : Limits) (all : List Timed) → limits.drift < 58000 → (now : Timed) (n k ms : ℕ)
+    (shows : Shows choice made w run) (limits : Limits) (all : List Timed) → lag limits < 58000 → (now : Timed) (n k ms : ℕ)
     → now.row ≡ Rx n k ms → MemberBefore limits all n w now → (heard : List Queued) → UsesIdsApart limits all made heard n → ComesInOrder n heard (frame_at w.frames k)
     → ((x : SentTransfer) → In x made → may_be_long x.offer.what ≡ false → frame_count (length x.offer.payload) ≤ 1) → KeepsIn n heard (w.member n).status → IsSingle w.ids w → cause w (Rx n k ms) ≡ Some unlawful.Torn
     → (moment : ℕ) × LacksFrames made (arrival_at (frame_at w.frames k) moment)

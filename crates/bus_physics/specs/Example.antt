@@ -7,9 +7,9 @@ use Rattle.bus_physics.specs.Physics.{Limits}
 abbrev pub two : List ℕ
 two = 1 ∷ 2 ∷ []
 
--- frames are held for 100 ms at the most, clocks go wrong by 5 ms, and who is opened rested for 5,500 ms
+-- frames are held for 100 ms at the most, clocks go wrong by 5 ms, who is opened rested for 5,500 ms, and a turn takes 40 ms
 abbrev pub limits : Limits
-limits = record { hold = 100; drift = 5; rest = 5500 }
+limits = record { hold = 100; drift = 5; rest = 5500; turn = 40 }
 
 -- frame 1 is the first one that member 1 sends
 abbrev pub before : List Timed
@@ -20,9 +20,10 @@ before = record { at = 7; row = Open 1 false 0 0 }
     ∷ record { at = 1008; row = Send 1 }
     ∷ []
 
--- frame 1 comes to member 2, to it again, and to allocatee 1
+-- Frame 1 comes to member 2, to it again, and to allocatee 1. The first time its turn has taken 37 ms: the member read its
+-- clock at 1013.
 abbrev pub at_member : Timed
-at_member = record { at = 1050; row = Rx 2 1 1541 }
+at_member = record { at = 1050; row = Rx 2 1 1505 }
 
 abbrev pub again : Timed
 again = record { at = 1050; row = Rx 2 1 1541 }

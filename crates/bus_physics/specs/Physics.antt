@@ -30,19 +30,26 @@ use Rattle.bus_spec.specs.Members.MemberStatus.{Down, Failed, Up}
 abbrev pub time_of : List Timed → ℕ → ℕ
 time_of all number = (slice_index_or all (number - 1) (record { at = 0; row = Send 0 })).at
 
--- in milliseconds: how long after its making a frame may come, how far a clock may go wrong within a minute, and for
--- how long a member made nothing when it is opened
+-- In milliseconds: how long after its making a frame may come, how far a clock may go wrong within a minute, for how
+-- long a member made nothing when it is opened, and how long a turn may take, from its reading of the clock to the frame
+-- that it takes by that reading.
 pub record Limits : Type 0 where
   pub hold : ℕ
   pub drift : ℕ
   pub rest : ℕ
+  pub turn : ℕ
+
+-- how far the time from row to row of a member and that by its clock may differ: a row may stand a turn behind its reading
+abbrev pub lag : Limits → ℕ
+lag limits = limits.drift + limits.turn
 
 -- ---- the clock of an allocatee
 
--- when it took an event, and the greatest moment that it had been given by then
+-- when it took an event, the greatest moment that it had been given by then, and whether it came or was opened with it
 pub record Reading : Type 0 where
   pub at : ℕ
   pub now : ℕ
+  pub opens : Bool
 
 abbrev pub now_of : Option Device → ℕ → ℕ
 now_of None ms = ms
@@ -50,18 +57,18 @@ now_of (Some x) ms = max x.asking.moment ms
 
 -- the readings of allocatee a since it came, the latest first
 abbrev pub readings_after : ℕ → List Reading → Cluster → ℕ → Row → List Reading
-readings_after a past w at (AOpen b uid pref ms word) = if a == b then record { at = at; now = ms } ∷ [] else past
+readings_after a past w at (AOpen b uid pref ms word) = if a == b then record { at = at; now = ms; opens = true } ∷ [] else past
 readings_after a past w at (ATick b ms word) =
-    if a == b then record { at = at; now = now_of (w.allocatee b) ms } ∷ past else past
+    if a == b then record { at = at; now = now_of (w.allocatee b) ms; opens = false } ∷ past else past
 readings_after a past w at (ARx b k ms word) =
-    if a == b then record { at = at; now = now_of (w.allocatee b) ms } ∷ past else past
+    if a == b then record { at = at; now = now_of (w.allocatee b) ms; opens = false } ∷ past else past
 readings_after a past w at row = past
 
--- Since each earlier reading the time went on, and the clock did, as much but for the drift. Where more than a minute
--- went by, the clock went on by a minute but for the drift, or more.
-abbrev pub GoesOn : Limits → List Reading → ℕ → ℕ → Type 0
-GoesOn limits past at now = (p : Reading) → In p past →
-    (p.at ≤ at) × (p.now + min (at - p.at) 60000 ≤ now + limits.drift)
+-- Since each earlier reading the time went on, and the clock did, as much but for so much. Where more than a minute went
+-- by, the clock went on by a minute but for that, or more.
+abbrev pub GoesOn : ℕ → List Reading → ℕ → ℕ → Type 0
+GoesOn wrong past at now = (p : Reading) → In p past →
+    (p.at ≤ at) × (p.now + min (at - p.at) 60000 ≤ now + wrong)
 
 -- ---- a frame
 
@@ -79,7 +86,8 @@ WhereIts false A = ⊤
 
 abbrev pub RowIsPhysical : Limits → List Timed → ℕ → List Reading → Cluster → ℕ → Row → Type 0
 RowIsPhysical limits all a past w at (ARx b k ms word) =
-    WhereIts (a == b) (GoesOn limits past at (now_of (w.allocatee b) ms) × ComesInTime limits all at (frame_at w.frames k))
+    WhereIts (a == b)
+    (GoesOn limits.drift past at (now_of (w.allocatee b) ms) × ComesInTime limits all at (frame_at w.frames k))
 RowIsPhysical limits all a past w at row = ⊤
 
 -- each frame that allocatee a takes comes in time, and its clock had gone on by then; of its ticks nothing is asked
@@ -90,23 +98,23 @@ DeviceRowsArePhysical limits all a past w (timed ∷ rest) = RowIsPhysical limit
 
 -- ---- the members
 
--- for so long after a transfer was made a receiver may put frames of it together with those of another one: they are
--- held, and it keeps a transfer that is begun for the transfer timeout
-abbrev pub joining_span : Limits → ℕ
-joining_span limits = limits.hold + transfer_timeout + limits.drift
+-- for so long after a transfer was made a receiver, whose clock may be so much wrong, may put frames of it together with
+-- those of another one: they are held, and it keeps a transfer that is begun for the transfer timeout
+abbrev pub joining_span : Limits → ℕ → ℕ
+joining_span limits wrong = limits.hold + transfer_timeout + wrong
 
 -- No transfer ID of vote requests comes round sooner (20 s), where none of the requests to this member behind the first
 -- was answered: an election has three of them at the most, so there are ten elections.
 abbrev pub vote_round : ℕ
 vote_round = 10 * election_wait
 
--- Two holds and the drift are over before a transfer ID of vote requests comes round; and before a member that rested
--- calls anybody, which no member does before its first wait for an election is over. A clock goes wrong by less than
--- that wait.
+-- Two holds, the drift and a turn are over before a transfer ID of vote requests comes round. Two holds and the drift are
+-- over before a member that rested calls anybody, which no member does before its first wait for an election is over:
+-- there a turn does not count, since an opening stands at its reading. The drift and a turn are less than that wait.
 pub record HoldsAreShort (limits : Limits) : Type 0 where
-  pub round : 2 * limits.hold + limits.drift < vote_round
+  pub round : 2 * limits.hold + lag limits < vote_round
   pub rested : 2 * limits.hold + limits.drift < limits.rest + election_wait
-  pub clock : limits.drift < election_wait
+  pub clock : lag limits < election_wait
 
 -- so far apart, one way or the other
 abbrev pub AreApart : ℕ → ℕ → ℕ → Type 0
@@ -131,11 +139,11 @@ now_in (Failed failure) ms = ms
 
 -- the readings of member n since it opened, the latest first
 abbrev pub member_readings : ℕ → List Reading → Cluster → ℕ → Row → List Reading
-member_readings n past w at (Open m told ms word) = if n == m then record { at = at; now = ms } ∷ [] else past
+member_readings n past w at (Open m told ms word) = if n == m then record { at = at; now = ms; opens = true } ∷ [] else past
 member_readings n past w at (Tick m ms word) =
-    if n == m then record { at = at; now = now_in (w.member m).status ms } ∷ past else past
+    if n == m then record { at = at; now = now_in (w.member m).status ms; opens = false } ∷ past else past
 member_readings n past w at (Rx m k ms) =
-    if n == m then record { at = at; now = now_in (w.member m).status ms } ∷ past else past
+    if n == m then record { at = at; now = now_in (w.member m).status ms; opens = false } ∷ past else past
 member_readings n past w at row = past
 
 -- what is asked of a reading, by the earlier ones, its time and its moment, is so of each one of member n
@@ -151,15 +159,19 @@ Reads Asked n past w (timed ∷ rest) = ReadsAt Asked n past w timed.at timed.ro
 
 -- the clock of member n goes on
 abbrev pub ClockGoesOnAt : Limits → ℕ → List Reading → Cluster → ℕ → Row → Type 0
-ClockGoesOnAt limits n past w at row = ReadsAt (GoesOn limits) n past w at row
+ClockGoesOnAt limits n past w at row = ReadsAt (GoesOn (lag limits)) n past w at row
 
 abbrev pub ClockGoesOn : Limits → ℕ → List Reading → Cluster → List Timed → Type 0
-ClockGoesOn limits n past w rows = Reads (GoesOn limits) n past w rows
+ClockGoesOn limits n past w rows = Reads (GoesOn (lag limits)) n past w rows
 
--- Since each reading of the last minute the clock went on by no more than the time did, but for the drift.
+-- but for so much: a row of a turn may stand a turn behind the reading, an opening stands at it
+abbrev pub slack : Limits → Reading → ℕ
+slack limits p = if p.opens then limits.drift else lag limits
+
+-- Since each reading of the last minute the clock went on by no more than the time did, but for the drift and a turn.
 abbrev pub IsNotFast : Limits → List Reading → ℕ → ℕ → Type 0
 IsNotFast limits past at now = (p : Reading) → In p past → at ≤ p.at + 60000 →
-    now ≤ p.now + (at - p.at) + limits.drift
+    now ≤ p.now + (at - p.at) + slack limits p
 
 -- the clock of member n does not run fast
 abbrev pub ClockIsNotFast : Limits → ℕ → List Reading → Cluster → List Timed → Type 0
@@ -273,7 +285,7 @@ abbrev pub UsesIdsApart : Limits → List Timed → List SentTransfer → List Q
 UsesIdsApart limits all made heard n = (x y : SentTransfer) → In x made → In y made → x.by ≡ y.by
     → x.offer.what ≡ y.offer.what → x.offer.to ≡ n → y.offer.to ≡ n → x.offer.id ≡ y.offer.id → x.step < y.step
     → may_be_long x.offer.what ≡ true
-    → AreApart (joining_span limits) (time_of all x.step) (time_of all y.step) ⊎ IsParted heard x y
+    → AreApart (joining_span limits (lag limits)) (time_of all x.step) (time_of all y.step) ⊎ IsParted heard x y
 
 -- ---- Allocations
 
@@ -310,5 +322,5 @@ ComeInOrderToDevice a heard w (row ∷ rows) = IsInOrderToDevice a heard w row
 abbrev pub AllocatesApart : Limits → List Timed → List SentTransfer → List Queued → Type 0 → Type 0
 AllocatesApart limits all made heard Ordered = (x y : SentTransfer) → In x made → In y made → x.offer.what ≡ Alloc
     → y.offer.what ≡ Alloc → x.by ≡ y.by → x.offer.id ≡ y.offer.id → x.step < y.step
-    → AreApart (joining_span limits) (time_of all x.step) (time_of all y.step)
+    → AreApart (joining_span limits limits.drift) (time_of all x.step) (time_of all y.step)
     ⊎ (Ordered × IsParted heard x y)

@@ -19,7 +19,7 @@ ghost use Rattle.bus_physics.specs.Physics.{ComeInOrderToDevice, ComesInOrderToD
 ghost use Rattle.bus_physics.specs.Physics.{ComesInOrder, FramesComeInTime};
 ghost use Rattle.bus_rows.specs.Timed.{Timed};
 ghost use Rattle.bus_physics.specs.Physics.{ClockIsNotFast, HoldsAreShort, Limits, RestsBeforeOpening, UsesIdsApart};
-ghost use Rattle.bus_physics.specs.Physics.{WaitsForAnswers, heard_by};
+ghost use Rattle.bus_physics.specs.Physics.{WaitsForAnswers, heard_by, lag};
 ghost use Rattle.bus_rows.specs.Timed.{rows_in};
 ghost use Rattle.bus_physics.specs.Physics.{may_be_long};
 ghost use Rattle.bus_physics.specs.Example.{at_allocatee, at_member, before as first_rows, everything};
@@ -167,7 +167,7 @@ pub fn no_response_outlives_its_transfer_id()
 /// all the same.
 pub fn a_member_puts_nothing_together_of_two()
     ensures { (limits : Limits) (ids : List ℕ) (before : List Timed) (now : Timed) (n k ms : ℕ) →
-        AreMembers ids → limits.drift < 58000 → now.row ≡ Rx n k ms → AreLawful (cluster ids) (rows_in before) →
+        AreMembers ids → lag limits < 58000 → now.row ≡ Rx n k ms → AreLawful (cluster ids) (rows_in before) →
         FramesComeInTime limits (before ++ now ∷ []) (cluster ids) (before ++ now ∷ []) →
         ClockGoesOn limits n [] (cluster ids) (before ++ now ∷ []) →
         ComeInOrder n [] (cluster ids) (rows_in before) →
@@ -187,7 +187,7 @@ pub fn a_member_puts_nothing_together_of_two()
 }
 
 /// The premises can be met: in this cluster a member hears a frame of another one twice, as CAN repeats it, and an
-/// allocatee hears it too. Beyond a minute a clock may lose (`slow`) and gain (`quick`) more than the drift in all.
+/// allocatee hears it too. Beyond a minute a clock may lose (`slow`) and gain (`quick`) more than the drift and a turn.
 pub fn premises_can_be_met()
     ensures lawful { AreLawful (cluster two) (rows_in first_rows) }
     ensures clock { ClockGoesOn some_limits 2 [] (cluster two) (first_rows ++ at_member ∷ []) }
@@ -200,8 +200,8 @@ pub fn premises_can_be_met()
     ensures frames { ComeInOrder 2 [] (cluster two) (rows_in (first_rows ++ at_member ∷ [])) }
     ensures short { HoldsAreShort some_limits }
     ensures fast { ClockIsNotFast some_limits 2 [] (cluster two) first_rows }
-    ensures slow { ClockGoesOn some_limits 2 [] (cluster two) (first_rows ++ two_minutes_later 120490 ∷ []) }
-    ensures quick { ClockIsNotFast some_limits 2 [] (cluster two) (first_rows ++ two_minutes_later 120510 ∷ []) }
+    ensures slow { ClockGoesOn some_limits 2 [] (cluster two) (first_rows ++ two_minutes_later 120440 ∷ []) }
+    ensures quick { ClockIsNotFast some_limits 2 [] (cluster two) (first_rows ++ two_minutes_later 120560 ∷ []) }
     ensures rests { RestsBeforeOpening some_limits (first_rows ++ at_member ∷ [])
         (transfers_of_rows (cluster two) (rows_in first_rows) []) 2 }
     ensures orders { AllComeInOrder two (cluster two) (rows_in (first_rows ++ at_member ∷ [])) }

@@ -3,7 +3,7 @@ use Rattle.std.specs.Prelude.{[], ◌∷◌, ◌++◌}
 use Rattle.bus_spec.specs.Cluster.{cluster, world_of}
 use Rattle.bus_spec.specs.Refinement.{transfers_of_rows}
 use Rattle.bus_rows.specs.Timed.{rows_in}
-use Rattle.bus_physics.specs.Physics.{heard_by}
+use Rattle.bus_physics.specs.Physics.{heard_by, lag}
 use Rattle.bus_physics.proofs.Answering.{IsMadeSoon, all_soon}
 use Rattle.bus_physics.proofs.Members.{MemberLaws, along}
 use Rattle.bus_physics.proofs.Now.{now_of_a_step}
@@ -18,7 +18,7 @@ use Rattle.bus_physics.proofs.laws.no_response_outlives_its_transfer_id.Goals as
 pub returns : goal.returns
 returns c = λ limits ids before now n k ms members enough row lawful comes clock slow orders order rests e.
     let rows = rows_in before in
-    let sane : limits.drift < 58000 = omega (arith, enough.clock) in
+    let sane : lag limits < 58000 = omega (arith, enough.clock) in
     let waits = c.calls_come_round_late.ensures limits ids before now n members enough lawful slow rests in
     let steps = c.what_is_said_of_a_step.ensures in
     let laws : MemberLaws = record { heard = steps.heard; ticked = steps.ticked; me = steps.me; called = steps.called; now = now_of_a_step } in

@@ -21,7 +21,7 @@ use Rattle.bus_spec.specs.Lawful.{AreLawful}
 use Rattle.bus_spec.specs.Refinement.{transfers_of_rows}
 use Rattle.bus_physics.specs.Example.{again, at_allocatee, at_member, before, everything, limits, two}
 use Rattle.bus_rows.specs.Timed.{rows_in}
-use Rattle.bus_physics.specs.Physics.{AllComeInOrder, ComesInOrder, GoesOn, IsNotFast, Reading, WhereIts}
+use Rattle.bus_physics.specs.Physics.{AllComeInOrder, ComesInOrder, GoesOn, IsNotFast, Reading, WhereIts, slack}
 use Rattle.bus_physics.specs.Schedule.{DeviceHears, LawfulButForBus, MemberHears}
 use Rattle.bus_physics.proofs.laws.premises_can_be_met.Goals as goal
 
@@ -30,29 +30,30 @@ unfolding step frame_step outcome fits_no_payload all_nodes delivery_phase arriv
 returns-clause-lawful c = (refl, (refl, (refl, (refl, (refl, tt)))))
 
 -- a clock that goes on
-passes : (at now then moment : ℕ) → at ≤ then → now + min (then - at) 60000 ≤ moment + 5 → GoesOn limits (record { at = at; now = now } ∷ []) then moment
-passes at now then moment late more p (inl e) = (
+passes : (wrong at now then moment : ℕ) (opens : Bool) → at ≤ then → now + min (then - at) 60000 ≤ moment + wrong
+    → GoesOn wrong (record { at = at; now = now; opens = opens } ∷ []) then moment
+passes wrong at now then moment opens late more p (inl e) = (
   omega (arith, late, ap (λ (r : Reading). r.at) e),
   omega (arith, more, ap (λ (r : Reading). r.at) e, ap (λ (r : Reading). r.now) e),
 )
-passes at now then moment late more p (inr i) = absurd i
+passes wrong at now then moment opens late more p (inr i) = absurd i
 
 pub returns-clause-clock : goal.returns-clause-clock
 unfolding step all_nodes queued_frames next_out left_behind frames_of
-returns-clause-clock c = (tt, (tt, (tt, (tt, (tt, (passes 8 500 1050 1541 (omega arith) (omega arith), tt))))))
+returns-clause-clock c = (tt, (tt, (tt, (tt, (tt, (passes 45 8 500 1050 1505 true (omega arith) (omega arith), tt))))))
 
 pub returns-clause-slow : goal.returns-clause-slow
 unfolding step all_nodes queued_frames next_out left_behind frames_of
-returns-clause-slow c = (tt, (tt, (tt, (tt, (tt, (passes 8 500 120008 120490 (omega arith) (omega arith), tt))))))
+returns-clause-slow c = (tt, (tt, (tt, (tt, (tt, (passes 45 8 500 120008 120440 true (omega arith) (omega arith), tt))))))
 
 -- a clock of which nothing is asked any more
-is_long_ago : (at now then moment : ℕ) → at + 60001 ≤ then → IsNotFast limits (record { at = at; now = now } ∷ []) then moment
+is_long_ago : (at now then moment : ℕ) → at + 60001 ≤ then → IsNotFast limits (record { at = at; now = now; opens = true } ∷ []) then moment
 is_long_ago at now then moment long p (inl e) soon = absurd (omega (arith, long, soon, ap (λ (r : Reading). r.at) e))
 is_long_ago at now then moment long p (inr i) soon = absurd i
 
 pub returns-clause-quick : goal.returns-clause-quick
 unfolding step all_nodes queued_frames next_out left_behind frames_of
-returns-clause-quick c = (tt, (tt, (tt, (tt, (tt, (is_long_ago 8 500 120008 120510 (omega arith), tt))))))
+returns-clause-quick c = (tt, (tt, (tt, (tt, (tt, (is_long_ago 8 500 120008 120560 (omega arith), tt))))))
 
 -- what member 1 made
 made_in : (x : SentTransfer) → In x (transfers_of_rows (cluster two) (rows_in before) []) → (x.step ≡ 4) × (x.by ≡ 1)
@@ -104,7 +105,7 @@ returns-clause-physical c = (
           tt,
           (
             (
-              passes 9 40 1050 1080 (omega arith) (omega arith),
+              passes 5 9 40 1050 1080 true (omega arith) (omega arith),
               record { after = λ some. omega arith; soon = λ some. omega arith },
             ),
             tt,
@@ -148,13 +149,14 @@ made_last x (inr (inl e)) = ap (λ (y : SentTransfer). y.step) e
 made_last x (inr (inr i)) = absurd i
 
 -- of two readings
-passes_both : (first second : Reading) (then moment : ℕ) → GoesOn limits (first ∷ []) then moment → GoesOn limits (second ∷ []) then moment
-    → GoesOn limits (second ∷ (first ∷ [])) then moment
+passes_both : (first second : Reading) (then moment : ℕ) → GoesOn 45 (first ∷ []) then moment → GoesOn 45 (second ∷ []) then moment
+    → GoesOn 45 (second ∷ (first ∷ [])) then moment
 passes_both first second then moment a b p (inl e) = b p (inl e)
 passes_both first second then moment a b p (inr i) = a p i
 
-not_fast : (at now then moment : ℕ) → moment ≤ now + (then - at) + 5 → IsNotFast limits (record { at = at; now = now } ∷ []) then moment
-not_fast at now then moment less p (inl e) soon = omega (arith, less, ap (λ (r : Reading). r.at) e, ap (λ (r : Reading). r.now) e)
+not_fast : (at now then moment : ℕ) → moment ≤ now + (then - at) + 5 → IsNotFast limits (record { at = at; now = now; opens = true } ∷ []) then moment
+not_fast at now then moment less p (inl e) soon =
+    omega (arith, less, ap (λ (r : Reading). r.at) e, ap (λ (r : Reading). r.now) e, ap (λ (r : Reading). slack limits r) e)
 not_fast at now then moment less p (inr i) soon = absurd i
 
 hears_again : (orders : AllComeInOrder two (cluster two) (rows_in (before ++ at_member ∷ []))) → MemberHears limits two (before ++ at_member ∷ []) again 2 1
@@ -190,10 +192,10 @@ hears_again orders = record {
           (
             tt,
             (
-              passes 8 500 1050 1541 (omega arith) (omega arith),
+              passes 45 8 500 1050 1505 true (omega arith) (omega arith),
               (
-                passes_both (record { at = 8; now = 500 }) (record { at = 1050; now = 1541 }) 1050 1541
-                    (passes 8 500 1050 1541 (omega arith) (omega arith)) (passes 1050 1541 1050 1541 (omega arith) (omega arith)),
+                passes_both (record { at = 8; now = 500; opens = true }) (record { at = 1050; now = 1505; opens = false }) 1050 1541
+                    (passes 45 8 500 1050 1541 true (omega arith) (omega arith)) (passes 45 1050 1505 1050 1541 false (omega arith) (omega arith)),
                 tt,
               ),
             ),
@@ -204,7 +206,7 @@ hears_again orders = record {
   );
   orders = orders;
   order = λ other key i first second. elim i [ inl e ↦ omega (arith, ap (λ (f : Queued). f.mark.step) e) | inr j ↦ absurd j ];
-  fast = (tt, (tt, (tt, (tt, (tt, (not_fast 8 500 1050 1541 (omega arith), tt))))));
+  fast = (tt, (tt, (tt, (tt, (tt, (not_fast 8 500 1050 1505 (omega arith), tt))))));
   rests = λ x number told moment word i mine less opened. absurd (omega (arith, (made_then x i).1, mine));
   apart = λ x y i j by what to to_too id less long. absurd (omega (arith, (made_then x i).0, (made_then y j).0, less));
 }
@@ -227,7 +229,7 @@ device_hears = record {
               (
                 tt,
                 (
-                  (passes 9 40 1050 1080 (omega arith) (omega arith), record { after = λ some. omega arith; soon = λ some. omega arith }),
+                  (passes 5 9 40 1050 1080 true (omega arith) (omega arith), record { after = λ some. omega arith; soon = λ some. omega arith }),
                   tt,
                 ),
               ),

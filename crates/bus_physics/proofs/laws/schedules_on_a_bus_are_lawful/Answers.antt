@@ -1,14 +1,16 @@
 use Rattle.std.proofs.Common.{◌<◌, arith, refl}
 use Rattle.std.specs.Prelude.{[]}
 use Rattle.bus_spec.specs.Cluster.{cluster}
+use Rattle.bus_physics.specs.Physics.{lag}
 use Rattle.bus_physics.proofs.Scheduled.{DeviceLaw, StaleLaw, TornLaw, heard_in_order, scheduled}
 use Rattle.bus_physics.proofs.laws.schedules_on_a_bus_are_lawful.Goals as goal
 
 pub returns : goal.returns
 returns c = λ limits ids all members enough happen but.
-    let sane : limits.drift < 58000 = omega (arith, enough.clock) in
+    let sane : lag limits < 58000 = omega (arith, enough.clock) in
+    let sane_too : limits.drift < 58000 = omega (arith, enough.clock) in
     let device : DeviceLaw limits ids = λ before now a k ms word row lawful hears e.
-    c.a_device_puts_nothing_together_of_two.ensures limits ids before now a k ms word members sane row lawful hears.comes hears.slow e in
+    c.a_device_puts_nothing_together_of_two.ensures limits ids before now a k ms word members sane_too row lawful hears.comes hears.slow e in
     let torn : TornLaw limits ids = λ before now n k ms row lawful hears e.
     c.a_member_puts_nothing_together_of_two.ensures limits ids before now n k ms members sane row lawful hears.comes hears.clock (heard_in_order limits ids before n k ms hears.orders e) hears.order hears.apart e in
     let stale : StaleLaw limits ids = λ before now n k ms row lawful hears e.
