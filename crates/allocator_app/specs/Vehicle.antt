@@ -19,4 +19,10 @@ longest_turn = 1000
 
 -- what a bus, a clock and a process that was told this keep, where the process ran one of its members before
 abbrev pub vehicle_limits : Told → Limits
-vehicle_limits told = record { hold = longest_hold; drift = most_drift; rest = rest_of told true; turn = longest_turn }
+vehicle_limits told = record {
+  hold = longest_hold;
+  drift = most_drift;
+  rest = rest_of told true;
+  turn = longest_turn;
+  since = 0;
+}

@@ -51,7 +51,8 @@ use Rattle.bus_agreement.proofs.OneRowMore.{lawful as one_more}
 use Rattle.bus_agreement.proofs.Pieces.{no_piece, piece_read, theirs}
 use Rattle.bus_agreement.proofs.RowsWithoutEvents.{is_one, past_first}
 use Rattle.bus_agreement.proofs.WholeTransfers.{IsFrom, from_bus, members_own}
-use Rattle.bus_physics.specs.Physics.{ComeInOrder, ComesInOrder, HasKeyAt, IsInOrder, WhereIts, heard_by, heard_in}
+use Rattle.bus_rows.specs.Timed.{Timed}
+use Rattle.bus_physics.specs.Physics.{ComeInOrder, ComesInOrder, HasKeyAt, IsInOrder, WhereIts, heard_by, heard_in, IsRecent, Limits}
 use Rattle.bus_physics.proofs.LawfulRows.{rows_joined}
 
 -- the answer of a service
@@ -61,7 +62,7 @@ answerer false = Vote
 
 -- ---- what was asked
 
-module _ (append : Bool) (p n : ℕ) where
+module _ (limits : Limits) (rows_at : List Timed) (append : Bool) (p n : ℕ) where
   abbrev pub asking_key : Key
   asking_key = record { kind = Request; number = number_of (carrier append); source = n }
 
@@ -82,7 +83,7 @@ module _ (append : Bool) (p n : ℕ) where
 
   pub record AreOrdered (made : List SentTransfer) (heard : List Queued) : Type 0 where
     pub asked : (x : SentTransfer) → In x made → IsAnswer x → HasAsked heard x.offer.re
-    pub order : (x y : SentTransfer) → In x made → In y made → IsAnswer x → IsAnswer y → x.step ≤ y.step → x.offer.re ≤ y.offer.re
+    pub order : (x y : SentTransfer) → In x made → In y made → IsAnswer x → IsAnswer y → IsRecent limits rows_at y.offer.re → x.step ≤ y.step → x.offer.re ≤ y.offer.re
 
   -- ---- a row
 
@@ -95,7 +96,7 @@ module _ (append : Bool) (p n : ℕ) where
         → ((x : SentTransfer) → In x more → IsAnswer x → In x made) → AreOrdered more further
     quiet more further grows hears only = record {
       asked = λ x i a. asked_more heard further hears x.offer.re (old.asked x (only x i a) a);
-      order = λ x y i j a b less. old.order x y (only x i a) (only y j b) a b less;
+      order = λ x y i j a b recent less. old.order x y (only x i a) (only y j b) a b recent less;
     }
 
     nothing : AreOrdered made (heard ++ [])
@@ -121,7 +122,7 @@ module _ (append : Bool) (p n : ℕ) where
           ])
 
     -- node p receives frame k
-    module _ (k ms : ℕ) (in_order : ComesInOrder p heard (frame_at w.frames k))
+    module _ (k ms : ℕ) (in_order : ComesInOrder limits rows_at p heard (frame_at w.frames k))
         (asks : (t : AllocatorState) → (w.member p).status ≡ Up t → (offer : Offer) → In offer (step t number (receipt_of w k ms)).step_state.offers
         → offer.what ≡ answerer append → offer.to ≡ n → (re : ℕ) → re ≡ offer.re → HasAsked (frame_at w.frames k ∷ []) re) where
       abbrev further : List Queued
@@ -138,8 +139,13 @@ module _ (append : Bool) (p n : ℕ) where
       ]
 
       -- none that was answered was made later
-      later : (re : ℕ) → HasAsked heard re → (then_ : ℕ) → HasAsked (frame_at w.frames k ∷ []) then_ → re ≤ then_
-      later re a then_ b = omega (arith, a.step, (this_one then_ b).0, in_order a.frame asking_key a.came a.key (this_one then_ b).1)
+      later : (re : ℕ) → HasAsked heard re → (then_ : ℕ) → HasAsked (frame_at w.frames k ∷ []) then_ → IsRecent limits rows_at then_ → re ≤ then_
+      later re a then_ b recent = omega (
+        arith,
+        a.step,
+        (this_one then_ b).0,
+        in_order (subst (λ (m : ℕ). IsRecent limits rows_at m) (sym (this_one then_ b).0) recent) a.frame asking_key a.came a.key (this_one then_ b).1,
+      )
 
       received : (status : MemberStatus) → (w.member p).status ≡ status → AreOrdered (transfers_of_step number p (receipt_of w k ms) status (w.member p) made) further
       received Down is_it = quiet made further (λ x i. i) hears (λ x i a. i)
@@ -167,10 +173,10 @@ module _ (append : Bool) (p n : ℕ) where
             | inl j ↦ asked_more heard further hears x.offer.re (old.asked x j a)
             | inr new ↦ asked_more (frame_at w.frames k ∷ []) further (λ f l. in_back f heard (frame_at w.frames k ∷ []) l) x.offer.re (new_asked x new a)
           ];
-          order = λ x y i j a b less. elim (made_when number p g.offers made x i) [
+          order = λ x y i j a b recent less. elim (made_when number p g.offers made x i) [
             | inl l ↦ elim (made_when number p g.offers made y j) [
-              | inl m ↦ old.order x y l m a b less
-              | inr new ↦ later x.offer.re (old.asked x l a) y.offer.re (new_asked y new b)
+              | inl m ↦ old.order x y l m a b recent less
+              | inr new ↦ later x.offer.re (old.asked x l a) y.offer.re (new_asked y new b) recent
             ]
             | inr new ↦ elim (made_when number p g.offers made y j) [
               | inl m ↦ absurd (omega (arith, less, new_step x new, past y m))
@@ -181,7 +187,7 @@ module _ (append : Bool) (p n : ℕ) where
 
     -- ---- all of it
 
-    module _ (row : Row) (in_order : IsInOrder p heard w row) (answers : (t : AllocatorState) (event : Event) → ResponsesAnswer t number event)
+    module _ (row : Row) (in_order : IsInOrder limits rows_at p heard w row) (answers : (t : AllocatorState) (event : Event) → ResponsesAnswer t number event)
         (asks : (k ms : ℕ) → row ≡ Rx p k ms → (t : AllocatorState) → (w.member p).status ≡ Up t → (offer : Offer)
         → In offer (step t number (receipt_of w k ms)).step_state.offers → offer.what ≡ answerer append → offer.to ≡ n → (re : ℕ) → re ≡ offer.re
         → HasAsked (frame_at w.frames k ∷ []) re) where
@@ -201,7 +207,7 @@ module _ (append : Bool) (p n : ℕ) where
       other : (m : ℕ) → (p == m) ≡ false → m ≡ p → ⊥
       other m e same = elim (eqb_tells p m) [ inl s ↦ absurd (cc (sym e ∙ s.0)) | inr apart ↦ apart.1 (sym same) ]
 
-      rx_row : (m k ms : ℕ) → row ≡ Rx m k ms → (same : Bool) → (p == m) ≡ same → WhereIts same (ComesInOrder p heard (frame_at w.frames k))
+      rx_row : (m k ms : ℕ) → row ≡ Rx m k ms → (same : Bool) → (p == m) ≡ same → WhereIts same (ComesInOrder limits rows_at p heard (frame_at w.frames k))
           → AreOrdered (transfers_of_step number m (receipt_of w k ms) (w.member m).status (w.member m) made) (heard ++ (if same then frame_at w.frames k ∷ [] else []))
       rx_row m k ms r false e order_ = no_answer m (receipt_of w k ms) (heard ++ []) (λ f i. in_front f heard [] i)
           (λ t offer i same what. other m e same) (w.member m).status (w.member m)
@@ -215,7 +221,7 @@ module _ (append : Bool) (p n : ℕ) where
       by_row : (r : Row) → row ≡ r → After r
       unfolding After
       by_row (Tick m ms word) e = no_answer m (tick_of ms word) (heard ++ []) (λ f i. in_front f heard [] i) (at_tick m ms word) (w.member m).status (w.member m)
-      by_row (Rx m k ms) e = rx_row m k ms e (p == m) refl (subst (λ (r : Row). IsInOrder p heard w r) e in_order)
+      by_row (Rx m k ms) e = rx_row m k ms e (p == m) refl (subst (λ (r : Row). IsInOrder limits rows_at p heard w r) e in_order)
       by_row (Open m told ms word) e = nothing
       by_row (Send m) e = nothing
       by_row (Ext frame) e = nothing
@@ -340,7 +346,7 @@ module _ (append : Bool) (p n : ℕ) where
     made_joined v (first ∷ rows) row m = made_joined (after_row v first) rows row (transfers_of_row v first m)
 
     pub along : (rest done : List Row) (w : Cluster) (made : List SentTransfer) (heard : List Queued) → world_of ids done ≡ w → transfers_of_rows (cluster ids) done [] ≡ made
-        → AreLawful (cluster ids) done → AreLawful w rest → ComeInOrder p heard w rest → AreOrdered made heard
+        → AreLawful (cluster ids) done → AreLawful w rest → ComeInOrder limits rows_at p heard w rest → AreOrdered made heard
         → AreOrdered (transfers_of_rows w rest made) (heard ++ heard_by p w rest)
     along [] done w made heard world sent before lawful orders old = record {
       asked = λ x i a. asked_more heard (heard ++ []) (λ f j. in_front f heard [] j) x.offer.re (old.asked x i a);

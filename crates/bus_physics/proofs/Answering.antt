@@ -21,7 +21,7 @@ use Rattle.bus_spec.specs.Refinement.{transfers_of_offers, transfers_of_row, tra
 use Rattle.bus_agreement.specs.LawsBelow.{FrameLaws}
 use Rattle.bus_agreement.proofs.MadeTransfers.{IsNew, made_when}
 use Rattle.bus_rows.specs.Timed.{Timed, rows_in}
-use Rattle.bus_physics.specs.Physics.{ComesInTime, FrameComesInTime, FramesComeInTime, Limits, time_of}
+use Rattle.bus_physics.specs.Physics.{ComesInTime, FrameComesInTime, FramesComeInTime, IsRecent, Limits, time_of}
 
 one_arrival : (a b : Arrival) → Receives a ≡ Receives b → a ≡ b
 one_arrival a b e = cc (e)
@@ -30,7 +30,7 @@ module _ (laws : FrameLaws) (answers : (t : AllocatorState) (number : ℕ) (even
   -- a response was made after its request, and soon
   pub record IsMadeSoon (x : SentTransfer) : Type 0 where
     pub after : 1 ≤ x.offer.re → time_of all x.offer.re ≤ time_of all x.step
-    pub soon : 1 ≤ x.offer.re → time_of all x.step ≤ time_of all x.offer.re + limits.hold
+    pub soon : IsRecent limits all x.step → 1 ≤ x.offer.re → time_of all x.step ≤ time_of all x.offer.re + limits.hold
 
   abbrev pub AreMadeSoon : List SentTransfer → Type 0
   AreMadeSoon made = (x : SentTransfer) → In x made → kind_of x.offer.what ≡ Response → IsMadeSoon x
@@ -63,8 +63,8 @@ module _ (laws : FrameLaws) (answers : (t : AllocatorState) (number : ℕ) (even
     rx_answers n k ms comes t offer is = record {
       after = λ some. subst (λ (m : ℕ). time_of all offer.re ≤ m) (sym its_time)
           (subst (λ (s : ℕ). time_of all s ≤ came) (sym re_is) (comes.after (subst (λ (s : ℕ). 1 ≤ s) re_is some)));
-      soon = λ some. subst (λ (m : ℕ). m ≤ time_of all offer.re + limits.hold) (sym its_time)
-          (subst (λ (s : ℕ). came ≤ time_of all s + limits.hold) (sym re_is) (comes.soon (subst (λ (s : ℕ). 1 ≤ s) re_is some)));
+      soon = λ recent some. subst (λ (m : ℕ). m ≤ time_of all offer.re + limits.hold) (sym its_time)
+          (subst (λ (s : ℕ). came ≤ time_of all s + limits.hold) (sym re_is) (comes.soon (subst (λ (m : ℕ). limits.since ≤ m) its_time recent) (subst (λ (s : ℕ). 1 ≤ s) re_is some)));
     }
       where
         then_ : AllocatorState

@@ -39,7 +39,8 @@ use Rattle.bus_agreement.proofs.OneRow.{stands}
 use Rattle.bus_agreement.proofs.Pieces.{IsPieceOf, piece_of}
 use Rattle.bus_agreement.proofs.RowsWithoutEvents.{past_first}
 use Rattle.bus_agreement.proofs.WholeTransfers.{read_back, some_is}
-use Rattle.bus_physics.specs.Physics.{ComesInOrder, HasKeyAt, IsResponseOf, heard_by, heard_in}
+use Rattle.bus_rows.specs.Timed.{Timed}
+use Rattle.bus_physics.specs.Physics.{ComesInOrder, HasKeyAt, IsResponseOf, heard_by, heard_in, IsRecent, Limits}
 use Rattle.bus_physics.proofs.AnswerOrder.{AreOrdered, answerer}
 
 or_true : (a b : Bool) → b ≡ true → (a || b) ≡ true
@@ -125,7 +126,7 @@ module _ (n source number : ℕ) (other : source ≢ n) (f : Queued) (is : IsRes
 
 -- ---- answers on the bus
 
-module _ (append : Bool) (n : ℕ) (laws : FrameLaws) (choice : ℕ → Bool) (made : List SentTransfer) (w : Cluster) (run : raft.World) (members : AreMembers w.ids)
+module _ (limits : Limits) (rows_at : List Timed) (append : Bool) (n : ℕ) (laws : FrameLaws) (choice : ℕ → Bool) (made : List SentTransfer) (w : Cluster) (run : raft.World) (members : AreMembers w.ids)
     (shows : Shows choice made w run) where
   low : (m : ℕ) → In m w.ids → 1 ≤ m
   low m i = (members.nodes m i).0
@@ -184,17 +185,18 @@ module _ (append : Bool) (n : ℕ) (laws : FrameLaws) (choice : ℕ → Bool) (m
               (ap (λ (k : Ident). k.number) own ∙ is.service) refl
 
   -- the one that was heard before answers no later call
-  pub in_order : (heard : List Queued) (frame : Queued) → ComesInOrder n heard frame → (source : ℕ)
-      → (there : (f : Queued) → In f heard → In f w.frames) → In frame w.frames → (past : List Queued) → AreOrdered append source n made past → source ≢ n
+  pub in_order : (heard : List Queued) (frame : Queued) → ComesInOrder limits rows_at n heard frame → IsRecent limits rows_at frame.mark.step → IsRecent limits rows_at frame.mark.re → (source : ℕ)
+      → (there : (f : Queued) → In f heard → In f w.frames) → In frame w.frames → (past : List Queued) → AreOrdered limits rows_at append source n made past → source ≢ n
       → (s : ℕ) → first_signature rows Response (number_of (answerer append)) ≡ Some s → is_members_service (number_of (answerer append)) ≡ true
       → (other : Queued) → In other heard → IsResponseOf (number_of (answerer append)) source n other → IsResponseOf (number_of (answerer append)) source n frame
       → other.mark.re ≤ frame.mark.re
-  in_order heard frame comes source there inside past ordered apart s signature service other came is is_too = omega (
+  in_order heard frame comes recent asked_lately source there inside past ordered apart s signature service other came is is_too = omega (
     arith,
     a.re,
     b.re,
     ordered.order a.x b.x a.was_made b.was_made
-        (record { by = a.by; what = a.what; to = a.to }) (record { by = b.by; what = b.what; to = b.to }) (omega (arith, before, a.step, b.step)),
+        (record { by = a.by; what = a.what; to = a.to }) (record { by = b.by; what = b.what; to = b.to })
+        (subst (λ (m : ℕ). IsRecent limits rows_at m) b.re asked_lately) (omega (arith, before, a.step, b.step)),
   )
     where
       a : OfAnswer source other
@@ -204,5 +206,5 @@ module _ (append : Bool) (n : ℕ) (laws : FrameLaws) (choice : ℕ → Bool) (m
       b = of_answer source frame inside is_too service
 
       before : other.mark.step ≤ frame.mark.step
-      before = comes other (record { kind = Response; number = number_of (answerer append); source = source }) came
+      before = comes recent other (record { kind = Response; number = number_of (answerer append); source = source }) came
           (has_key n source (number_of (answerer append)) apart other is s signature) (has_key n source (number_of (answerer append)) apart frame is_too s signature)

@@ -38,7 +38,7 @@ module _ (limits : Limits) (all : List Timed) where
   -- of a frame that a step made: when it came
   pub record IsTimely (arrival : Arrival) (came : ℕ) : Type 0 where
     pub after : 1 ≤ arrival.mark.step → time_of all arrival.mark.step ≤ came
-    pub soon : 1 ≤ arrival.mark.step → came ≤ time_of all arrival.mark.step + limits.hold
+    pub soon : limits.since ≤ came → 1 ≤ arrival.mark.step → came ≤ time_of all arrival.mark.step + limits.hold
 
   -- what is known of a frame that a session keeps
   pub record IsKnown (frames : List Queued) (key : Key) (h : Heard) : Type 0 where

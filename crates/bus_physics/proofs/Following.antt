@@ -18,17 +18,18 @@ use Rattle.alloc_spec.specs.StepState.{StepState}
 use Rattle.bus_spec.specs.Cluster.{Cluster, after_row, after_rows, arrival_at, frame_at, receipt_of, rules_of, tick_of}
 use Rattle.bus_spec.specs.Members.{Member, MemberStatus, after_crash, after_cut_off, after_failed_opening, after_opening, after_sending, member_after_step, puts_of, stopped_with, with_stop_armed}
 use Rattle.bus_spec.specs.Members.MemberStatus.{Down, Failed, Up}
-use Rattle.bus_physics.specs.Physics.{ComeInOrder, ComesInOrder, IsInOrder, WhereIts, heard_by, heard_in}
+use Rattle.bus_rows.specs.Timed.{Timed}
+use Rattle.bus_physics.specs.Physics.{ComeInOrder, ComesInOrder, IsInOrder, IsRecent, Limits, WhereIts, heard_by, heard_in}
 use Rattle.bus_physics.proofs.Members.{MemberLaws}
 use Rattle.bus_physics.proofs.Restarts.{NoneLater, restarted}
 
 one_up : (a b : AllocatorState) → Up a ≡ Up b → a ≡ b
 one_up a b e = cc (e)
 
-module _ (n : ℕ) where
+module _ (limits : Limits) (rows_at : List Timed) (n : ℕ) where
   pub record Keeps (heard : List Queued) (t : AllocatorState) : Type 0 where
     pub me : t.me ≡ n
-    pub each : (s : Session) → In s t.sessions → NoneLater (setting_for n) heard s
+    pub each : (s : Session) → In s t.sessions → NoneLater (setting_for n) (IsRecent limits rows_at) heard s
 
   abbrev pub KeepsIn : List Queued → MemberStatus → Type 0
   KeepsIn heard status = (t : AllocatorState) → status ≡ Up t → Keeps heard t
@@ -60,16 +61,16 @@ module _ (n : ℕ) where
     ticks : (t : AllocatorState) → Keeps heard t → (ms word : ℕ) → Keeps heard (step t number (Ticks ms word)).step_state.allocator
     ticks t was ms word = record {
       me = laws.me t number (Ticks ms word) ∙ was.me;
-      each = subst (λ (l : List Session). (s : Session) → In s l → NoneLater (setting_for n) heard s) (sym (laws.ticked t number ms word)) was.each;
+      each = subst (λ (l : List Session). (s : Session) → In s l → NoneLater (setting_for n) (IsRecent limits rows_at) heard s) (sym (laws.ticked t number ms word)) was.each;
     }
 
-    receives : (t : AllocatorState) → Keeps heard t → (frame : Queued) (ms : ℕ) → ComesInOrder n heard frame
+    receives : (t : AllocatorState) → Keeps heard t → (frame : Queued) (ms : ℕ) → ComesInOrder limits rows_at n heard frame
         → Keeps (heard ++ frame ∷ []) (step t number (Receives (arrival_at frame ms))).step_state.allocator
     receives t was frame ms order = record {
       me = laws.me t number (Receives (arrival_at frame ms)) ∙ was.me;
-      each = subst (λ (l : List Session). (s : Session) → In s l → NoneLater (setting_for n) (heard ++ frame ∷ []) s)
+      each = subst (λ (l : List Session). (s : Session) → In s l → NoneLater (setting_for n) (IsRecent limits rows_at) (heard ++ frame ∷ []) s)
           (sym (laws.heard t number (arrival_at frame ms) ∙ ap (λ (m : ℕ). Rattle.transfer_rx.specs.Reassembly.next (setting_for m) t.sessions (arrival_at frame (max t.now ms))) was.me))
-          (restarted (setting_for n) heard frame (max t.now ms) (λ f key. order f key) t.sessions was.each);
+          (restarted (setting_for n) (IsRecent limits rows_at) heard frame (max t.now ms) order t.sessions was.each);
     }
 
     nothing_more : (status : MemberStatus) → KeepsIn heard status → KeepsIn (heard ++ []) status
@@ -85,7 +86,7 @@ module _ (n : ℕ) where
       by (Up t) runs u up = subst (Keeps heard) (up_after t (tick_of ms word) (w.member m) u up)
           (ticks t (inv t (ap (λ (k : ℕ). (w.member k).status) (is_same m e) ∙ runs)) ms word)
 
-    rx_by : (m k ms : ℕ) (same : Bool) → (n == m) ≡ same → WhereIts same (ComesInOrder n heard (frame_at w.frames k))
+    rx_by : (m k ms : ℕ) (same : Bool) → (n == m) ≡ same → WhereIts same (ComesInOrder limits rows_at n heard (frame_at w.frames k))
         → KeepsIn (heard ++ (if same then frame_at w.frames k ∷ [] else []))
         (if same then member_after_step number (receipt_of w k ms) (w.member m).status (w.member m) else w.member n).status
     rx_by m k ms false e order = nothing_more (w.member n).status inv
@@ -141,7 +142,7 @@ module _ (n : ℕ) where
     fault_by m y is false e u up = inv u up
     fault_by m y is true e u up = inv u (ap (λ (k : ℕ). (w.member k).status) (is_same m e) ∙ (sym is ∙ up))
 
-    pub follows : (row : Row) → IsInOrder n heard w row → KeepsIn (heard ++ heard_in n w row) ((after_row w row).member n).status
+    pub follows : (row : Row) → IsInOrder limits rows_at n heard w row → KeepsIn (heard ++ heard_in n w row) ((after_row w row).member n).status
     follows (Open m told ms word) order = nothing_more ((after_row w (Open m told ms word)).member n).status (open_by m (rules_of w.ids told) ms word (n == m) refl)
     follows (Tick m ms word) order = nothing_more ((after_row w (Tick m ms word)).member n).status (tick_by m ms word (n == m) refl)
     follows (Rx m k ms) order = rx_by m k ms (n == m) refl order
@@ -155,7 +156,7 @@ module _ (n : ℕ) where
     follows (ASend b) order = nothing_more (w.member n).status inv
     follows (AEnd b) order = nothing_more (w.member n).status inv
 
-  pub follow : (laws : MemberLaws) (rows : List Row) (w : Cluster) (heard : List Queued) → KeepsIn heard (w.member n).status → ComeInOrder n heard w rows
+  pub follow : (laws : MemberLaws) (rows : List Row) (w : Cluster) (heard : List Queued) → KeepsIn heard (w.member n).status → ComeInOrder limits rows_at n heard w rows
       → KeepsIn (heard ++ heard_by n w rows) ((after_rows w rows).member n).status
   follow laws [] w heard inv order = nothing_more laws w heard inv (w.member n).status inv
   follow laws (row ∷ rows) w heard inv order = subst (λ (l : List Queued). KeepsIn l ((after_rows (after_row w row) rows).member n).status)

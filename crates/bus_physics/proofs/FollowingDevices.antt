@@ -12,16 +12,17 @@ use Rattle.allocatee.specs.Allocatee.{Device, opening, step}
 use Rattle.allocatee.specs.Allocatee.Event.{Tick as Ticks}
 use Rattle.bus_spec.specs.Allocatees.{after_sending_from, device_after_step}
 use Rattle.bus_spec.specs.Cluster.{Cluster, after_row, after_rows, arrival_at, frame_at, receipt_at}
-use Rattle.bus_physics.specs.Physics.{ComeInOrderToDevice, ComesInOrderToDevice, IsInOrderToDevice, WhereIts, device_heard_by, device_heard_in}
+use Rattle.bus_rows.specs.Timed.{Timed}
+use Rattle.bus_physics.specs.Physics.{ComeInOrderToDevice, ComesInOrderToDevice, IsInOrderToDevice, IsRecent, Limits, WhereIts, device_heard_by, device_heard_in}
 use Rattle.bus_physics.proofs.Devices.{SessionLaws}
 use Rattle.bus_physics.proofs.Restarts.{NoneLater, restarted}
 
 some_is : (x y : Device) → Some x ≡ Some y → x ≡ y
 some_is x y e = cc (e)
 
-module _ (a : ℕ) where
+module _ (limits : Limits) (rows_at : List Timed) (a : ℕ) where
   abbrev pub KeptBy : List Queued → Device → Type 0
-  KeptBy heard x = (s : Session) → In s x.sessions → NoneLater device.setting heard s
+  KeptBy heard x = (s : Session) → In s x.sessions → NoneLater device.setting (IsRecent limits rows_at) heard s
 
   abbrev pub KeptIn : List Queued → Option Device → Type 0
   KeptIn heard o = (x : Device) → o ≡ Some x → KeptBy heard x
@@ -33,7 +34,7 @@ module _ (a : ℕ) where
     no_more : (o : Option Device) → KeptIn heard o → KeptIn (heard ++ []) o
     no_more o keeps = subst (λ (l : List Queued). KeptIn l o) (sym (append-nil heard)) keeps
 
-    rx_by : (b k ms word : ℕ) (same : Bool) → (a == b) ≡ same → WhereIts same (ComesInOrderToDevice heard (frame_at w.frames k))
+    rx_by : (b k ms word : ℕ) (same : Bool) → (a == b) ≡ same → WhereIts same (ComesInOrderToDevice limits rows_at heard (frame_at w.frames k))
         → KeptIn (heard ++ (if same then frame_at w.frames k ∷ [] else []))
         (if same then device_after_step (w.rows + 1) (receipt_at w k ms word) (w.allocatee b) else w.allocatee a)
     rx_by b k ms word false e order = no_more (w.allocatee a) inv
@@ -41,9 +42,9 @@ module _ (a : ℕ) where
       by : (o : Option Device) → w.allocatee b ≡ o → KeptIn (heard ++ frame_at w.frames k ∷ []) (device_after_step (w.rows + 1) (receipt_at w k ms word) o)
       by None there x is = absurd (cc (is))
       by (Some d) there x is = subst (KeptBy (heard ++ frame_at w.frames k ∷ [])) (some_is (step d (w.rows + 1) (receipt_at w k ms word)).device x is)
-          (subst (λ (l : List Session). (s : Session) → In s l → NoneLater device.setting (heard ++ frame_at w.frames k ∷ []) s)
+          (subst (λ (l : List Session). (s : Session) → In s l → NoneLater device.setting (IsRecent limits rows_at) (heard ++ frame_at w.frames k ∷ []) s)
           (sym (laws.frame d (w.rows + 1) word (arrival_at (frame_at w.frames k) ms)))
-          (restarted device.setting heard (frame_at w.frames k) (max d.asking.moment ms) (λ f key. order f key) d.sessions
+          (restarted device.setting (IsRecent limits rows_at) heard (frame_at w.frames k) (max d.asking.moment ms) order d.sessions
           (inv d (ap w.allocatee (is_same b e) ∙ there))))
 
     tick_by : (b ms word : ℕ) (same : Bool) → (a == b) ≡ same
@@ -53,7 +54,7 @@ module _ (a : ℕ) where
       by : (o : Option Device) → w.allocatee b ≡ o → KeptIn heard (device_after_step (w.rows + 1) (Ticks ms word) o)
       by None there x is = absurd (cc (is))
       by (Some d) there x is = subst (KeptBy heard) (some_is (step d (w.rows + 1) (Ticks ms word)).device x is)
-          (subst (λ (l : List Session). (s : Session) → In s l → NoneLater device.setting heard s) (sym (laws.tick d (w.rows + 1) ms word))
+          (subst (λ (l : List Session). (s : Session) → In s l → NoneLater device.setting (IsRecent limits rows_at) heard s) (sym (laws.tick d (w.rows + 1) ms word))
           (inv d (ap w.allocatee (is_same b e) ∙ there)))
 
     open_by : (b : ℕ) (uid : List ℕ) (pref ms word : ℕ) (same : Bool) → KeptIn heard (if same then Some (opening uid pref ms word) else w.allocatee a)
@@ -73,7 +74,7 @@ module _ (a : ℕ) where
         sent_is : (d x : Device) → after_sending_from (Some d) ≡ Some x → record d { asking = x.asking } ≡ x
         sent_is d x e = cc (e)
 
-    pub follows_row : (row : Row) → IsInOrderToDevice a heard w row → KeptIn (heard ++ device_heard_in a w row) ((after_row w row).allocatee a)
+    pub follows_row : (row : Row) → IsInOrderToDevice limits rows_at a heard w row → KeptIn (heard ++ device_heard_in a w row) ((after_row w row).allocatee a)
     follows_row (Open n told ms word) order = no_more (w.allocatee a) inv
     follows_row (Tick n ms word) order = no_more (w.allocatee a) inv
     follows_row (Rx n k ms) order = no_more (w.allocatee a) inv
@@ -87,7 +88,7 @@ module _ (a : ℕ) where
     follows_row (ASend b) order = no_more ((after_row w (ASend b)).allocatee a) (send_by b (a == b) refl)
     follows_row (AEnd b) order = no_more ((after_row w (AEnd b)).allocatee a) (end_by (a == b))
 
-  pub follow_device : (laws : SessionLaws) (rows : List Row) (w : Cluster) (heard : List Queued) → KeptIn heard (w.allocatee a) → ComeInOrderToDevice a heard w rows
+  pub follow_device : (laws : SessionLaws) (rows : List Row) (w : Cluster) (heard : List Queued) → KeptIn heard (w.allocatee a) → ComeInOrderToDevice limits rows_at a heard w rows
       → KeptIn (heard ++ device_heard_by a w rows) ((after_rows w rows).allocatee a)
   follow_device laws [] w heard inv order = no_more laws w heard inv (w.allocatee a) inv
   follow_device laws (row ∷ rows) w heard inv order = subst (λ (l : List Queued). KeptIn l ((after_rows (after_row w row) rows).allocatee a))

@@ -25,7 +25,7 @@ use Rattle.bus_spec.specs.Cluster.{arrival_at}
 use Rattle.bus_agreement.proofs.Lists.{in_append, never}
 use Rattle.bus_physics.proofs.InTime.{filtered, found}
 
-module _ (setting : Setting) where
+module _ (setting : Setting) (Asked : ℕ → Type 0) where
   -- a frame of a session's key
   abbrev pub Of : Key → Queued → Type 0
   Of key frame = is_of setting key (arrival_at frame 0) ≡ true
@@ -34,13 +34,14 @@ module _ (setting : Setting) where
   unfolding is_of
   at_any key frame moment is = is
 
-  -- of the frames that were heard, one that would begin the session anew is of no later step than those that it keeps
+  -- Of the frames that were heard, one that would begin the session anew is of no later step than those that it keeps, where
+  -- that is asked of the step of these.
   abbrev pub NoneLater : List Queued → Session → Type 0
   NoneLater heard s = (f : Queued) → In f heard → Of s.key f → restarts (piece_from f.bytes).tail s ≡ true → (m : Mark) → In m s.marks
-      → f.mark.step ≤ m.step
+      → Asked m.step → f.mark.step ≤ m.step
 
   module _ (heard : List Queued) (frame : Queued) (moment : ℕ)
-      (order : (f : Queued) (key : Key) → In f heard → Of key f → Of key frame → f.mark.step ≤ frame.mark.step) where
+      (order : Asked frame.mark.step → (f : Queued) (key : Key) → In f heard → Of key f → Of key frame → f.mark.step ≤ frame.mark.step) where
     abbrev arrival : Arrival
     arrival = arrival_at frame moment
 
@@ -51,27 +52,27 @@ module _ (setting : Setting) where
     tail = (piece_from frame.bytes).tail
 
     stays : (s : Session) → NoneLater heard s → (Of s.key frame → restarts tail s ≡ true → ⊥) → NoneLater more s
-    stays s none not_it f i of_it restart m j = elim (in_append f heard (frame ∷ []) i) [
-      | inl before ↦ none f before of_it restart m j
+    stays s none not_it f i of_it restart m j a = elim (in_append f heard (frame ∷ []) i) [
+      | inl before ↦ none f before of_it restart m j a
       | inr (inl e) ↦ absurd (not_it (subst (λ (g : Queued). Of s.key g) e of_it) (subst (λ (g : Queued). restarts (piece_from g.bytes).tail s ≡ true) e restart))
       | inr (inr i) ↦ absurd i
     ]
 
     empty : (s : Session) → s.marks ≡ [] → NoneLater more s
-    empty s none f i of_it restart m j = absurd (subst (λ (l : List Mark). In m l) none j)
+    empty s none f i of_it restart m j a = absurd (subst (λ (l : List Mark). In m l) none j)
 
-    last_is : (s : Session) → Of s.key frame → (f : Queued) → In f more → Of s.key f → f.mark.step ≤ frame.mark.step
-    last_is s own f i of_it = elim (in_append f heard (frame ∷ []) i) [
-      | inl before ↦ order f s.key before of_it own
+    last_is : (s : Session) → Of s.key frame → Asked frame.mark.step → (f : Queued) → In f more → Of s.key f → f.mark.step ≤ frame.mark.step
+    last_is s own a f i of_it = elim (in_append f heard (frame ∷ []) i) [
+      | inl before ↦ order a f s.key before of_it own
       | inr (inl e) ↦ omega (arith, ap (λ (g : Queued). g.mark.step) e)
       | inr (inr i) ↦ absurd i
     ]
 
     after : (s : Session) (result : Outcome) → Of s.key frame → NoneLater more s → NoneLater more (session_after (piece_in arrival) frame.mark moment s result)
     after s (Delivers payload) own none = empty (session_after (piece_in arrival) frame.mark moment s (Delivers payload)) refl
-    after s Grows own none = λ f i of_it restart m j. elim (in_append m s.marks (frame.mark ∷ []) j) [
-      | inl old ↦ none f i of_it restart m old
-      | inr (inl e) ↦ omega (arith, ap (λ (x : Mark). x.step) e, last_is s own f i of_it)
+    after s Grows own none = λ f i of_it restart m j a. elim (in_append m s.marks (frame.mark ∷ []) j) [
+      | inl old ↦ none f i of_it restart m old a
+      | inr (inl e) ↦ omega (arith, ap (λ (x : Mark). x.step) e, last_is s own (subst (λ (x : Mark). Asked x.step) e a) f i of_it)
       | inr (inr i) ↦ absurd i
     ]
     after s (Spoils why) own none = empty (session_after (piece_in arrival) frame.mark moment s (Spoils why)) refl

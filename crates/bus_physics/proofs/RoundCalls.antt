@@ -19,7 +19,7 @@ use Rattle.bus_agreement.specs.LawsBelow.{FrameLaws}
 use Rattle.bus_agreement.specs.Said.{carrier}
 use Rattle.bus_agreement.proofs.Concatenations.{ids_stay}
 use Rattle.bus_rows.specs.Timed.{Timed, rows_in}
-use Rattle.bus_physics.specs.Physics.{ClockIsNotFast, HoldsAreShort, IsAnsweredSince, Limits, RestsBeforeOpening, WaitsForAnswers, heard_by, time_of}
+use Rattle.bus_physics.specs.Physics.{ClockIsNotFast, HoldsAreShort, IsAnsweredSince, Limits, RestsBeforeOpening, WaitsForAnswers, heard_by, time_of, IsRecent}
 use Rattle.bus_physics.proofs.HeardAnswers.{answers_are_heard}
 use Rattle.bus_physics.proofs.Single.{IsShown}
 use Rattle.bus_physics.proofs.SpacedCalls.{AreSettled, Known, along}
@@ -53,19 +53,23 @@ module _ (laws : FrameLaws) (called : (t : AllocatorState) (number : ℕ) (event
           rests (λ t up. absurd (cc (up))) (λ x y i. absurd i)
 
       pub comes_late : (x y : SentTransfer) → In x made → In y made → x.by ≡ n → y.by ≡ n → x.offer.what ≡ y.offer.what → x.offer.to ≡ y.offer.to
-          → x.offer.id ≡ y.offer.id → x.step < y.step → x.offer.what ≡ carrier append → x.offer.to ≡ p
+          → x.offer.id ≡ y.offer.id → x.step < y.step → x.offer.what ≡ carrier append → x.offer.to ≡ p → IsRecent limits all x.step
           → (time_of all x.step + 2 * limits.hold < time_of all y.step) ⊎ IsAnsweredSince made (heard_by n (cluster ids) (rows_in before)) x
-      comes_late x y i j by by_too what to id less carries here =
-          settled x y i j (record { by = by; what = carries; to = here }) (record { by = by_too; what = sym what ∙ carries; to = sym to ∙ here }) id less
+      comes_late x y i j by by_too what to id less carries here recent =
+          elim (settled x y i j (record { by = by; what = carries; to = here }) (record { by = by_too; what = sym what ∙ carries; to = sym to ∙ here }) id less) [
+            | inl far ↦ inl far
+            | inr (inl answered) ↦ inr answered
+            | inr (inr old) ↦ absurd (omega (arith, recent, old))
+          ]
 
     pub round_late : WaitsForAnswers limits all made (heard_by n (cluster ids) (rows_in before)) n
-    round_late x y i j by by_too what to id less kind = by_kind kind where
+    round_late x y i j by by_too what to id less kind recent = by_kind kind where
       small : kind_of x.offer.what ≡ RequestKind → x.offer.to < 128
       small is = let r = subst (λ (k : _). IsDestination k x.offer.to) is ((shown (rows_in before) lawful).shows.holds.transfers.ranges x i).to in omega (arith, r.1)
 
       by_kind : (x.offer.what ≡ AppQ) ⊎ (x.offer.what ≡ VoteQ) → (time_of all x.step + 2 * limits.hold < time_of all y.step)
           ⊎ IsAnsweredSince made (heard_by n (cluster ids) (rows_in before)) x
       by_kind (inl append) = comes_late true x.offer.to 31000 (λ M b m times moment. Open x.offer.to M b m times moment) (spaced_appends x.offer.to) (small (ap kind_of append))
-          (omega arith) x y i j by by_too what to id less append refl
+          (omega arith) x y i j by by_too what to id less append refl recent
       by_kind (inr vote) = comes_late false x.offer.to 20000 (λ M b m times moment. Asked x.offer.to M b m times moment) (spaced_votes x.offer.to) (small (ap kind_of vote))
-          (omega arith) x y i j by by_too what to id less vote refl
+          (omega arith) x y i j by by_too what to id less vote refl recent

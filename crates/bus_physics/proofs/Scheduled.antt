@@ -22,9 +22,9 @@ use Rattle.bus_agreement.proofs.Concatenations.{ids_stay}
 use Rattle.bus_agreement.proofs.Lists.{never}
 use Rattle.bus_agreement.proofs.OneRowMore.{grown, lawful as one_more}
 use Rattle.bus_rows.specs.Timed.{Timed, rows_in}
-use Rattle.bus_physics.specs.Physics.{AllComeInOrder, ComeInOrder, Limits}
+use Rattle.bus_physics.specs.Physics.{AllComeInOrder, ComeInOrder, HoldsAreShort, Limits}
 use Rattle.bus_physics.specs.Reuse.{LacksFrames}
-use Rattle.bus_physics.specs.Schedule.{DeviceHears, MemberHears, HappenOnBus, HappensOnBus, LawfulButForBus, LosesFrames, is_of_bus}
+use Rattle.bus_physics.specs.Schedule.{DeviceHears, MemberHears, HappenOnBus, HappensOnBus, LawfulButForBus, LosesFrames, is_of_bus, lately}
 use Rattle.bus_physics.proofs.Refusals.{of_torn, refused}
 
 -- ---- which rows have which of the two causes
@@ -131,6 +131,9 @@ module _ (w : Cluster) (why : Unlawful) (is : is_of_bus why ≡ true) where
       (either (absent w a) (nothing_to_send (next_from (w.allocatee a))) (not_there a) (not_queued why (next_from (w.allocatee a)) is)) e)
   refusal (AEnd a) e = absurd (either (no_allocatee a) (absent w a) (no_device a) (not_there a) e)
 
+pub short_lately : (limits : Limits) (at : ℕ) → HoldsAreShort limits → HoldsAreShort (lately limits at)
+short_lately limits at enough = record { round = enough.round; rested = enough.rested; clock = enough.clock }
+
 -- ---- the laws of one row
 
 module _ (limits : Limits) (ids : List ℕ) where
@@ -139,16 +142,16 @@ module _ (limits : Limits) (ids : List ℕ) where
 
   abbrev pub DeviceLaw : Type 0
   DeviceLaw = (before : List Timed) (now : Timed) (a k ms word : ℕ) → now.row ≡ ARx a k ms word → AreLawful (cluster ids) (rows_in before)
-      → DeviceHears limits ids before now a k → cause (w_of before) (ARx a k ms word) ≡ Some unlawful.Torn → ⊥
+      → DeviceHears (lately limits now.at) ids before now a k → cause (w_of before) (ARx a k ms word) ≡ Some unlawful.Torn → ⊥
 
   abbrev pub TornLaw : Type 0
   TornLaw = (before : List Timed) (now : Timed) (n k ms : ℕ) → now.row ≡ Rx n k ms → AreLawful (cluster ids) (rows_in before)
-      → MemberHears limits ids before now n k → cause (w_of before) (Rx n k ms) ≡ Some unlawful.Torn
+      → MemberHears (lately limits now.at) ids before now n k → cause (w_of before) (Rx n k ms) ≡ Some unlawful.Torn
       → (moment : ℕ) × LacksFrames (transfers_of_rows (cluster ids) (rows_in before) []) (arrival_at (frame_at (w_of before).frames k) moment)
 
   abbrev pub StaleLaw : Type 0
   StaleLaw = (before : List Timed) (now : Timed) (n k ms : ℕ) → now.row ≡ Rx n k ms → AreLawful (cluster ids) (rows_in before)
-      → MemberHears limits ids before now n k → cause (w_of before) (Rx n k ms) ≡ Some unlawful.Stale → ⊥
+      → MemberHears (lately limits now.at) ids before now n k → cause (w_of before) (Rx n k ms) ≡ Some unlawful.Stale → ⊥
 
   pub rows_of_more : (before : List Timed) (now : Timed) → rows_in (before ++ now ∷ []) ≡ rows_in before ++ now.row ∷ []
   rows_of_more [] now = refl
@@ -168,9 +171,9 @@ module _ (limits : Limits) (ids : List ℕ) where
       (one_more (cluster ids) (rows_in before) t.row lawful (ap (λ (u : Cluster). cause u t.row) at ∙ e))
 
   -- who hears a frame that is torn is a member, so frames came to it in order
-  pub heard_in_order : (before : List Timed) (n k ms : ℕ) → AllComeInOrder ids (cluster ids) (rows_in before) → cause (w_of before) (Rx n k ms) ≡ Some unlawful.Torn
-      → ComeInOrder n [] (cluster ids) (rows_in before)
-  heard_in_order before n k ms orders e =
+  pub heard_in_order : (all before : List Timed) (n k ms : ℕ) → AllComeInOrder limits all ids (cluster ids) (rows_in before) → cause (w_of before) (Rx n k ms) ≡ Some unlawful.Torn
+      → ComeInOrder limits all n [] (cluster ids) (rows_in before)
+  heard_in_order all before n k ms orders e =
       orders n (subst (λ (l : List ℕ). In n l) (ids_stay (cluster ids) (rows_in before)) (refused unlawful.Torn Torn of_torn (w_of before) n k ms e).member)
 
   module _ (device_law : DeviceLaw) (torn_law : TornLaw) (stale_law : StaleLaw) where

@@ -136,9 +136,12 @@ module _ (append : Bool) (p width : ℕ) (P : ℕ → ℕ → Memory → Times �
       pub since : Since append p P x.offer.id moment more t.raft_server.memory t.times t.ids t.now
       pub followed : 1 ≤ more → IsFollowed made x
 
-    -- one behind it was answered, or the member rested since, before it was opened at this time
+    -- one behind it was answered, or it is long ago, or the member rested since, before it was opened at this time
+    abbrev pub IsSettledNow : List SentTransfer → List Queued → SentTransfer → Type 0
+    IsSettledNow made heard x = IsAnsweredSince made heard x ⊎ (time_of all x.step < limits.since)
+
     abbrev pub IsEnded : List SentTransfer → List Queued → ℕ → SentTransfer → Type 0
-    IsEnded made heard at x = IsAnsweredSince made heard x ⊎ (time_of all x.step + limits.rest ≤ at)
+    IsEnded made heard at x = IsSettledNow made heard x ⊎ (time_of all x.step + limits.rest ≤ at)
 
     pub record Runs (made : List SentTransfer) (heard : List Queued) (past : List Reading) (t : AllocatorState) : Type 0 where
       pub wait : t.times.since ≤ t.now
@@ -154,7 +157,7 @@ module _ (append : Bool) (p width : ℕ) (P : ℕ → ℕ → Memory → Times �
     RunsWhereUp made heard past status = (t : AllocatorState) → status ≡ Up t → Runs made heard past t
 
     abbrev pub IsSettled : List SentTransfer → List Queued → SentTransfer → SentTransfer → Type 0
-    IsSettled made heard x y = (time_of all x.step + 2 * limits.hold < time_of all y.step) ⊎ IsAnsweredSince made heard x
+    IsSettled made heard x y = (time_of all x.step + 2 * limits.hold < time_of all y.step) ⊎ IsSettledNow made heard x
 
     abbrev pub AreSettled : List SentTransfer → List Queued → Type 0
     AreSettled made heard = (x y : SentTransfer) → In x made → In y made → IsCallTo x → IsCallTo y → x.offer.id ≡ y.offer.id → x.step < y.step
@@ -173,10 +176,15 @@ module _ (append : Bool) (p width : ℕ) (P : ℕ → ℕ → Memory → Times �
       answers = a.answers;
     }
 
+    settled_now_more : (made more : List SentTransfer) (heard further : List Queued) → ((x : SentTransfer) → In x made → In x more)
+        → ((f : Queued) → In f heard → In f further) → (x : SentTransfer) → IsSettledNow made heard x → IsSettledNow more further x
+    settled_now_more made more heard further grows hears x (inl a) = inl (answered_more made more heard further grows hears x a)
+    settled_now_more made more heard further grows hears x (inr old) = inr old
+
     settled_more : (made more : List SentTransfer) (heard further : List Queued) → ((x : SentTransfer) → In x made → In x more)
         → ((f : Queued) → In f heard → In f further) → (x y : SentTransfer) → IsSettled made heard x y → IsSettled more further x y
     settled_more made more heard further grows hears x y (inl far) = inl far
-    settled_more made more heard further grows hears x y (inr a) = inr (answered_more made more heard further grows hears x a)
+    settled_more made more heard further grows hears x y (inr a) = inr (settled_now_more made more heard further grows hears x a)
 
     followed_more : (made more : List SentTransfer) → ((x : SentTransfer) → In x made → In x more) → (x : SentTransfer) → IsFollowed made x → IsFollowed more x
     followed_more made more grows x f = (f.0, grows f.0 f.1, f.2, f.3)
@@ -313,9 +321,9 @@ module _ (append : Bool) (p width : ℕ) (P : ℕ → ℕ → Memory → Times �
 
           old : (x : SentTransfer) → In x made → IsCallTo x → IsEnded made heard runs.opening.at x ⊎ Waits made past t x
               → IsEnded more further runs.opening.at x ⊎ Waits more later_past g.allocator x
-          old x i call (inl (inl a)) = inl (inl (answered_more made more heard further grows hears x a))
+          old x i call (inl (inl a)) = inl (inl (settled_now_more made more heard further grows hears x a))
           old x i call (inl (inr rested)) = inl (inr rested)
-          old x i call (inr w) = elim (decided x i call w) [ inl a ↦ inl (inl a) | inr silent ↦ inr (goes_on x i call w silent) ]
+          old x i call (inr w) = elim (decided x i call w) [ inl a ↦ inl (inl (inl a)) | inr silent ↦ inr (goes_on x i call w silent) ]
 
           by : (x : SentTransfer) → IsCallTo x → In x made ⊎ IsNew number n g.offers x → IsEnded more further runs.opening.at x ⊎ Waits more later_past g.allocator x
           by x call (inl i) = old x i call (runs.each x i call)
@@ -361,10 +369,10 @@ module _ (append : Bool) (p width : ℕ) (P : ℕ → ℕ → Memory → Times �
         at_step new passed = subst (λ (m : ℕ). time_of all x.step + 2 * limits.hold < m) (sym its_time ∙ ap (time_of all) (sym (step_of y new))) passed
 
         old : In x made → IsNew number n g.offers y → IsEnded made heard runs.opening.at x ⊎ Waits made past t x → IsSettled more further x y
-        old k new (inl (inl a)) = inr (answered_more made more heard further grows hears x a)
+        old k new (inl (inl a)) = inr (settled_now_more made more heard further grows hears x a)
         old k new (inl (inr rested)) = inl (at_step new (far_after_rest rested (called.over new.offer new.offered (new_call y new called_too))))
         old k new (inr w) = elim (decided x k call w) [
-          | inl a ↦ inr a
+          | inl a ↦ inr (inl a)
           | inr silent ↦ inl (at_step new (far w (called.far x.offer.id w.moment w.more (past_of x k call w silent)
               new.offer new.offered (new_call y new called_too) (ap (λ (z : SentTransfer). z.offer.id) (sym new.is) ∙ sym id))))
         ]
@@ -401,7 +409,7 @@ module _ (append : Bool) (p width : ℕ) (P : ℕ → ℕ → Memory → Times �
         }
           where
             by : (x : SentTransfer) → IsEnded made heard r.opening.at x ⊎ Waits made past t x → IsEnded more further r.opening.at x ⊎ Waits more past t x
-            by x (inl (inl a)) = inl (inl (answered_more made more heard further grows hears x a))
+            by x (inl (inl a)) = inl (inl (settled_now_more made more heard further grows hears x a))
             by x (inl (inr rested)) = inl (inr rested)
             by x (inr v) = inr (record {
               moment = v.moment;
@@ -445,8 +453,11 @@ module _ (append : Bool) (p width : ℕ) (P : ℕ → ℕ → Memory → Times �
             opens = refl;
             reading = inl refl;
             awake = record { wait = omega (arith, wait_begun rules.told ms word); follows = inl refl };
-            each = λ x i c. inl (inr (subst (λ (at : ℕ). time_of all x.step + limits.rest ≤ at) its_time
-                (rests x (w.rows + 1) told ms word i c.by (omega (arith, earlier x i)) (row ∙ ap (λ (k : ℕ). Opens k told ms word) (sym same)))));
+            each = λ x i c. elim (leb_tells limits.since (time_of all x.step)) [
+              | inl recent ↦ inl (inr (subst (λ (at : ℕ). time_of all x.step + limits.rest ≤ at) its_time
+                  (rests x (w.rows + 1) told ms word i c.by recent.1 (omega (arith, earlier x i)) (row ∙ ap (λ (k : ℕ). Opens k told ms word) (sym same)))))
+              | inr old ↦ inl (inl (inr (omega (arith, old.1))))
+            ];
           })
 
       opened_row : (m : ℕ) (told : Bool) (ms word : ℕ) → row_of all (w.rows + 1) ≡ Opens m told ms word → (rules : Rules) (same : Bool) → (n == m) ≡ same

@@ -37,26 +37,28 @@ use Rattle.bus_physics.specs.Reuse.{AreOfOne, AreOfTwo, IsFrameOf, IsTornOf}
 -- ---- lists
 
 -- two neighbours have different steps
-pub record StepsApart (all : List Arrival) : Type 0 where
+pub record StepsApart (last : Arrival) (all : List Arrival) : Type 0 where
   pub front : List Arrival
   pub one : Arrival
   pub next : Arrival
   pub back : List Arrival
   pub split : all ≡ front ++ (one ∷ (next ∷ back))
   pub apart : one.mark.step ≢ next.mark.step
+  pub with_last : next.mark.step ≡ last.mark.step
 
-further : (x : Arrival) (all : List Arrival) → StepsApart all → StepsApart (x ∷ all)
-further x all is = record {
+further : (x last : Arrival) (all : List Arrival) → StepsApart last all → StepsApart last (x ∷ all)
+further x last all is = record {
   front = x ∷ is.front;
   one = is.one;
   next = is.next;
   back = is.back;
   split = ap (λ (l : List Arrival). x ∷ l) is.split;
   apart = is.apart;
+  with_last = is.with_last;
 }
 
--- all have the step of the last one, or two neighbours have different ones
-all_or_apart : (xs : List Arrival) (last : Arrival) → ((b : Arrival) → In b xs → b.mark.step ≡ last.mark.step) ⊎ StepsApart (xs ++ last ∷ [])
+-- all have the step of the last one, or two neighbours have different ones, the second one that of the last
+all_or_apart : (xs : List Arrival) (last : Arrival) → ((b : Arrival) → In b xs → b.mark.step ≡ last.mark.step) ⊎ StepsApart last (xs ++ last ∷ [])
 all_or_apart [] last = inl (λ b i. absurd i)
 all_or_apart (x ∷ xs) last = by xs (all_or_apart xs last) where
   with_first : (ys : List Arrival) → x.mark.step ≡ last.mark.step → ((b : Arrival) → In b ys → b.mark.step ≡ last.mark.step)
@@ -64,12 +66,12 @@ all_or_apart (x ∷ xs) last = by xs (all_or_apart xs last) where
   with_first ys same each b (inl e) = ap (λ (a : Arrival). a.mark.step) e ∙ same
   with_first ys same each b (inr i) = each b i
 
-  by : (ys : List Arrival) → ((b : Arrival) → In b ys → b.mark.step ≡ last.mark.step) ⊎ StepsApart (ys ++ last ∷ [])
-      → ((b : Arrival) → In b (x ∷ ys) → b.mark.step ≡ last.mark.step) ⊎ StepsApart (x ∷ (ys ++ last ∷ []))
-  by ys (inr is) = inr (further x (ys ++ last ∷ []) is)
+  by : (ys : List Arrival) → ((b : Arrival) → In b ys → b.mark.step ≡ last.mark.step) ⊎ StepsApart last (ys ++ last ∷ [])
+      → ((b : Arrival) → In b (x ∷ ys) → b.mark.step ≡ last.mark.step) ⊎ StepsApart last (x ∷ (ys ++ last ∷ []))
+  by ys (inr is) = inr (further x last (ys ++ last ∷ []) is)
   by [] (inl each) = elim (eqb_tells x.mark.step last.mark.step) [
     | inl same ↦ inl (with_first [] same.1 each)
-    | inr differ ↦ inr (record { front = []; one = x; next = last; back = []; split = refl; apart = differ.1 })
+    | inr differ ↦ inr (record { front = []; one = x; next = last; back = []; split = refl; apart = differ.1; with_last = refl })
   ]
   by (y ∷ ys) (inl each) = elim (eqb_tells x.mark.step last.mark.step) [
     | inl same ↦ inl (with_first (y ∷ ys) same.1 each)
@@ -80,6 +82,7 @@ all_or_apart (x ∷ xs) last = by xs (all_or_apart xs last) where
       back = ys ++ last ∷ [];
       split = refl;
       apart = λ e. differ.1 (e ∙ each y (inl refl));
+      with_last = each y (inl refl);
     })
   ]
 
@@ -210,7 +213,7 @@ module _ (laws : FrameLaws) (ids : List ℕ) (low : (n : ℕ) → In n ids → 1
     same_id b i f = id_is b i f ∙ sym (id_is arrival last_in own)
 
     -- neighbours of different steps
-    of_two : StepsApart all → AreOfTwo made d.ident all
+    of_two : StepsApart arrival all → AreOfTwo made d.ident arrival all
     of_two is =
         let i : In is.one all = subst (λ (l : List Arrival). In is.one l) (sym is.split) (in_back is.one is.front (is.one ∷ (is.next ∷ is.back)) (inl refl)) in
         let j : In is.next all = subst (λ (l : List Arrival). In is.next l) (sym is.split) (in_back is.next is.front (is.one ∷ (is.next ∷ is.back)) (inr (inl refl))) in
@@ -237,6 +240,7 @@ module _ (laws : FrameLaws) (ids : List ℕ) (low : (n : ℕ) → In n ids → 1
           split = is.split;
           of_first = frame_of is.one f;
           of_second = frame_of is.next g;
+          with_last = sym g.piece.step ∙ is.with_last;
         }
 
     of_one : ((b : Arrival) → In b taken.arrivals → b.mark.step ≡ arrival.mark.step) → AreOfOne made d.ident all
@@ -255,20 +259,20 @@ module _ (laws : FrameLaws) (ids : List ℕ) (low : (n : ℕ) → In n ids → 1
           (are.once f.whose own.whose f.was_made own.was_made (sym f.piece.step ∙ (step_is b i ∙ own.piece.step)) (same_what b f) (f.to ∙ sym own.to) (same_id b i f))
           (frame_of b f)
 
-    pub how : AreOfTwo made d.ident all ⊎ AreOfOne made d.ident all
+    pub how : AreOfTwo made d.ident arrival all ⊎ AreOfOne made d.ident all
     how = elim (all_or_apart taken.arrivals arrival) [
       | inl steps ↦ inr (of_one steps)
       | inr apart ↦ inl (of_two apart)
     ]
 
-    first_to : (is : StepsApart all) → (of_two is).first.offer.to ≡ to_for key.kind setting.me
+    first_to : (is : StepsApart arrival all) → (of_two is).first.offer.to ≡ to_for key.kind setting.me
     unfolding of_two each
     first_to is =
         let i : In is.one all = subst (λ (l : List Arrival). In is.one l) (sym is.split) (in_back is.one is.front (is.one ∷ (is.next ∷ is.back)) (inl refl)) in
         (each is.one i).to
 
     -- the same, with the destination
-    pub how_to : ((two : AreOfTwo made d.ident all) × (two.first.offer.to ≡ to_for key.kind setting.me)) ⊎ AreOfOne made d.ident all
+    pub how_to : ((two : AreOfTwo made d.ident arrival all) × (two.first.offer.to ≡ to_for key.kind setting.me)) ⊎ AreOfOne made d.ident all
     how_to = elim (all_or_apart taken.arrivals arrival) [
       | inl steps ↦ inr (of_one steps)
       | inr apart ↦ inl (of_two apart, first_to apart)

@@ -1,6 +1,6 @@
 -- An allocatee on a physical bus puts no Allocation together of two.
 use Rattle.std.proofs.Common.{◌≡◌, ◌≢◌, ℕ, ◌+◌, ◌<◌, ◌≤◌, Bool, true, false, List, [], ◌∷◌, ◌++◌, length, map, refl, sym, ap, subst, ◌∙◌, arith, ◌⊎◌, inl, inr, Some}
-use Rattle.std.specs.Prelude.{◌==◌, ◌&&◌, max, nat_eq, not, slice_index_or, Option, None, Result, Ok, if◌then◌else◌}
+use Rattle.std.specs.Prelude.{◌-◌, ◌==◌, ◌&&◌, max, nat_eq, not, slice_index_or, Option, None, Result, Ok, if◌then◌else◌}
 use Rattle.can_frame.specs.declared.step.Why.{Why}
 use Rattle.transfer_rx.specs.declared.accept.Wanted.{Wanted}
 use Rattle.transfer_rx.specs.Outcome.{out_of_turn}
@@ -49,7 +49,7 @@ use Rattle.bus_agreement.proofs.Lists.{equal, in_append, never, tell}
 use Rattle.bus_agreement.proofs.OneRow.{stands}
 use Rattle.bus_agreement.proofs.WholeTransfers.{forged_allocation}
 use Rattle.bus_rows.specs.Timed.{Timed}
-use Rattle.bus_physics.specs.Physics.{AllocatesApart, AreApart, ComesInOrderToDevice, ComesInTime, HasKey, IsParted, GoesOn, Limits, WhereIts, Reading, now_of, time_of}
+use Rattle.bus_physics.specs.Physics.{AllocatesApart, AreApart, ComesInOrderToDevice, ComesInTime, HasKey, IsParted, GoesOn, Limits, WhereIts, Reading, now_of, time_of, IsRecent, window}
 use Rattle.bus_physics.specs.Reuse.{AreOfOne, AreOfTwo, IsFrameOf}
 use Rattle.bus_physics.proofs.Devices.{IsKnown, IsTimely, StandsBefore, soon, width}
 use Rattle.bus_physics.proofs.InTime.{AreClose, Heard, IsIdle, IsInTime, IsYoung, close_more, comes, filtered, found}
@@ -250,9 +250,9 @@ of_it {A} a is = by (a == a) refl is where
 
 module _ (laws : FrameLaws) (choice : ℕ → Bool) (made : List SentTransfer) (w : Cluster) (run : raft.World) (members : AreMembers w.ids)
     (shows : Shows choice made w run) (limits : Limits) (all : List Timed) (sane : limits.drift < 58000) (now : Timed) (a k ms word : ℕ)
-    (row : now.row ≡ ARx a k ms word) (before : StandsBefore limits all a w now) (heard : List Queued)
-    (few : AreShortOf made) (Ordered : Type 0) (slowly : AllocatesApart limits all made heard Ordered) (order : Ordered → ComesInOrderToDevice heard (frame_at w.frames k))
-    (follows : Ordered → KeptIn a heard (w.allocatee a))
+    (row : now.row ≡ ARx a k ms word) (back : limits.since ≤ now.at - window limits) (before : StandsBefore limits all a w now) (heard : List Queued)
+    (few : AreShortOf made) (Ordered : Type 0) (slowly : AllocatesApart limits all made heard Ordered) (order : Ordered → ComesInOrderToDevice limits all heard (frame_at w.frames k))
+    (follows : Ordered → KeptIn limits all a heard (w.allocatee a))
     (x : Device) (there : w.allocatee a ≡ Some x) (inside : In (frame_at w.frames k) w.frames) where
   abbrev coming : Arrival
   coming = arrival_at (frame_at w.frames k) (max x.asking.moment ms)
@@ -360,19 +360,32 @@ module _ (laws : FrameLaws) (choice : ℕ → Bool) (made : List SentTransfer) (
         by (inl none) = absurd (subst (λ (l : List Mark). In m l) none.1 j)
         by (inr found_there) = (filtered (is_recent coming.moment) x.sessions c.session (found (key_of d.ident) (recent_sessions coming.moment x.sessions) c.session found_there)).0
 
-      parted : (y z : SentTransfer) → In y made → Ordered × IsParted heard y z → (h : Heard) → In h (hs ++ last ∷ []) → IsFrameOf y h.arrival → ⊥
-      parted y z made_there part h i is = elim (in_append h hs (last ∷ []) i) [
+      parted : (y z : SentTransfer) → In y made → IsRecent limits all y.step → Ordered × IsParted heard y z → (h : Heard) → In h (hs ++ last ∷ []) → IsFrameOf y h.arrival → ⊥
+      parted y z made_there recent part h i is = elim (in_append h hs (last ∷ []) i) [
         | inl j ↦
             let mark : In h.arrival.mark c.session.marks =
             subst (λ (l : List Mark). In h.arrival.mark l) (sym (taken c.session same_key).marks) (in_marks h hs j) in
             let of_it : HasKey c.session.key part.1.frame = subst (λ (k : Key). HasKey k part.1.frame) (sym c.key)
             (in_key (key_of d.ident) part.1.frame h.arrival ((taken c.session same_key).each h j).is (part.1.ident ∙ sym is.ident)) in
-            absurd (omega (arith, follows part.0 x there c.session (in_sessions h.arrival.mark mark) part.1.frame part.1.came of_it (again (offer_id y h made_there is i)) h.arrival.mark mark, is.step, part.1.later))
+            absurd (omega (
+              arith,
+              follows part.0 x there c.session (in_sessions h.arrival.mark mark) part.1.frame part.1.came of_it (again (offer_id y h made_there is i)) h.arrival.mark mark
+                  (subst (λ (m : ℕ). IsRecent limits all m) (sym is.step) recent),
+              is.step,
+              part.1.later,
+            ))
         | inr (inl e) ↦
             let of_it : HasKey (key_of d.ident) part.1.frame =
             in_key (key_of d.ident) part.1.frame coming coming_is (part.1.ident ∙ (sym is.ident ∙ ap (λ (g : Heard). g.arrival.id) e)) in
             let own : HasKey (key_of d.ident) (frame_at w.frames k) = in_key (key_of d.ident) (frame_at w.frames k) coming coming_is refl in
-            absurd (omega (arith, order part.0 part.1.frame (key_of d.ident) part.1.came of_it own, ap (λ (g : Heard). g.arrival.mark.step) e, is.step, part.1.later))
+            absurd (omega (
+              arith,
+              order part.0 (subst (λ (m : ℕ). IsRecent limits all m) (sym is.step ∙ ap (λ (g : Heard). g.arrival.mark.step) e) recent)
+                  part.1.frame (key_of d.ident) part.1.came of_it own,
+              ap (λ (g : Heard). g.arrival.mark.step) e,
+              is.step,
+              part.1.later,
+            ))
         | inr (inr j) ↦ absurd j
       ]
         where
@@ -381,17 +394,17 @@ module _ (laws : FrameLaws) (choice : ℕ → Bool) (made : List SentTransfer) (
               ∙ (ap (λ (b : Bool). not b && not (nat_eq (next_id (piece_from part.1.frame.bytes).tail.id) c.session.expected)) (ap (nat_eq (piece_from part.1.frame.bytes).tail.id) (sym same) ∙ part.1.other)
               ∙ ap (λ (b : Bool). not b) (ap (nat_eq (next_id (piece_from part.1.frame.bytes).tail.id)) (sym same) ∙ part.1.not_before))
 
-      of_two : AreOfTwo made d.ident (map (λ (h : Heard). h.arrival) hs ++ coming ∷ []) → ⊥
+      of_two : AreOfTwo made d.ident coming (map (λ (h : Heard). h.arrival) hs ++ coming ∷ []) → ⊥
       of_two two = elim (lt_trichotomy two.first.step two.second.step) [
-        | inl less ↦ elim (slowly two.first two.second two.twice.first_made two.twice.second_made what (sym two.twice.what ∙ what) two.twice.by two.twice.id less) [
+        | inl less ↦ elim (slowly two.first two.second two.twice.first_made two.twice.second_made what (sym two.twice.what ∙ what) two.twice.by two.twice.id less first_recent second_recent) [
           | inl far ↦ near far
-          | inr part ↦ parted two.first two.second two.twice.first_made part pair.first pair.first_in (subst (λ (b : Arrival). IsFrameOf two.first b) (sym pair.one_is) two.of_first)
+          | inr part ↦ parted two.first two.second two.twice.first_made first_recent part pair.first pair.first_in (subst (λ (b : Arrival). IsFrameOf two.first b) (sym pair.one_is) two.of_first)
         ]
         | inr more ↦ elim (slowly two.second two.first two.twice.second_made two.twice.first_made (sym two.twice.what ∙ what) what (sym two.twice.by) (sym two.twice.id)
-            (below (two.twice.apart) more)) [
+            (below (two.twice.apart) more) second_recent first_recent) [
               | inl (inl far) ↦ near (inr far)
               | inl (inr far) ↦ near (inl far)
-              | inr part ↦ parted two.second two.first two.twice.second_made part pair.second pair.second_in (subst (λ (b : Arrival). IsFrameOf two.second b) (sym pair.next_is) two.of_second)
+              | inr part ↦ parted two.second two.first two.twice.second_made second_recent part pair.second pair.second_in (subst (λ (b : Arrival). IsFrameOf two.second b) (sym pair.next_is) two.of_second)
             ]
       ]
         where
@@ -412,19 +425,49 @@ module _ (laws : FrameLaws) (choice : ℕ → Bool) (made : List SentTransfer) (
           apart_not m n p q a b c d e f (inl h) = absurd (omega (arith, a, b, c, d, e, f, h))
           apart_not m n p q a b c d e f (inr h) = absurd (omega (arith, a, b, c, d, e, f, h))
 
+          first : IsTimely limits all pair.first.arrival pair.first.at
+          first = timely pair.first pair.first_in
+
+          second : IsTimely limits all pair.second.arrival pair.second.at
+          second = timely pair.second pair.second_in
+
+          step_one : pair.first.arrival.mark.step ≡ two.first.step
+          step_one = ap (λ (b : Arrival). b.mark.step) pair.one_is ∙ two.of_first.step
+
+          step_two : pair.second.arrival.mark.step ≡ two.second.step
+          step_two = ap (λ (b : Arrival). b.mark.step) pair.next_is ∙ two.of_second.step
+
+          some_one : 1 ≤ pair.first.arrival.mark.step
+          some_one = omega (arith, step_one, shows.holds.transfers.numbered two.first two.twice.first_made)
+
+          some_two : 1 ≤ pair.second.arrival.mark.step
+          some_two = omega (arith, step_two, shows.holds.transfers.numbered two.second two.twice.second_made)
+
+          -- the second one came behind its making, and the frame that comes now is of the same step, and in time
+          after_two : time_of all two.second.step ≤ pair.second.at
+          after_two = subst (λ (m : ℕ). time_of all m ≤ pair.second.at) step_two (second.after some_two)
+
+          made_lately : now.at ≤ time_of all two.second.step + limits.hold
+          made_lately = subst (λ (m : ℕ). now.at ≤ time_of all m + limits.hold) (sym two.with_last)
+              (physical.1.soon (omega (arith, back)) (omega (arith, two.with_last, step_two, some_two)))
+
+          second_recent : IsRecent limits all two.second.step
+          second_recent = omega (arith, back, made_lately)
+
+          first_recent_then : limits.since ≤ pair.first.at
+          first_recent_then = omega (arith, back, made_lately, after_two, pair.soon)
+
+          soon_one : pair.first.at ≤ time_of all two.first.step + limits.hold
+          soon_one = subst (λ (m : ℕ). pair.first.at ≤ time_of all m + limits.hold) step_one (first.soon first_recent_then some_one)
+
+          first_recent : IsRecent limits all two.first.step
+          first_recent = omega (arith, back, made_lately, after_two, pair.soon, soon_one)
+
           near : AreApart (limits.hold + 2000 + limits.drift) (time_of all two.first.step) (time_of all two.second.step) → ⊥
           near far =
-              let first = timely pair.first pair.first_in in
-              let second = timely pair.second pair.second_in in
-              let step_one : pair.first.arrival.mark.step ≡ two.first.step = ap (λ (b : Arrival). b.mark.step) pair.one_is ∙ two.of_first.step in
-              let step_two : pair.second.arrival.mark.step ≡ two.second.step = ap (λ (b : Arrival). b.mark.step) pair.next_is ∙ two.of_second.step in
-              let some_one : 1 ≤ pair.first.arrival.mark.step = omega (arith, step_one, shows.holds.transfers.numbered two.first two.twice.first_made) in
-              let some_two : 1 ≤ pair.second.arrival.mark.step = omega (arith, step_two, shows.holds.transfers.numbered two.second two.twice.second_made) in
               apart_not (time_of all two.first.step) (time_of all two.second.step) pair.first.at pair.second.at
-              (subst (λ (n : ℕ). time_of all n ≤ pair.first.at) step_one (first.after some_one))
-              (subst (λ (n : ℕ). pair.first.at ≤ time_of all n + limits.hold) step_one (first.soon some_one))
-              (subst (λ (n : ℕ). time_of all n ≤ pair.second.at) step_two (second.after some_two))
-              (subst (λ (n : ℕ). pair.second.at ≤ time_of all n + limits.hold) step_two (second.soon some_two))
+              (subst (λ (m : ℕ). time_of all m ≤ pair.first.at) step_one (first.after some_one)) soon_one after_two
+              (subst (λ (m : ℕ). pair.second.at ≤ time_of all m + limits.hold) step_two (second.soon (omega (arith, second_recent, after_two)) some_two))
               pair.later pair.soon far
 
       of_one : AreOfOne made d.ident (map (λ (h : Heard). h.arrival) hs ++ coming ∷ []) → ⊥
@@ -448,10 +491,10 @@ module _ (laws : FrameLaws) (choice : ℕ → Bool) (made : List SentTransfer) (
 
 pub no_torn_row : (laws : FrameLaws) (choice : ℕ → Bool) (made : List SentTransfer) (w : Cluster) (run : raft.World) (members : AreMembers w.ids)
     (shows : Shows choice made w run) (limits : Limits) (all : List Timed) → limits.drift < 58000 → (now : Timed) (a k ms word : ℕ)
-    → now.row ≡ ARx a k ms word → StandsBefore limits all a w now → (heard : List Queued) → AreShortOf made → (Ordered : Type 0) → AllocatesApart limits all made heard Ordered
-    → (Ordered → ComesInOrderToDevice heard (frame_at w.frames k)) → (Ordered → KeptIn a heard (w.allocatee a)) → IsSingle w.ids w → cause w (ARx a k ms word) ≡ Some unlawful.Torn → ⊥
-no_torn_row laws choice made w run members shows limits all sane now a k ms word row before heard few Ordered slowly order follows single e =
+    → now.row ≡ ARx a k ms word → limits.since ≤ now.at - window limits → StandsBefore limits all a w now → (heard : List Queued) → AreShortOf made → (Ordered : Type 0) → AllocatesApart limits all made heard Ordered
+    → (Ordered → ComesInOrderToDevice limits all heard (frame_at w.frames k)) → (Ordered → KeptIn limits all a heard (w.allocatee a)) → IsSingle w.ids w → cause w (ARx a k ms word) ≡ Some unlawful.Torn → ⊥
+no_torn_row laws choice made w run members shows limits all sane now a k ms word row back before heard few Ordered slowly order follows single e =
     let r : IsRefusedAt w a k ms Torn = refused_at unlawful.Torn Torn of_torn w a k ms word e in
     let b = torn_at_device r.x (arrival_at (frame_at w.frames k) ms) r.judgement in
-    never_torn laws choice made w run members shows limits all sane now a k ms word row before heard few Ordered slowly order follows r.x r.there (stands w k r.frame_there)
+    never_torn laws choice made w run members shows limits all sane now a k ms word row back before heard few Ordered slowly order follows r.x r.there (stands w k r.frame_there)
     b.delivery b.gives b.is (marked_at_device r.x (arrival_at (frame_at w.frames k) ms) r.judgement) (single.bus (frame_at w.frames k) (stands w k r.frame_there))

@@ -1,6 +1,6 @@
 -- A member on a physical bus puts no transfer together of two.
 use Rattle.std.proofs.Common.{◌≡◌, ◌≢◌, ℕ, ◌+◌, ◌<◌, ◌≤◌, Bool, true, false, List, [], ◌∷◌, ◌++◌, length, length-append, map, refl, sym, ap, subst, ◌∙◌, arith, ◌⊎◌, inl, inr, Some}
-use Rattle.std.specs.Prelude.{max, nat_eq, not, ◌&&◌, slice_index_or}
+use Rattle.std.specs.Prelude.{◌-◌, max, nat_eq, not, ◌&&◌, slice_index_or}
 use Rattle.can_frame.specs.declared.mark.Mark.{Mark}
 use Rattle.transfer_rx.specs.Acceptance.{first_signature, wanted}
 use Rattle.transfer_rx.specs.Run.{has_session_key, is_of}
@@ -43,7 +43,7 @@ use Rattle.bus_agreement.proofs.Idents.{IsWanted, to_for, wanted_is}
 use Rattle.bus_agreement.proofs.Lists.{in_append, in_back, never, tell}
 use Rattle.bus_agreement.proofs.OneRow.{stands}
 use Rattle.bus_rows.specs.Timed.{Timed}
-use Rattle.bus_physics.specs.Physics.{AreApart, ClockGoesOnAt, ComesInTime, FrameComesInTime, ComesInOrder, GoesOn, HasKeyAt, IsParted, Limits, Reading, UsesIdsApart, may_be_long, now_in, time_of, lag}
+use Rattle.bus_physics.specs.Physics.{AreApart, ClockGoesOnAt, ComesInTime, FrameComesInTime, ComesInOrder, GoesOn, HasKeyAt, IsParted, Limits, Reading, UsesIdsApart, may_be_long, now_in, time_of, lag, IsRecent, window}
 use Rattle.bus_physics.specs.Reuse.{AreOfOne, AreOfTwo, IsFrameOf, LacksFrames}
 use Rattle.bus_physics.proofs.Devices.{IsTimely, soon, width}
 use Rattle.bus_physics.proofs.InTime.{AreClose, Heard, IsIdle, IsInTime, IsYoung, close_more, comes, filtered, found}
@@ -117,8 +117,8 @@ apart_not hold drift m n p q a b c d e f (inr h) = absurd (omega (arith, a, b, c
 
 module _ (laws : FrameLaws) (choice : ℕ → Bool) (made : List SentTransfer) (w : Cluster) (run : raft.World) (members : AreMembers w.ids)
     (shows : Shows choice made w run) (limits : Limits) (all : List Timed) (sane : lag limits < 58000) (now : Timed) (n k ms : ℕ)
-    (row : now.row ≡ Rx n k ms) (before : MemberBefore limits all n w now) (heard : List Queued) (apart : UsesIdsApart limits all made heard n)
-    (order : ComesInOrder n heard (frame_at w.frames k)) (follows : KeepsIn n heard (w.member n).status) (listed : In n w.ids)
+    (row : now.row ≡ Rx n k ms) (back : limits.since ≤ now.at - window limits) (before : MemberBefore limits all n w now) (heard : List Queued) (apart : UsesIdsApart limits all made heard n)
+    (order : ComesInOrder limits all n heard (frame_at w.frames k)) (follows : KeepsIn limits all n heard (w.member n).status) (listed : In n w.ids)
     (others : (x : SentTransfer) → In x made → may_be_long x.offer.what ≡ false → frame_count (length x.offer.payload) ≤ 1)
     (t : AllocatorState) (runs : (w.member n).status ≡ MemberStatus.Up t) (inside : In (frame_at w.frames k) w.frames) where
   abbrev setting : Setting
@@ -244,19 +244,32 @@ module _ (laws : FrameLaws) (choice : ℕ → Bool) (made : List SentTransfer) (
         by (inr there) = (filtered (is_recent coming.moment) t.sessions c.session (found (key_of d.ident) (recent_sessions coming.moment t.sessions) c.session there)).0
 
       -- a first frame that was made behind one of these, under the same identifier, was not heard
-      parted : (x y : SentTransfer) → In x made → IsParted heard x y → (h : Heard) → In h (hs ++ last ∷ []) → IsFrameOf x h.arrival → ⊥
-      parted x y there part h i is = elim (in_append h hs (last ∷ []) i) [
+      parted : (x y : SentTransfer) → In x made → IsRecent limits all x.step → IsParted heard x y → (h : Heard) → In h (hs ++ last ∷ []) → IsFrameOf x h.arrival → ⊥
+      parted x y there recent part h i is = elim (in_append h hs (last ∷ []) i) [
         | inl j ↦
             let mark : In h.arrival.mark c.session.marks =
             subst (λ (l : List Mark). In h.arrival.mark l) (sym (taken c.session same_key).marks) (in_marks h hs j) in
             let of_it : HasKeyAt n c.session.key part.frame = subst (λ (k : Key). HasKeyAt n k part.frame) (sym c.key)
             (in_key (key_of d.ident) part.frame h.arrival ((taken c.session same_key).each h j).is (part.ident ∙ sym is.ident)) in
-            absurd (omega (arith, (follows t runs).each c.session (in_sessions h.arrival.mark mark) part.frame part.came of_it (again (offer_id x h there is i)) h.arrival.mark mark, is.step, part.later))
+            absurd (omega (
+              arith,
+              (follows t runs).each c.session (in_sessions h.arrival.mark mark) part.frame part.came of_it (again (offer_id x h there is i)) h.arrival.mark mark
+                  (subst (λ (m : ℕ). IsRecent limits all m) (sym is.step) recent),
+              is.step,
+              part.later,
+            ))
         | inr (inl e) ↦
             let of_it : HasKeyAt n (key_of d.ident) part.frame =
             in_key (key_of d.ident) part.frame coming coming_is (part.ident ∙ (sym is.ident ∙ ap (λ (g : Heard). g.arrival.id) e)) in
             let own : HasKeyAt n (key_of d.ident) (frame_at w.frames k) = in_key (key_of d.ident) (frame_at w.frames k) coming coming_is refl in
-            absurd (omega (arith, order part.frame (key_of d.ident) part.came of_it own, ap (λ (g : Heard). g.arrival.mark.step) e, is.step, part.later))
+            absurd (omega (
+              arith,
+              order (subst (λ (m : ℕ). IsRecent limits all m) (sym is.step ∙ ap (λ (g : Heard). g.arrival.mark.step) e) recent)
+                  part.frame (key_of d.ident) part.came of_it own,
+              ap (λ (g : Heard). g.arrival.mark.step) e,
+              is.step,
+              part.later,
+            ))
         | inr (inr j) ↦ absurd j
       ]
         where
@@ -281,7 +294,7 @@ module _ (laws : FrameLaws) (choice : ℕ → Bool) (made : List SentTransfer) (
       ]
 
       -- so it goes to this member
-      meant : (two : AreOfTwo made d.ident (map (λ (h : Heard). h.arrival) hs ++ coming ∷ [])) → may_be_long two.first.offer.what ≡ true
+      meant : (two : AreOfTwo made d.ident coming (map (λ (h : Heard). h.arrival) hs ++ coming ∷ [])) → may_be_long two.first.offer.what ≡ true
           → two.first.offer.to ≡ to_for d.ident.kind t.me → two.first.offer.to ≡ n
       meant two long to = to ∙ (ap (λ (kind : Kind). to_for kind t.me) (sym two.kind) ∙ (by two.first.offer.what long taken_it ∙ me_is)) where
         taken_it : first_signature rows (kind_of two.first.offer.what) (number_of two.first.offer.what) ≡ Some wants.signature.0
@@ -299,17 +312,17 @@ module _ (laws : FrameLaws) (choice : ℕ → Bool) (made : List SentTransfer) (
         by AppQ long is = refl
         by App long is = refl
 
-      of_two : (two : AreOfTwo made d.ident (map (λ (h : Heard). h.arrival) hs ++ coming ∷ [])) → two.first.offer.to ≡ to_for d.ident.kind t.me → ⊥
+      of_two : (two : AreOfTwo made d.ident coming (map (λ (h : Heard). h.arrival) hs ++ coming ∷ [])) → two.first.offer.to ≡ to_for d.ident.kind t.me → ⊥
       of_two two to_it = elim (lt_trichotomy two.first.step two.second.step) [
-        | inl less ↦ elim (apart two.first two.second two.twice.first_made two.twice.second_made two.twice.by two.twice.what to (sym two.twice.to ∙ to) two.twice.id less long) [
+        | inl less ↦ elim (apart two.first two.second two.twice.first_made two.twice.second_made two.twice.by two.twice.what to (sym two.twice.to ∙ to) two.twice.id less long first_recent second_recent) [
           | inl far ↦ near far
-          | inr part ↦ parted two.first two.second two.twice.first_made part pair.first pair.first_in (subst (λ (b : Arrival). IsFrameOf two.first b) (sym pair.one_is) two.of_first)
+          | inr part ↦ parted two.first two.second two.twice.first_made first_recent part pair.first pair.first_in (subst (λ (b : Arrival). IsFrameOf two.first b) (sym pair.one_is) two.of_first)
         ]
         | inr more ↦ elim (apart two.second two.first two.twice.second_made two.twice.first_made (sym two.twice.by) (sym two.twice.what) (sym two.twice.to ∙ to) to (sym two.twice.id)
-            (below (two.twice.apart) more) (ap may_be_long (sym two.twice.what) ∙ long)) [
+            (below (two.twice.apart) more) (ap may_be_long (sym two.twice.what) ∙ long) second_recent first_recent) [
               | inl (inl far) ↦ near (inr far)
               | inl (inr far) ↦ near (inl far)
-              | inr part ↦ parted two.second two.first two.twice.second_made part pair.second pair.second_in (subst (λ (b : Arrival). IsFrameOf two.second b) (sym pair.next_is) two.of_second)
+              | inr part ↦ parted two.second two.first two.twice.second_made second_recent part pair.second pair.second_in (subst (λ (b : Arrival). IsFrameOf two.second b) (sym pair.next_is) two.of_second)
             ]
       ]
         where
@@ -330,19 +343,49 @@ module _ (laws : FrameLaws) (choice : ℕ → Bool) (made : List SentTransfer) (
           pair : AreNeighbours (hs ++ last ∷ []) (width limits all (lag limits)) two.one two.next
           pair = neighbours (width limits all (lag limits)) (hs ++ last ∷ []) (taken c.session same_key).close two.front two.one two.next two.back (whole_list ∙ two.split)
 
+          first : IsTimely limits all pair.first.arrival pair.first.at
+          first = timely pair.first pair.first_in
+
+          second : IsTimely limits all pair.second.arrival pair.second.at
+          second = timely pair.second pair.second_in
+
+          step_one : pair.first.arrival.mark.step ≡ two.first.step
+          step_one = ap (λ (b : Arrival). b.mark.step) pair.one_is ∙ two.of_first.step
+
+          step_two : pair.second.arrival.mark.step ≡ two.second.step
+          step_two = ap (λ (b : Arrival). b.mark.step) pair.next_is ∙ two.of_second.step
+
+          some_one : 1 ≤ pair.first.arrival.mark.step
+          some_one = omega (arith, step_one, shows.holds.transfers.numbered two.first two.twice.first_made)
+
+          some_two : 1 ≤ pair.second.arrival.mark.step
+          some_two = omega (arith, step_two, shows.holds.transfers.numbered two.second two.twice.second_made)
+
+          -- the second one came behind its making, and the frame that comes now is of the same step, and in time
+          after_two : time_of all two.second.step ≤ pair.second.at
+          after_two = subst (λ (m : ℕ). time_of all m ≤ pair.second.at) step_two (second.after some_two)
+
+          made_lately : now.at ≤ time_of all two.second.step + limits.hold
+          made_lately = subst (λ (m : ℕ). now.at ≤ time_of all m + limits.hold) (sym two.with_last)
+              (timely_frame.soon (omega (arith, back)) (omega (arith, two.with_last, step_two, some_two)))
+
+          second_recent : IsRecent limits all two.second.step
+          second_recent = omega (arith, back, made_lately)
+
+          first_recent_then : limits.since ≤ pair.first.at
+          first_recent_then = omega (arith, back, made_lately, after_two, pair.soon)
+
+          soon_one : pair.first.at ≤ time_of all two.first.step + limits.hold
+          soon_one = subst (λ (m : ℕ). pair.first.at ≤ time_of all m + limits.hold) step_one (first.soon first_recent_then some_one)
+
+          first_recent : IsRecent limits all two.first.step
+          first_recent = omega (arith, back, made_lately, after_two, pair.soon, soon_one)
+
           near : AreApart (limits.hold + 2000 + lag limits) (time_of all two.first.step) (time_of all two.second.step) → ⊥
           near far =
-              let first = timely pair.first pair.first_in in
-              let second = timely pair.second pair.second_in in
-              let step_one : pair.first.arrival.mark.step ≡ two.first.step = ap (λ (b : Arrival). b.mark.step) pair.one_is ∙ two.of_first.step in
-              let step_two : pair.second.arrival.mark.step ≡ two.second.step = ap (λ (b : Arrival). b.mark.step) pair.next_is ∙ two.of_second.step in
-              let some_one : 1 ≤ pair.first.arrival.mark.step = omega (arith, step_one, shows.holds.transfers.numbered two.first two.twice.first_made) in
-              let some_two : 1 ≤ pair.second.arrival.mark.step = omega (arith, step_two, shows.holds.transfers.numbered two.second two.twice.second_made) in
               apart_not limits.hold (lag limits) (time_of all two.first.step) (time_of all two.second.step) pair.first.at pair.second.at
-              (subst (λ (m : ℕ). time_of all m ≤ pair.first.at) step_one (first.after some_one))
-              (subst (λ (m : ℕ). pair.first.at ≤ time_of all m + limits.hold) step_one (first.soon some_one))
-              (subst (λ (m : ℕ). time_of all m ≤ pair.second.at) step_two (second.after some_two))
-              (subst (λ (m : ℕ). pair.second.at ≤ time_of all m + limits.hold) step_two (second.soon some_two))
+              (subst (λ (m : ℕ). time_of all m ≤ pair.first.at) step_one (first.after some_one)) soon_one after_two
+              (subst (λ (m : ℕ). pair.second.at ≤ time_of all m + limits.hold) step_two (second.soon (omega (arith, second_recent, after_two)) some_two))
               pair.later pair.soon far
 
       of_one : AreOfOne made d.ident (map (λ (h : Heard). h.arrival) hs ++ coming ∷ []) → LacksFrames made coming
@@ -370,15 +413,15 @@ module _ (laws : FrameLaws) (choice : ℕ → Bool) (made : List SentTransfer) (
 
 pub only_gaps : (laws : FrameLaws) (choice : ℕ → Bool) (made : List SentTransfer) (w : Cluster) (run : raft.World) (members : AreMembers w.ids)
     (shows : Shows choice made w run) (limits : Limits) (all : List Timed) → lag limits < 58000 → (now : Timed) (n k ms : ℕ)
-    → now.row ≡ Rx n k ms → MemberBefore limits all n w now → (heard : List Queued) → UsesIdsApart limits all made heard n → ComesInOrder n heard (frame_at w.frames k)
-    → ((x : SentTransfer) → In x made → may_be_long x.offer.what ≡ false → frame_count (length x.offer.payload) ≤ 1) → KeepsIn n heard (w.member n).status → IsSingle w.ids w → cause w (Rx n k ms) ≡ Some unlawful.Torn
+    → now.row ≡ Rx n k ms → limits.since ≤ now.at - window limits → MemberBefore limits all n w now → (heard : List Queued) → UsesIdsApart limits all made heard n → ComesInOrder limits all n heard (frame_at w.frames k)
+    → ((x : SentTransfer) → In x made → may_be_long x.offer.what ≡ false → frame_count (length x.offer.payload) ≤ 1) → KeepsIn limits all n heard (w.member n).status → IsSingle w.ids w → cause w (Rx n k ms) ≡ Some unlawful.Torn
     → (moment : ℕ) × LacksFrames made (arrival_at (frame_at w.frames k) moment)
-only_gaps laws choice made w run members shows limits all sane now n k ms row before heard apart order others follows single e =
+only_gaps laws choice made w run members shows limits all sane now n k ms row back before heard apart order others follows single e =
     let r : IsRefused w n k ms Torn = refused unlawful.Torn Torn of_torn w n k ms e in
     let b = torn_at r.server (arrival_at (frame_at w.frames k) ms) r.judgement in
     let inside = stands w k r.there in
-    let member = forged laws choice made w run members shows limits all sane now n k ms row before heard apart order follows r.member others r.server r.runs inside b.delivery b.gives b.is
+    let member = forged laws choice made w run members shows limits all sane now n k ms row back before heard apart order follows r.member others r.server r.runs inside b.delivery b.gives b.is
     (marked_at r.server (arrival_at (frame_at w.frames k) ms) r.judgement) (single.bus (frame_at w.frames k) inside) in (
       max r.server.now ms,
-      lacks laws choice made w run members shows limits all sane now n k ms row before heard apart order follows r.member others r.server r.runs inside b.delivery b.gives b.is member,
+      lacks laws choice made w run members shows limits all sane now n k ms row back before heard apart order follows r.member others r.server r.runs inside b.delivery b.gives b.is member,
     )

@@ -9,7 +9,7 @@ two = 1 ∷ 2 ∷ []
 
 -- frames are held for 100 ms at the most, clocks go wrong by 5 ms, who is opened rested for 5,500 ms, and a turn takes 40 ms
 abbrev pub limits : Limits
-limits = record { hold = 100; drift = 5; rest = 5500; turn = 40 }
+limits = record { hold = 100; drift = 5; rest = 5500; turn = 40; since = 0 }
 
 -- frame 1 is the first one that member 1 sends
 abbrev pub before : List Timed

@@ -32,12 +32,17 @@ time_of all number = (slice_index_or all (number - 1) (record { at = 0; row = Se
 
 -- In milliseconds: how long after its making a frame may come, how far a clock may go wrong within a minute, for how
 -- long a member made nothing when it is opened, and how long a turn may take, from its reading of the clock to the frame
--- that it takes by that reading.
+-- that it takes by that reading. Of what came, or was made, before a time nothing is asked.
 pub record Limits : Type 0 where
   pub hold : ℕ
   pub drift : ℕ
   pub rest : ℕ
   pub turn : ℕ
+  pub since : ℕ
+
+-- the step with this number was no earlier than that
+abbrev pub IsRecent : Limits → List Timed → ℕ → Type 0
+IsRecent limits all number = limits.since ≤ time_of all number
 
 -- how far the time from row to row of a member and that by its clock may differ: a row may stand a turn behind its reading
 abbrev pub lag : Limits → ℕ
@@ -72,10 +77,10 @@ GoesOn wrong past at now = (p : Reading) → In p past →
 
 -- ---- a frame
 
--- a frame that a step made comes after that step, and not much later
+-- a frame that a step made comes after that step, and, where it comes lately, not much later
 pub record ComesInTime (limits : Limits) (all : List Timed) (at : ℕ) (frame : Queued) : Type 0 where
   pub after : 1 ≤ frame.mark.step → time_of all frame.mark.step ≤ at
-  pub soon : 1 ≤ frame.mark.step → at ≤ time_of all frame.mark.step + limits.hold
+  pub soon : limits.since ≤ at → 1 ≤ frame.mark.step → at ≤ time_of all frame.mark.step + limits.hold
 
 -- ---- rows
 
@@ -115,6 +120,11 @@ pub record HoldsAreShort (limits : Limits) : Type 0 where
   pub round : 2 * limits.hold + lag limits < vote_round
   pub rested : 2 * limits.hold + limits.drift < limits.rest + election_wait
   pub clock : lag limits < election_wait
+
+-- What happened so long ago does not matter to a frame that comes now: it was made within a hold, as the answer to a call
+-- that was made within two; and what it is put together with came within the transfer timeout before it was made.
+abbrev pub window : Limits → ℕ
+window limits = 2 * limits.hold + transfer_timeout + lag limits
 
 -- so far apart, one way or the other
 abbrev pub AreApart : ℕ → ℕ → ℕ → Type 0
@@ -199,8 +209,9 @@ pub record IsResponseOf (number source dest : ℕ) (frame : Queued) : Type 0 whe
 
 -- the answers of a node to member n come in the order of the calls: one that was heard answers no later call of the
 -- service
-abbrev pub AnswersInOrder : ℕ → List Queued → Queued → Type 0
-AnswersInOrder n heard frame = (other : Queued) (number source : ℕ) → source ≢ n → In other heard
+abbrev pub AnswersInOrder : Limits → List Timed → ℕ → List Queued → Queued → Type 0
+AnswersInOrder limits all n heard frame = IsRecent limits all frame.mark.step → IsRecent limits all frame.mark.re
+    → (other : Queued) (number source : ℕ) → source ≢ n → In other heard
     → is_members_service number ≡ true → IsResponseOf number source n other → IsResponseOf number source n frame
     → other.mark.re ≤ frame.mark.re
 
@@ -219,7 +230,7 @@ pub record IsAnsweredSince (made : List SentTransfer) (heard : List Queued) (fir
 abbrev pub WaitsForAnswers : Limits → List Timed → List SentTransfer → List Queued → ℕ → Type 0
 WaitsForAnswers limits all made heard n = (x y : SentTransfer) → In x made → In y made → x.by ≡ n → y.by ≡ n
     → x.offer.what ≡ y.offer.what → x.offer.to ≡ y.offer.to → x.offer.id ≡ y.offer.id → x.step < y.step
-    → (x.offer.what ≡ AppQ) ⊎ (x.offer.what ≡ VoteQ)
+    → (x.offer.what ≡ AppQ) ⊎ (x.offer.what ≡ VoteQ) → IsRecent limits all x.step
     → (time_of all x.step + 2 * limits.hold < time_of all y.step) ⊎ IsAnsweredSince made heard x
 
 -- ---- a member that is opened
@@ -228,10 +239,10 @@ WaitsForAnswers limits all made heard n = (x y : SentTransfer) → In x made →
 abbrev pub row_of : List Timed → ℕ → Row
 row_of all number = (slice_index_or all (number - 1) (record { at = 0; row = Send 0 })).row
 
--- When member n is opened, the rest has passed since each transfer that it made before.
+-- When member n is opened, the rest has passed since each transfer that it made before, of those that are recent.
 abbrev pub RestsBeforeOpening : Limits → List Timed → List SentTransfer → ℕ → Type 0
 RestsBeforeOpening limits all made n = (x : SentTransfer) (number : ℕ) (told : Bool) (moment word : ℕ) → In x made
-    → x.by ≡ n → x.step < number → row_of all number ≡ Open n told moment word
+    → x.by ≡ n → IsRecent limits all x.step → x.step < number → row_of all number ≡ Open n told moment word
     → time_of all x.step + limits.rest ≤ time_of all number
 
 -- ---- frames in order
@@ -240,24 +251,24 @@ RestsBeforeOpening limits all made n = (x : SentTransfer) (number : ℕ) (told :
 abbrev pub HasKeyAt : ℕ → Key → Queued → Type 0
 HasKeyAt n key frame = is_of (setting_for n) key (arrival_at frame 0) ≡ true
 
--- frames of one kind, number and source come in the order of the steps that made them; one may come again
-abbrev pub ComesInOrder : ℕ → List Queued → Queued → Type 0
-ComesInOrder n heard frame = (other : Queued) (key : Key) → In other heard → HasKeyAt n key other → HasKeyAt n key frame
-    → other.mark.step ≤ frame.mark.step
+-- a recent frame comes behind no later one of its kind, number and source, by the steps that made them; it may come again
+abbrev pub ComesInOrder : Limits → List Timed → ℕ → List Queued → Queued → Type 0
+ComesInOrder limits all n heard frame = IsRecent limits all frame.mark.step → (other : Queued) (key : Key)
+    → In other heard → HasKeyAt n key other → HasKeyAt n key frame → other.mark.step ≤ frame.mark.step
 
-abbrev pub IsInOrder : ℕ → List Queued → Cluster → Row → Type 0
-IsInOrder n heard w (Rx m k ms) = WhereIts (n == m) (ComesInOrder n heard (frame_at w.frames k))
-IsInOrder n heard w row = ⊤
+abbrev pub IsInOrder : Limits → List Timed → ℕ → List Queued → Cluster → Row → Type 0
+IsInOrder limits all n heard w (Rx m k ms) = WhereIts (n == m) (ComesInOrder limits all n heard (frame_at w.frames k))
+IsInOrder limits all n heard w row = ⊤
 
 -- to member n, which heard these before
-abbrev pub ComeInOrder : ℕ → List Queued → Cluster → List Row → Type 0
-ComeInOrder n heard w [] = ⊤
-ComeInOrder n heard w (row ∷ rows) =
-    IsInOrder n heard w row × ComeInOrder n (heard ++ heard_in n w row) (after_row w row) rows
+abbrev pub ComeInOrder : Limits → List Timed → ℕ → List Queued → Cluster → List Row → Type 0
+ComeInOrder limits all n heard w [] = ⊤
+ComeInOrder limits all n heard w (row ∷ rows) = IsInOrder limits all n heard w row
+    × ComeInOrder limits all n (heard ++ heard_in n w row) (after_row w row) rows
 
 -- to each member
-abbrev pub AllComeInOrder : List ℕ → Cluster → List Row → Type 0
-AllComeInOrder ids w rows = (m : ℕ) → In m ids → ComeInOrder m [] w rows
+abbrev pub AllComeInOrder : Limits → List Timed → List ℕ → Cluster → List Row → Type 0
+AllComeInOrder limits all ids w rows = (m : ℕ) → In m ids → ComeInOrder limits all m [] w rows
 
 -- a frame was heard that was made between these two, under the same identifier: a first one, and with a transfer ID
 -- that is neither theirs nor the one before
@@ -284,7 +295,7 @@ may_be_long what = false
 abbrev pub UsesIdsApart : Limits → List Timed → List SentTransfer → List Queued → ℕ → Type 0
 UsesIdsApart limits all made heard n = (x y : SentTransfer) → In x made → In y made → x.by ≡ y.by
     → x.offer.what ≡ y.offer.what → x.offer.to ≡ n → y.offer.to ≡ n → x.offer.id ≡ y.offer.id → x.step < y.step
-    → may_be_long x.offer.what ≡ true
+    → may_be_long x.offer.what ≡ true → IsRecent limits all x.step → IsRecent limits all y.step
     → AreApart (joining_span limits (lag limits)) (time_of all x.step) (time_of all y.step) ⊎ IsParted heard x y
 
 -- ---- Allocations
@@ -302,19 +313,20 @@ abbrev pub device_heard_by : ℕ → Cluster → List Row → List Queued
 device_heard_by a w [] = []
 device_heard_by a w (row ∷ rows) = device_heard_in a w row ++ device_heard_by a (after_row w row) rows
 
-abbrev pub ComesInOrderToDevice : List Queued → Queued → Type 0
-ComesInOrderToDevice heard frame = (other : Queued) (key : Key) → In other heard → HasKey key other → HasKey key frame
-    → other.mark.step ≤ frame.mark.step
+abbrev pub ComesInOrderToDevice : Limits → List Timed → List Queued → Queued → Type 0
+ComesInOrderToDevice limits all heard frame = IsRecent limits all frame.mark.step → (other : Queued) (key : Key)
+    → In other heard → HasKey key other → HasKey key frame → other.mark.step ≤ frame.mark.step
 
-abbrev pub IsInOrderToDevice : ℕ → List Queued → Cluster → Row → Type 0
-IsInOrderToDevice a heard w (ARx b k ms word) = WhereIts (a == b) (ComesInOrderToDevice heard (frame_at w.frames k))
-IsInOrderToDevice a heard w row = ⊤
+abbrev pub IsInOrderToDevice : Limits → List Timed → ℕ → List Queued → Cluster → Row → Type 0
+IsInOrderToDevice limits all a heard w (ARx b k ms word) =
+    WhereIts (a == b) (ComesInOrderToDevice limits all heard (frame_at w.frames k))
+IsInOrderToDevice limits all a heard w row = ⊤
 
 -- to allocatee a, which heard these before
-abbrev pub ComeInOrderToDevice : ℕ → List Queued → Cluster → List Row → Type 0
-ComeInOrderToDevice a heard w [] = ⊤
-ComeInOrderToDevice a heard w (row ∷ rows) = IsInOrderToDevice a heard w row
-    × ComeInOrderToDevice a (heard ++ device_heard_in a w row) (after_row w row) rows
+abbrev pub ComeInOrderToDevice : Limits → List Timed → ℕ → List Queued → Cluster → List Row → Type 0
+ComeInOrderToDevice limits all a heard w [] = ⊤
+ComeInOrderToDevice limits all a heard w (row ∷ rows) = IsInOrderToDevice limits all a heard w row
+    × ComeInOrderToDevice limits all a (heard ++ device_heard_in a w row) (after_row w row) rows
 
 -- No member uses a transfer ID of its Allocations again within the longest hold and two seconds, also where it was
 -- started again in between; or frames come in order, and the allocatee heard an Allocation that the member made between
@@ -322,5 +334,6 @@ ComeInOrderToDevice a heard w (row ∷ rows) = IsInOrderToDevice a heard w row
 abbrev pub AllocatesApart : Limits → List Timed → List SentTransfer → List Queued → Type 0 → Type 0
 AllocatesApart limits all made heard Ordered = (x y : SentTransfer) → In x made → In y made → x.offer.what ≡ Alloc
     → y.offer.what ≡ Alloc → x.by ≡ y.by → x.offer.id ≡ y.offer.id → x.step < y.step
+    → IsRecent limits all x.step → IsRecent limits all y.step
     → AreApart (joining_span limits limits.drift) (time_of all x.step) (time_of all y.step)
     ⊎ (Ordered × IsParted heard x y)

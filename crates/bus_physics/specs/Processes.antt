@@ -1,13 +1,13 @@
 -- What may happen in a trace of processes, where it is left to the bus that nothing is torn and nothing is stale.
-use Rattle.std.specs.Prelude.{⊤, ◌≡◌, ◌+◌, ◌*◌, true, false, List, [], ◌∷◌, Some, None}
+use Rattle.std.specs.Prelude.{⊤, ◌≡◌, ℕ, ◌+◌, ◌*◌, true, false, List, [], ◌∷◌, Some, None}
 use Rattle.can_frame.specs.Identifier.{identifier_of}
 use Rattle.outside.specs.declared.pattern.Pattern.TheVariants.{Old}
 use Rattle.bus_rows.specs.declared.row.Row.TheVariants.{Crash, Tick}
 use Rattle.bus_spec.specs.declared.unlawful.Unlawful.{Unlawful}
-use Rattle.bus_spec.specs.Cluster.{Cluster, after_row, after_rows}
+use Rattle.bus_spec.specs.Cluster.{Cluster, after_row, after_rows, cluster}
 use Rattle.bus_spec.specs.Lawful.{cause, is_forged, no_such_frame}
 use Rattle.bus_spec.specs.Members.{is_running}
-use Rattle.cmd_node_laws.specs.Traces.{Came, Event, FromElsewhere, DiesInTurn, DiesAtOpening, MayOpen, MayTurn, OfOthers, Opens, Silence, Stops, Turns, WasSent, is_of_others, rows_of}
+use Rattle.cmd_node_laws.specs.Traces.{Came, Event, FromElsewhere, DiesInTurn, DiesAtOpening, MayOpen, MayTurn, OfOthers, Opens, Silence, Stops, Turns, WasSent, all_rows, is_of_others, rows_of}
 use Rattle.bus_physics.specs.Schedule.{is_of_bus}
 
 -- of a frame of the bus: that it was sent, and no more
@@ -30,3 +30,7 @@ MayDo (OfOthers row) w =
 abbrev pub MayAllDo : List Event → Cluster → Type 0
 MayAllDo [] w = ⊤
 MayAllDo (first ∷ rest) w = MayDo first w × MayAllDo rest (after_rows w (rows_of first w))
+
+-- the world after these events
+abbrev pub after_events : List ℕ → List Event → Cluster
+after_events ids trace = after_rows (cluster ids) (all_rows trace (cluster ids))

@@ -47,8 +47,8 @@ pub record IsFrameOf (x : SentTransfer) (arrival : Arrival) : Type 0 where
 
 -- ---- torn
 
--- two of the frames, one behind the other, are of two transfers under one transfer ID
-pub record AreOfTwo (made : List SentTransfer) (ident : Ident) (all : List Arrival) : Type 0 where
+-- two of the frames, one behind the other, are of two transfers under one transfer ID, the second one that of the last
+pub record AreOfTwo (made : List SentTransfer) (ident : Ident) (last : Arrival) (all : List Arrival) : Type 0 where
   pub first : SentTransfer
   pub second : SentTransfer
   pub twice : IsUsedTwice made first second
@@ -61,6 +61,7 @@ pub record AreOfTwo (made : List SentTransfer) (ident : Ident) (all : List Arriv
   pub split : all ≡ front ++ (one ∷ (next ∷ back))
   pub of_first : IsFrameOf first one
   pub of_second : IsFrameOf second next
+  pub with_last : second.step ≡ last.mark.step
 
 -- all are frames of one transfer, and they are not those of its places 0, 1, 2 and so on
 pub record AreOfOne (made : List SentTransfer) (ident : Ident) (all : List Arrival) : Type 0 where
@@ -77,7 +78,7 @@ pub record IsTornOf (made : List SentTransfer) (frames : List Queued) (last : Ar
   pub came : (arrival : Arrival) → In arrival (before ++ last ∷ []) → CameFrom frames arrival
   pub signature : ℕ
   pub cutting : map piece_in (before ++ last ∷ []) ≡ pieces_of signature d.id d.payload
-  pub how : AreOfTwo made d.ident (before ++ last ∷ []) ⊎ AreOfOne made d.ident (before ++ last ∷ [])
+  pub how : AreOfTwo made d.ident last (before ++ last ∷ []) ⊎ AreOfOne made d.ident (before ++ last ∷ [])
 
 -- the frame completes a transfer at a receiver; and where it has a member's source, or is of a data type that members
 -- alone send, the transfer is torn in this way

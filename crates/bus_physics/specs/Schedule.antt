@@ -1,5 +1,5 @@
 -- A schedule whose rows happen at times: on a physical bus each of its rows is lawful, but where frames are lost.
-use Rattle.std.specs.Prelude.{⊤, ◌≡◌, ℕ, Bool, true, false, List, [], ◌∷◌, ◌++◌, Some}
+use Rattle.std.specs.Prelude.{⊤, ◌≡◌, ℕ, ◌-◌, Bool, true, false, List, [], ◌∷◌, ◌++◌, Some}
 use Rattle.bus_rows.specs.declared.row.Row.{Row}
 use Rattle.bus_rows.specs.declared.row.Row.TheVariants.{ARx, Rx}
 use Rattle.bus_spec.specs.declared.unlawful.Unlawful.{Unlawful}
@@ -8,7 +8,7 @@ use Rattle.bus_spec.specs.Cluster.{Cluster, after_row, arrival_at, cluster, fram
 use Rattle.bus_spec.specs.Lawful.{AreLawful, cause}
 use Rattle.bus_spec.specs.Refinement.{transfers_of_rows}
 use Rattle.bus_rows.specs.Timed.{Timed, rows_in}
-use Rattle.bus_physics.specs.Physics.{AllComeInOrder, AllocatesApart, DeviceRowsArePhysical, ClockGoesOn, ClockIsNotFast, ComeInOrderToDevice, ComesInOrder, ComesInOrderToDevice, FramesComeInTime, device_heard_by, Limits, RestsBeforeOpening, UsesIdsApart, heard_by}
+use Rattle.bus_physics.specs.Physics.{AllComeInOrder, AllocatesApart, DeviceRowsArePhysical, ClockGoesOn, ClockIsNotFast, ComeInOrderToDevice, ComesInOrder, ComesInOrderToDevice, FramesComeInTime, device_heard_by, Limits, RestsBeforeOpening, UsesIdsApart, heard_by, window}
 use Rattle.bus_physics.specs.Reuse.{LacksFrames}
 
 -- ---- the premises
@@ -17,8 +17,8 @@ use Rattle.bus_physics.specs.Reuse.{LacksFrames}
 pub record MemberHears (limits : Limits) (ids : List ℕ) (before : List Timed) (now : Timed) (n k : ℕ) : Type 0 where
   pub comes : FramesComeInTime limits (before ++ now ∷ []) (cluster ids) (before ++ now ∷ [])
   pub clock : ClockGoesOn limits n [] (cluster ids) (before ++ now ∷ [])
-  pub orders : AllComeInOrder ids (cluster ids) (rows_in before)
-  pub order : ComesInOrder n (heard_by n (cluster ids) (rows_in before))
+  pub orders : AllComeInOrder limits (before ++ now ∷ []) ids (cluster ids) (rows_in before)
+  pub order : ComesInOrder limits (before ++ now ∷ []) n (heard_by n (cluster ids) (rows_in before))
       (frame_at (world_of ids (rows_in before)).frames k)
   pub fast : ClockIsNotFast limits n [] (cluster ids) before
   pub rests : RestsBeforeOpening limits (before ++ now ∷ []) (transfers_of_rows (cluster ids) (rows_in before) []) n
@@ -29,13 +29,18 @@ pub record MemberHears (limits : Limits) (ids : List ℕ) (before : List Timed) 
 pub record DeviceHears (limits : Limits) (ids : List ℕ) (before : List Timed) (now : Timed) (a k : ℕ) : Type 0 where
   pub comes : DeviceRowsArePhysical limits (before ++ now ∷ []) a [] (cluster ids) (before ++ now ∷ [])
   pub slow : AllocatesApart limits (before ++ now ∷ []) (transfers_of_rows (cluster ids) (rows_in before) [])
-      (device_heard_by a (cluster ids) (rows_in before)) (ComeInOrderToDevice a [] (cluster ids) (rows_in before)
-      × ComesInOrderToDevice (device_heard_by a (cluster ids) (rows_in before))
+      (device_heard_by a (cluster ids) (rows_in before)) (ComeInOrderToDevice limits (before ++ now ∷ []) a [] (cluster ids)
+      (rows_in before) × ComesInOrderToDevice limits (before ++ now ∷ []) (device_heard_by a (cluster ids) (rows_in before))
       (frame_at (world_of ids (rows_in before)).frames k))
 
+-- the same limits, of what happened lately before this time
+abbrev pub lately : Limits → ℕ → Limits
+lately limits at = record limits { since = at - window limits }
+
+-- what is asked of a row is asked of what happened lately before it
 abbrev pub HappensOnBus : Limits → List ℕ → List Timed → Timed → Row → Type 0
-HappensOnBus limits ids before now (Rx n k ms) = MemberHears limits ids before now n k
-HappensOnBus limits ids before now (ARx a k ms word) = DeviceHears limits ids before now a k
+HappensOnBus limits ids before now (Rx n k ms) = MemberHears (lately limits now.at) ids before now n k
+HappensOnBus limits ids before now (ARx a k ms word) = DeviceHears (lately limits now.at) ids before now a k
 HappensOnBus limits ids before now row = ⊤
 
 -- each row meets `HappensOnBus`, after the rows before it

@@ -1,6 +1,6 @@
 //! Laws of the definitions, each the contract of a function that does nothing.
 
-ghost use Rattle.std.specs.Prelude.{None, false, ◌≡◌, ◌⊎◌, ◌+◌, ◌*◌, ◌<◌, ◌≤◌, ◌∷◌, ◌++◌, ℕ, List, length, Some, []};
+ghost use Rattle.std.specs.Prelude.{None, false, ◌≡◌, ◌⊎◌, ◌+◌, ◌-◌, ◌*◌, ◌<◌, ◌≤◌, ◌∷◌, ◌++◌, ℕ, List, length, Some, []};
 ghost use Rattle.can_frame.specs.Cutting.{frame_count};
 ghost use Rattle.can_frame.specs.declared.step.What.TheVariants.{Alloc};
 ghost use Rattle.raft_model.specs.Lists.{In};
@@ -19,7 +19,7 @@ ghost use Rattle.bus_physics.specs.Physics.{ComeInOrderToDevice, ComesInOrderToD
 ghost use Rattle.bus_physics.specs.Physics.{ComesInOrder, FramesComeInTime};
 ghost use Rattle.bus_rows.specs.Timed.{Timed};
 ghost use Rattle.bus_physics.specs.Physics.{ClockIsNotFast, HoldsAreShort, Limits, RestsBeforeOpening, UsesIdsApart};
-ghost use Rattle.bus_physics.specs.Physics.{WaitsForAnswers, heard_by, lag};
+ghost use Rattle.bus_physics.specs.Physics.{WaitsForAnswers, heard_by, lag, window};
 ghost use Rattle.bus_rows.specs.Timed.{rows_in};
 ghost use Rattle.bus_physics.specs.Physics.{may_be_long};
 ghost use Rattle.bus_physics.specs.Example.{at_allocatee, at_member, before as first_rows, everything};
@@ -27,7 +27,7 @@ ghost use Rattle.bus_physics.specs.Example.{limits as some_limits, two, two_minu
 ghost use Rattle.bus_physics.specs.Reuse.{IsStaleAt, IsTornAt, IsTornAtDevice, LacksFrames};
 ghost use Rattle.bus_agreement.specs.Headline.{HasHeadline};
 ghost use Rattle.cmd_node_laws.specs.Traces.{Event, MayAllHappen, all_rows};
-ghost use Rattle.bus_physics.specs.Processes.{MayAllDo};
+ghost use Rattle.bus_physics.specs.Processes.{MayAllDo, after_events};
 ghost use Rattle.bus_physics.specs.Runs.{StandOnBus};
 ghost use Rattle.bus_physics.specs.Schedule.{HappenOnBus, LawfulButForBus, LosesFrames};
 
@@ -84,11 +84,13 @@ pub fn other_transfers_have_one_frame()
 /// order, and the allocatee heard another Allocation between the two.
 pub fn a_device_puts_nothing_together_of_two()
     ensures { (limits : Limits) (ids : List ℕ) (before : List Timed) (now : Timed) (a k ms word : ℕ) →
-        AreMembers ids → limits.drift < 58000 → now.row ≡ ARx a k ms word → AreLawful (cluster ids) (rows_in before) →
+        AreMembers ids → limits.drift < 58000 → limits.since ≤ now.at - window limits → now.row ≡ ARx a k ms word →
+        AreLawful (cluster ids) (rows_in before) →
         DeviceRowsArePhysical limits (before ++ now ∷ []) a [] (cluster ids) (before ++ now ∷ []) →
         AllocatesApart limits (before ++ now ∷ []) (transfers_of_rows (cluster ids) (rows_in before) [])
-        (device_heard_by a (cluster ids) (rows_in before)) (ComeInOrderToDevice a [] (cluster ids) (rows_in before) ×
-        ComesInOrderToDevice (device_heard_by a (cluster ids) (rows_in before))
+        (device_heard_by a (cluster ids) (rows_in before)) (ComeInOrderToDevice limits
+        (before ++ now ∷ []) a [] (cluster ids) (rows_in before) ×
+        ComesInOrderToDevice limits (before ++ now ∷ []) (device_heard_by a (cluster ids) (rows_in before))
         (frame_at (world_of ids (rows_in before)).frames k)) →
         cause (world_of ids (rows_in before)) (ARx a k ms word) ≡ Some Torn → ⊥ }
 {
@@ -124,10 +126,11 @@ pub fn calls_come_round_late()
 /// The answers of another node come to a member in the order of the calls, where the frames of one kind, number and
 /// source come to each member in the order in which they were made. Each may come more than once.
 pub fn answers_come_in_order()
-    ensures { (ids : List ℕ) (rows : List Row) (n k : ℕ) → AreMembers ids → AreLawful (cluster ids) rows →
-        no_such_frame (world_of ids rows) k ≡ None → AllComeInOrder ids (cluster ids) rows →
-        ComesInOrder n (heard_by n (cluster ids) rows) (frame_at (world_of ids rows).frames k) →
-        AnswersInOrder n (heard_by n (cluster ids) rows) (frame_at (world_of ids rows).frames k) }
+    ensures { (limits : Limits) (all : List Timed) (ids : List ℕ) (rows : List Row) (n k : ℕ) → AreMembers ids →
+        AreLawful (cluster ids) rows → no_such_frame (world_of ids rows) k ≡ None →
+        AllComeInOrder limits all ids (cluster ids) rows →
+        ComesInOrder limits all n (heard_by n (cluster ids) rows) (frame_at (world_of ids rows).frames k) →
+        AnswersInOrder limits all n (heard_by n (cluster ids) rows) (frame_at (world_of ids rows).frames k) }
 {
     a_choice_fits();
     lawful_rows_do_no_harm();
@@ -141,12 +144,13 @@ pub fn answers_come_in_order()
 /// where frames come to each member in order, each once or more often, and where the member rests before it is opened.
 pub fn no_response_outlives_its_transfer_id()
     ensures { (limits : Limits) (ids : List ℕ) (before : List Timed) (now : Timed) (n k ms : ℕ) →
-        AreMembers ids → HoldsAreShort limits → now.row ≡ Rx n k ms →
+        AreMembers ids → HoldsAreShort limits → limits.since ≤ now.at - window limits → now.row ≡ Rx n k ms →
         AreLawful (cluster ids) (rows_in before) →
         FramesComeInTime limits (before ++ now ∷ []) (cluster ids) (before ++ now ∷ []) →
         ClockGoesOn limits n [] (cluster ids) (before ++ now ∷ []) → ClockIsNotFast limits n [] (cluster ids) before →
-        AllComeInOrder ids (cluster ids) (rows_in before) →
-        ComesInOrder n (heard_by n (cluster ids) (rows_in before)) (frame_at (world_of ids (rows_in before)).frames k) →
+        AllComeInOrder limits (before ++ now ∷ []) ids (cluster ids) (rows_in before) →
+        ComesInOrder limits (before ++ now ∷ []) n (heard_by n (cluster ids) (rows_in before))
+        (frame_at (world_of ids (rows_in before)).frames k) →
         RestsBeforeOpening limits (before ++ now ∷ []) (transfers_of_rows (cluster ids) (rows_in before) []) n →
         cause (world_of ids (rows_in before)) (Rx n k ms) ≡ Some Stale → ⊥ }
 {
@@ -167,11 +171,13 @@ pub fn no_response_outlives_its_transfer_id()
 /// all the same.
 pub fn a_member_puts_nothing_together_of_two()
     ensures { (limits : Limits) (ids : List ℕ) (before : List Timed) (now : Timed) (n k ms : ℕ) →
-        AreMembers ids → lag limits < 58000 → now.row ≡ Rx n k ms → AreLawful (cluster ids) (rows_in before) →
+        AreMembers ids → lag limits < 58000 → limits.since ≤ now.at - window limits → now.row ≡ Rx n k ms →
+        AreLawful (cluster ids) (rows_in before) →
         FramesComeInTime limits (before ++ now ∷ []) (cluster ids) (before ++ now ∷ []) →
         ClockGoesOn limits n [] (cluster ids) (before ++ now ∷ []) →
-        ComeInOrder n [] (cluster ids) (rows_in before) →
-        ComesInOrder n (heard_by n (cluster ids) (rows_in before)) (frame_at (world_of ids (rows_in before)).frames k) →
+        ComeInOrder limits (before ++ now ∷ []) n [] (cluster ids) (rows_in before) →
+        ComesInOrder limits (before ++ now ∷ []) n (heard_by n (cluster ids) (rows_in before))
+        (frame_at (world_of ids (rows_in before)).frames k) →
         UsesIdsApart limits (before ++ now ∷ []) (transfers_of_rows (cluster ids) (rows_in before) [])
         (heard_by n (cluster ids) (rows_in before)) n →
         cause (world_of ids (rows_in before)) (Rx n k ms) ≡ Some Torn →
@@ -197,14 +203,15 @@ pub fn premises_can_be_met()
         (first_rows ++ at_allocatee ∷ []) }
     ensures apart { UsesIdsApart some_limits (first_rows ++ at_member ∷ [])
         (transfers_of_rows (cluster two) (rows_in first_rows) []) (heard_by 2 (cluster two) (rows_in first_rows)) 2 }
-    ensures frames { ComeInOrder 2 [] (cluster two) (rows_in (first_rows ++ at_member ∷ [])) }
+    ensures frames { ComeInOrder some_limits (first_rows ++ at_member ∷ []) 2 [] (cluster two)
+        (rows_in (first_rows ++ at_member ∷ [])) }
     ensures short { HoldsAreShort some_limits }
     ensures fast { ClockIsNotFast some_limits 2 [] (cluster two) first_rows }
     ensures slow { ClockGoesOn some_limits 2 [] (cluster two) (first_rows ++ two_minutes_later 120440 ∷ []) }
     ensures quick { ClockIsNotFast some_limits 2 [] (cluster two) (first_rows ++ two_minutes_later 120560 ∷ []) }
     ensures rests { RestsBeforeOpening some_limits (first_rows ++ at_member ∷ [])
         (transfers_of_rows (cluster two) (rows_in first_rows) []) 2 }
-    ensures orders { AllComeInOrder two (cluster two) (rows_in (first_rows ++ at_member ∷ [])) }
+    ensures orders { AllComeInOrder some_limits everything two (cluster two) (rows_in (first_rows ++ at_member ∷ [])) }
     ensures member { cause (world_of two (rows_in first_rows)) at_member.row ≡ None }
     ensures allocatee { cause (world_of two (rows_in first_rows)) at_allocatee.row ≡ None }
     ensures bus { HappenOnBus some_limits two [] everything }
@@ -225,15 +232,34 @@ pub fn schedules_on_a_bus_are_lawful()
     no_response_outlives_its_transfer_id();
 }
 
-/// The same of processes of `node`: in a trace whose rows happen on a physical bus, what comes from the bus may come,
-/// but where frames are lost. So the headline needs no premise on what is torn or stale.
+/// It heals: whatever happened before, once the rows since are asked of alone, and come as a bus brings them, and the rows
+/// before were lawful in fact, all that follow are lawful, or a transfer loses frames. What is asked of a row is asked of
+/// what happened lately before it (`window`), but for clocks. So one bad minute takes nothing from what comes later.
+pub fn a_bad_minute_is_over()
+    ensures { (limits : Limits) (ids : List ℕ) (before rest : List Timed) → AreMembers ids → HoldsAreShort limits →
+        AreLawful (cluster ids) (rows_in before) → HappenOnBus limits ids before rest →
+        LawfulButForBus (world_of ids (rows_in before)) (rows_in rest) →
+        AreLawful (world_of ids (rows_in before)) (rows_in rest) ⊎ LosesFrames ids (before ++ rest) }
+{
+    a_device_puts_nothing_together_of_two();
+    a_member_puts_nothing_together_of_two();
+    no_response_outlives_its_transfer_id();
+}
+
+/// The same of processes of `node`: in a trace whose rows happen on a physical bus from some event on, what comes from
+/// the bus may come, but where frames are lost. So the headline needs no premise on what is torn or stale from then on.
 pub fn traces_on_a_bus_may_happen()
-    ensures may { (limits : Limits) (ids : List ℕ) (trace : List Event) (all : List Timed) → AreMembers ids →
-        HoldsAreShort limits → rows_in all ≡ all_rows trace (cluster ids) → HappenOnBus limits ids [] all →
-        MayAllDo trace (cluster ids) → MayAllHappen trace (cluster ids) ⊎ LosesFrames ids all }
-    ensures headline { (limits : Limits) (ids : List ℕ) (trace : List Event) (all : List Timed) → AreMembers ids →
-        HoldsAreShort limits → rows_in all ≡ all_rows trace (cluster ids) → HappenOnBus limits ids [] all →
-        MayAllDo trace (cluster ids) → HasHeadline ids (all_rows trace (cluster ids)) ⊎ LosesFrames ids all }
+    ensures may { (limits : Limits) (ids : List ℕ) (past trace : List Event) (earlier all : List Timed) → AreMembers ids →
+        HoldsAreShort limits → MayAllHappen past (cluster ids) → AreLawful (cluster ids) (rows_in earlier) →
+        rows_in earlier ≡ all_rows past (cluster ids) → rows_in all ≡ all_rows trace (after_events ids past) →
+        HappenOnBus limits ids earlier all → MayAllDo trace (after_events ids past) →
+        MayAllHappen (past ++ trace) (cluster ids) ⊎ LosesFrames ids (earlier ++ all) }
+    ensures headline { (limits : Limits) (ids : List ℕ) (past trace : List Event) (earlier all : List Timed) →
+        AreMembers ids → HoldsAreShort limits → MayAllHappen past (cluster ids) →
+        AreLawful (cluster ids) (rows_in earlier) → rows_in earlier ≡ all_rows past (cluster ids) →
+        rows_in all ≡ all_rows trace (after_events ids past) → HappenOnBus limits ids earlier all →
+        MayAllDo trace (after_events ids past) →
+        HasHeadline ids (all_rows (past ++ trace) (cluster ids)) ⊎ LosesFrames ids (earlier ++ all) }
 {
     a_device_puts_nothing_together_of_two();
     a_member_puts_nothing_together_of_two();

@@ -16,7 +16,7 @@ use Rattle.bus_physics.proofs.UntornMembers.{only_gaps}
 use Rattle.bus_physics.proofs.laws.a_member_puts_nothing_together_of_two.Goals as goal
 
 pub returns : goal.returns
-returns c = λ limits ids before now n k ms members sane row lawful comes clock order behind apart e.
+returns c = λ limits ids before now n k ms members sane back row lawful comes clock order behind apart e.
     let rows = rows_in before in
     let steps = c.what_is_said_of_a_step.ensures in
     let laws : MemberLaws = record { heard = steps.heard; ticked = steps.ticked; me = steps.me; called = steps.called; now = now_of_a_step } in
@@ -25,9 +25,9 @@ returns c = λ limits ids before now n k ms members sane row lawful comes clock 
     (λ t up. absurd (cc (up))) clock comes lawful in
     only_gaps c.what_is_said_of_frames.ensures chosen.0 (transfers_of_rows (cluster ids) rows []) (world_of ids rows)
     (run (initial_world ids) (events chosen.0 (cluster ids) rows)) (subst AreMembers (sym (ids_stay (cluster ids) rows)) members)
-    (c.rows_are_shown.ensures chosen.0 ids rows members (c.lawful_rows_do_no_harm.ensures (cluster ids) rows lawful) chosen.1).shows limits (before ++ now ∷ []) sane now n k ms row stands
+    (c.rows_are_shown.ensures chosen.0 ids rows members (c.lawful_rows_do_no_harm.ensures (cluster ids) rows lawful) chosen.1).shows limits (before ++ now ∷ []) sane now n k ms row back stands
     (heard_by n (cluster ids) rows) apart behind
-    (λ x there other. c.other_transfers_have_one_frame.ensures ids rows x members lawful there other) (follow n laws rows (cluster ids) [] (λ t up. absurd (cc (up))) order)
+    (λ x there other. c.other_transfers_have_one_frame.ensures ids rows x members lawful there other) (follow limits (before ++ now ∷ []) n laws rows (cluster ids) [] (λ t up. absurd (cc (up))) order)
     (subst (λ (l : List ℕ). IsSingle l (world_of ids rows)) (sym (ids_stay (cluster ids) rows)) (single c.what_is_said_of_frames.ensures ids members
     (λ rows lawful.
     let chosen = c.a_choice_fits.ensures ids rows members (c.lawful_rows_do_no_harm.ensures (cluster ids) rows lawful) in

@@ -5,8 +5,8 @@ use Rattle.bus_physics.proofs.TurnedAnswers.{come_in_order}
 use Rattle.bus_physics.proofs.laws.answers_come_in_order.Goals as goal
 
 pub returns : goal.returns
-returns c = λ ids rows n k members lawful there orders order.
-    come_in_order c.what_is_said_of_frames.ensures c.what_is_said_of_a_step.ensures.responses ids members (λ done so_far.
+returns c = λ limits all ids rows n k members lawful there orders order.
+    come_in_order c.what_is_said_of_frames.ensures c.what_is_said_of_a_step.ensures.responses limits all ids members (λ done so_far.
     let chosen = c.a_choice_fits.ensures ids done members (c.lawful_rows_do_no_harm.ensures (cluster ids) done so_far) in
     record {
       choice = chosen.0;

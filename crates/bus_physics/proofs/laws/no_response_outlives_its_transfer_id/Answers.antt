@@ -16,13 +16,13 @@ use Rattle.bus_physics.proofs.Waiting.{waits_along}
 use Rattle.bus_physics.proofs.laws.no_response_outlives_its_transfer_id.Goals as goal
 
 pub returns : goal.returns
-returns c = λ limits ids before now n k ms members enough row lawful comes clock slow orders order rests e.
+returns c = λ limits ids before now n k ms members enough back row lawful comes clock slow orders order rests e.
     let rows = rows_in before in
     let sane : lag limits < 58000 = omega (arith, enough.clock) in
     let waits = c.calls_come_round_late.ensures limits ids before now n members enough lawful slow rests in
     let steps = c.what_is_said_of_a_step.ensures in
     let laws : MemberLaws = record { heard = steps.heard; ticked = steps.ticked; me = steps.me; called = steps.called; now = now_of_a_step } in
-    let answered = c.answers_come_in_order.ensures ids rows n k members lawful (refused unlawful.Stale Stale of_stale (world_of ids rows) n k ms e).there orders order in
+    let answered = c.answers_come_in_order.ensures limits (before ++ now ∷ []) ids rows n k members lawful (refused unlawful.Stale Stale of_stale (world_of ids rows) n k ms e).there orders order in
     let chosen = c.a_choice_fits.ensures ids rows members (c.lawful_rows_do_no_harm.ensures (cluster ids) rows lawful) in
     let shows = (c.rows_are_shown.ensures chosen.0 ids rows members (c.lawful_rows_do_no_harm.ensures (cluster ids) rows lawful) chosen.1).shows in
     let stale = c.what_is_refused.ensures.stale ids rows n k ms members lawful e in
@@ -32,5 +32,5 @@ returns c = λ limits ids before now n k ms members enough row lawful comes cloc
     all_soon c.what_is_said_of_frames.ensures steps.responses limits (before ++ now ∷ []) now before [] (cluster ids) [] refl refl
     (λ x i. absurd i) comes stale.response stale.response_made stale.response_kind in
     not_stale limits (before ++ now ∷ []) sane (transfers_of_rows (cluster ids) rows []) shows.holds.transfers.numbered
-    (heard_by n (cluster ids) rows) (world_of ids rows) now n k ms waits answered row stands
+    (heard_by n (cluster ids) rows) (world_of ids rows) now n k ms waits answered back row stands
     (waits_along steps.called n rows (cluster ids) [] (λ t up. absurd (cc (up))) (λ x i. absurd i)) stale (soon.after, soon.soon)

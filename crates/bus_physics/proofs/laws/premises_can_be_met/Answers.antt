@@ -20,7 +20,7 @@ use Rattle.bus_spec.specs.Cluster.{Cluster, after_row, cluster, frame_at, world_
 use Rattle.bus_spec.specs.Lawful.{AreLawful}
 use Rattle.bus_spec.specs.Refinement.{transfers_of_rows}
 use Rattle.bus_physics.specs.Example.{again, at_allocatee, at_member, before, everything, limits, two}
-use Rattle.bus_rows.specs.Timed.{rows_in}
+use Rattle.bus_rows.specs.Timed.{Timed, rows_in}
 use Rattle.bus_physics.specs.Physics.{AllComeInOrder, ComesInOrder, GoesOn, IsNotFast, Reading, WhereIts, slack}
 use Rattle.bus_physics.specs.Schedule.{DeviceHears, LawfulButForBus, MemberHears}
 use Rattle.bus_physics.proofs.laws.premises_can_be_met.Goals as goal
@@ -63,11 +63,11 @@ made_in x (inr (inl e)) = (ap (λ (y : SentTransfer). y.step) e, ap (λ (y : Sen
 made_in x (inr (inr i)) = absurd i
 
 pub returns-clause-apart : goal.returns-clause-apart
-returns-clause-apart c = λ x y i j by what to to_too id less long. absurd (omega (arith, (made_in x i).0, (made_in y j).0, less))
+returns-clause-apart c = λ x y i j by what to to_too id less long recent recent_too. absurd (omega (arith, (made_in x i).0, (made_in y j).0, less))
 
 pub returns-clause-frames : goal.returns-clause-frames
 unfolding step all_nodes queued_frames next_out left_behind frames_of
-returns-clause-frames c = (tt, (tt, (tt, (tt, (tt, ((λ other key i first second. absurd i), tt))))))
+returns-clause-frames c = (tt, (tt, (tt, (tt, (tt, ((λ recent other key i first second. absurd i), tt))))))
 
 pub returns-clause-short : goal.returns-clause-short
 returns-clause-short c = record { round = omega arith; rested = omega arith; clock = omega arith }
@@ -76,20 +76,23 @@ pub returns-clause-fast : goal.returns-clause-fast
 returns-clause-fast c = (tt, (tt, (tt, (tt, (tt, tt)))))
 
 pub returns-clause-rests : goal.returns-clause-rests
-returns-clause-rests c = λ x number told moment word i mine less opened. absurd (omega (arith, (made_in x i).1, mine))
+returns-clause-rests c = λ x number told moment word i mine recent less opened. absurd (omega (arith, (made_in x i).1, mine))
 
 -- frame 1 comes first, or again
-comes_first : (m : ℕ) (b : Bool) → WhereIts b (ComesInOrder m [] (frame_at (world_of two (rows_in before)).frames 1))
-comes_first m true = λ other key i first second. absurd i
-comes_first m false = tt
+comes_first : (all : List Timed) (m : ℕ) (b : Bool) → WhereIts b (ComesInOrder limits all m [] (frame_at (world_of two (rows_in before)).frames 1))
+comes_first all m true = λ recent other key i first second. absurd i
+comes_first all m false = tt
+
+orders : (all : List Timed) → AllComeInOrder limits all two (cluster two) (rows_in (before ++ at_member ∷ []))
+unfolding step all_nodes queued_frames next_out left_behind frames_of
+orders all = λ m i. (tt, (tt, (tt, (tt, (tt, (comes_first all m (m == 2), tt))))))
 
 pub returns-clause-orders : goal.returns-clause-orders
-unfolding step all_nodes queued_frames next_out left_behind frames_of
-returns-clause-orders c = λ m i. (tt, (tt, (tt, (tt, (tt, (comes_first m (m == 2), tt))))))
+returns-clause-orders c = orders everything
 
 pub returns-clause-comes : goal.returns-clause-comes
 unfolding step all_nodes queued_frames next_out left_behind frames_of
-returns-clause-comes c = (tt, (tt, (tt, (tt, (tt, (record { after = λ some. omega arith; soon = λ some. omega arith }, tt))))))
+returns-clause-comes c = (tt, (tt, (tt, (tt, (tt, (record { after = λ some. omega arith; soon = λ lately_ some. omega arith }, tt))))))
 
 pub returns-clause-physical : goal.returns-clause-physical
 unfolding step all_nodes queued_frames next_out left_behind frames_of
@@ -106,7 +109,7 @@ returns-clause-physical c = (
           (
             (
               passes 5 9 40 1050 1080 true (omega arith) (omega arith),
-              record { after = λ some. omega arith; soon = λ some. omega arith },
+              record { after = λ some. omega arith; soon = λ lately_ some. omega arith },
             ),
             tt,
           ),
@@ -159,9 +162,9 @@ not_fast at now then moment less p (inl e) soon =
     omega (arith, less, ap (λ (r : Reading). r.at) e, ap (λ (r : Reading). r.now) e, ap (λ (r : Reading). slack limits r) e)
 not_fast at now then moment less p (inr i) soon = absurd i
 
-hears_again : (orders : AllComeInOrder two (cluster two) (rows_in (before ++ at_member ∷ []))) → MemberHears limits two (before ++ at_member ∷ []) again 2 1
+hears_again : MemberHears limits two (before ++ at_member ∷ []) again 2 1
 unfolding step frame_step outcome fits_no_payload all_nodes delivery_phase session_for session_step wanted queued_frames next_out left_behind frames_of identifier_of payload_of rows
-hears_again orders = record {
+hears_again = record {
   comes = (
     tt,
     (
@@ -173,8 +176,8 @@ hears_again orders = record {
           (
             tt,
             (
-              record { after = λ some. omega arith; soon = λ some. omega arith },
-              (record { after = λ some. omega arith; soon = λ some. omega arith }, tt),
+              record { after = λ some. omega arith; soon = λ lately_ some. omega arith },
+              (record { after = λ some. omega arith; soon = λ lately_ some. omega arith }, tt),
             ),
           ),
         ),
@@ -204,11 +207,11 @@ hears_again orders = record {
       ),
     ),
   );
-  orders = orders;
-  order = λ other key i first second. elim i [ inl e ↦ omega (arith, ap (λ (f : Queued). f.mark.step) e) | inr j ↦ absurd j ];
+  orders = orders (before ++ (at_member ∷ (again ∷ [])));
+  order = λ recent other key i first second. elim i [ inl e ↦ omega (arith, ap (λ (f : Queued). f.mark.step) e) | inr j ↦ absurd j ];
   fast = (tt, (tt, (tt, (tt, (tt, (not_fast 8 500 1050 1505 (omega arith), tt))))));
-  rests = λ x number told moment word i mine less opened. absurd (omega (arith, (made_then x i).1, mine));
-  apart = λ x y i j by what to to_too id less long. absurd (omega (arith, (made_then x i).0, (made_then y j).0, less));
+  rests = λ x number told moment word i mine recent less opened. absurd (omega (arith, (made_then x i).1, mine));
+  apart = λ x y i j by what to to_too id less long recent recent_too. absurd (omega (arith, (made_then x i).0, (made_then y j).0, less));
 }
 
 device_hears : DeviceHears limits two (before ++ (at_member ∷ (again ∷ []))) at_allocatee 1 1
@@ -229,7 +232,7 @@ device_hears = record {
               (
                 tt,
                 (
-                  (passes 5 9 40 1050 1080 true (omega arith) (omega arith), record { after = λ some. omega arith; soon = λ some. omega arith }),
+                  (passes 5 9 40 1050 1080 true (omega arith) (omega arith), record { after = λ some. omega arith; soon = λ lately_ some. omega arith }),
                   tt,
                 ),
               ),
@@ -239,7 +242,7 @@ device_hears = record {
       ),
     ),
   );
-  slow = λ x y i j what other by id less. absurd (omega (arith, made_last x i, made_last y j, less));
+  slow = λ x y i j what other by id less recent recent_too. absurd (omega (arith, made_last x i, made_last y j, less));
 }
 
 pub returns-clause-bus : goal.returns-clause-bus
@@ -259,12 +262,12 @@ returns-clause-bus c = (
               comes = returns-clause-comes c;
               clock = returns-clause-clock c;
               orders = λ m i. (tt, (tt, (tt, (tt, (tt, tt)))));
-              order = λ other key i first second. absurd i;
+              order = λ recent other key i first second. absurd i;
               fast = returns-clause-fast c;
               rests = returns-clause-rests c;
               apart = returns-clause-apart c;
             },
-            (hears_again (returns-clause-orders c), (device_hears, tt)),
+            (hears_again, (device_hears, tt)),
           ),
         ),
       ),
