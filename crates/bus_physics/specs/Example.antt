@@ -7,7 +7,8 @@ use Rattle.bus_physics.specs.Physics.{Limits}
 abbrev pub two : List ℕ
 two = 1 ∷ 2 ∷ []
 
--- frames are held for 100 ms at the most, clocks go wrong by 5 ms, who is opened rested for 5,500 ms, and a turn takes 40 ms
+-- frames are held for 100 ms at the most, clocks go wrong by 5 ms, who is opened rested for 5,500 ms, and a turn takes
+-- 40 ms
 abbrev pub limits : Limits
 limits = record { hold = 100; drift = 5; rest = 5500; turn = 40; since = 0 }
 
@@ -20,8 +21,8 @@ before = record { at = 7; row = Open 1 false 0 0 }
     ∷ record { at = 1008; row = Send 1 }
     ∷ []
 
--- Frame 1 comes to member 2, to it again, and to allocatee 1. The first time its turn has taken 37 ms: the member read its
--- clock at 1013.
+-- Frame 1 comes to member 2, to it again, and to allocatee 1. The first time its turn has taken 37 ms: the member read
+-- its clock at 1013.
 abbrev pub at_member : Timed
 at_member = record { at = 1050; row = Rx 2 1 1505 }
 
@@ -38,3 +39,16 @@ everything = before ++ (at_member ∷ (again ∷ (at_allocatee ∷ [])))
 -- 120,500.
 abbrev pub two_minutes_later : (moment : ℕ) → Timed
 two_minutes_later moment = record { at = 120008; row = Tick 2 moment 0 }
+
+-- A bad minute: frame 1 comes to member 2 once more, a minute late. Then member 1 makes frame 4, and sends what waits.
+abbrev pub with_bad_minute : List Timed
+with_bad_minute = everything ++ (record { at = 61008; row = Rx 2 1 61500 }
+    ∷ record { at = 74000; row = Tick 1 73993 0 }
+    ∷ record { at = 74001; row = Send 1 }
+    ∷ record { at = 74002; row = Send 1 }
+    ∷ record { at = 74003; row = Send 1 }
+    ∷ [])
+
+-- frame 4 comes to member 2 in time
+abbrev pub afterwards : Timed
+afterwards = record { at = 74050; row = Rx 2 4 74542 }

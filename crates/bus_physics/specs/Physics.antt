@@ -1,7 +1,8 @@
 -- What a physical bus does with the frames that members and allocatees hear: a frame comes after it was made, and not
 -- much later, and their clocks go on with the time. That a frame is lost, comes twice or overtakes another one is not
 -- excluded. What a law asks besides, as that frames come in order or that a clock does not run fast, is said apart.
-use Rattle.std.specs.Prelude.{⊤, ◌≡◌, ◌≢◌, ◌⊎◌, ℕ, ◌+◌, ◌-◌, ◌*◌, ◌<◌, ◌≤◌, ◌==◌, Bool, true, false, List, [], ◌∷◌, ◌++◌, max, min, slice_index_or, nat_eq, Option, None, Some, if◌then◌else◌}
+use Rattle.std.specs.Prelude.{⊤, ◌≡◌, ◌≢◌, ◌⊎◌, ℕ, ◌+◌, ◌-◌, ◌*◌, ◌<◌, ◌≤◌, ◌==◌, Bool, true, false, List, [], ◌∷◌}
+use Rattle.std.specs.Prelude.{◌++◌, max, min, slice_index_or, nat_eq, Option, None, Some, if◌then◌else◌}
 use Rattle.can_frame.specs.declared.identifier.Ident.{Ident}
 use Rattle.can_frame.specs.declared.identifier.Kind.TheVariants.{Response}
 use Rattle.can_frame.specs.declared.step.What.{What}
@@ -31,8 +32,8 @@ abbrev pub time_of : List Timed → ℕ → ℕ
 time_of all number = (slice_index_or all (number - 1) (record { at = 0; row = Send 0 })).at
 
 -- In milliseconds: how long after its making a frame may come, how far a clock may go wrong within a minute, for how
--- long a member made nothing when it is opened, and how long a turn may take, from its reading of the clock to the frame
--- that it takes by that reading. Of what came, or was made, before a time nothing is asked.
+-- long a member made nothing when it is opened, and how long a turn may take, from its reading of the clock to the
+-- frame that it takes by that reading. Of what came, or was made, before a time nothing is asked.
 pub record Limits : Type 0 where
   pub hold : ℕ
   pub drift : ℕ
@@ -44,7 +45,8 @@ pub record Limits : Type 0 where
 abbrev pub IsRecent : Limits → List Timed → ℕ → Type 0
 IsRecent limits all number = limits.since ≤ time_of all number
 
--- how far the time from row to row of a member and that by its clock may differ: a row may stand a turn behind its reading
+-- how far the time from row to row of a member and that by its clock may differ: a row may stand a turn behind its
+-- reading
 abbrev pub lag : Limits → ℕ
 lag limits = limits.drift + limits.turn
 
@@ -62,15 +64,16 @@ now_of (Some x) ms = max x.asking.moment ms
 
 -- the readings of allocatee a since it came, the latest first
 abbrev pub readings_after : ℕ → List Reading → Cluster → ℕ → Row → List Reading
-readings_after a past w at (AOpen b uid pref ms word) = if a == b then record { at = at; now = ms; opens = true } ∷ [] else past
+readings_after a past w at (AOpen b uid pref ms word) =
+    if a == b then record { at = at; now = ms; opens = true } ∷ [] else past
 readings_after a past w at (ATick b ms word) =
     if a == b then record { at = at; now = now_of (w.allocatee b) ms; opens = false } ∷ past else past
 readings_after a past w at (ARx b k ms word) =
     if a == b then record { at = at; now = now_of (w.allocatee b) ms; opens = false } ∷ past else past
 readings_after a past w at row = past
 
--- Since each earlier reading the time went on, and the clock did, as much but for so much. Where more than a minute went
--- by, the clock went on by a minute but for that, or more.
+-- Since each earlier reading the time went on, and the clock did, as much but for so much. Where more than a minute
+-- went by, the clock went on by a minute but for that, or more.
 abbrev pub GoesOn : ℕ → List Reading → ℕ → ℕ → Type 0
 GoesOn wrong past at now = (p : Reading) → In p past →
     (p.at ≤ at) × (p.now + min (at - p.at) 60000 ≤ now + wrong)
@@ -103,8 +106,8 @@ DeviceRowsArePhysical limits all a past w (timed ∷ rest) = RowIsPhysical limit
 
 -- ---- the members
 
--- for so long after a transfer was made a receiver, whose clock may be so much wrong, may put frames of it together with
--- those of another one: they are held, and it keeps a transfer that is begun for the transfer timeout
+-- for so long after a transfer was made a receiver, whose clock may be so much wrong, may put frames of it together
+-- with those of another one: they are held, and it keeps a transfer that is begun for the transfer timeout
 abbrev pub joining_span : Limits → ℕ → ℕ
 joining_span limits wrong = limits.hold + transfer_timeout + wrong
 
@@ -113,16 +116,17 @@ joining_span limits wrong = limits.hold + transfer_timeout + wrong
 abbrev pub vote_round : ℕ
 vote_round = 10 * election_wait
 
--- Two holds, the drift and a turn are over before a transfer ID of vote requests comes round. Two holds and the drift are
--- over before a member that rested calls anybody, which no member does before its first wait for an election is over:
--- there a turn does not count, since an opening stands at its reading. The drift and a turn are less than that wait.
+-- Two holds, the drift and a turn are over before a transfer ID of vote requests comes round. Two holds and the drift
+-- are over before a member that rested calls anybody, which no member does before its first wait for an election is
+-- over: there a turn does not count, since an opening stands at its reading. The drift and a turn are less than that
+-- wait.
 pub record HoldsAreShort (limits : Limits) : Type 0 where
   pub round : 2 * limits.hold + lag limits < vote_round
   pub rested : 2 * limits.hold + limits.drift < limits.rest + election_wait
   pub clock : lag limits < election_wait
 
--- What happened so long ago does not matter to a frame that comes now: it was made within a hold, as the answer to a call
--- that was made within two; and what it is put together with came within the transfer timeout before it was made.
+-- What happened so long ago does not matter to a frame that comes now: it was made within a hold, as the answer to a
+-- call that was made within two; and what it is put together with came within the transfer timeout before it was made.
 abbrev pub window : Limits → ℕ
 window limits = 2 * limits.hold + transfer_timeout + lag limits
 
@@ -149,7 +153,8 @@ now_in (Failed failure) ms = ms
 
 -- the readings of member n since it opened, the latest first
 abbrev pub member_readings : ℕ → List Reading → Cluster → ℕ → Row → List Reading
-member_readings n past w at (Open m told ms word) = if n == m then record { at = at; now = ms; opens = true } ∷ [] else past
+member_readings n past w at (Open m told ms word) =
+    if n == m then record { at = at; now = ms; opens = true } ∷ [] else past
 member_readings n past w at (Tick m ms word) =
     if n == m then record { at = at; now = now_in (w.member m).status ms; opens = false } ∷ past else past
 member_readings n past w at (Rx m k ms) =
@@ -251,7 +256,8 @@ RestsBeforeOpening limits all made n = (x : SentTransfer) (number : ℕ) (told :
 abbrev pub HasKeyAt : ℕ → Key → Queued → Type 0
 HasKeyAt n key frame = is_of (setting_for n) key (arrival_at frame 0) ≡ true
 
--- a recent frame comes behind no later one of its kind, number and source, by the steps that made them; it may come again
+-- a recent frame comes behind no later one of its kind, number and source, by the steps that made them; it may come
+-- again
 abbrev pub ComesInOrder : Limits → List Timed → ℕ → List Queued → Queued → Type 0
 ComesInOrder limits all n heard frame = IsRecent limits all frame.mark.step → (other : Queued) (key : Key)
     → In other heard → HasKeyAt n key other → HasKeyAt n key frame → other.mark.step ≤ frame.mark.step

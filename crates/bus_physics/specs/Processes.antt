@@ -7,7 +7,9 @@ use Rattle.bus_spec.specs.declared.unlawful.Unlawful.{Unlawful}
 use Rattle.bus_spec.specs.Cluster.{Cluster, after_row, after_rows, cluster}
 use Rattle.bus_spec.specs.Lawful.{cause, is_forged, no_such_frame}
 use Rattle.bus_spec.specs.Members.{is_running}
-use Rattle.cmd_node_laws.specs.Traces.{Came, Event, FromElsewhere, DiesInTurn, DiesAtOpening, MayOpen, MayTurn, OfOthers, Opens, Silence, Stops, Turns, WasSent, all_rows, is_of_others, rows_of}
+use Rattle.cmd_node_laws.specs.Traces.{Came, Event, FromElsewhere, DiesInTurn, DiesAtOpening, MayOpen, MayTurn}
+use Rattle.cmd_node_laws.specs.Traces.{OfOthers, Opens, Silence, Stops, Turns, WasSent, all_rows, is_of_others}
+use Rattle.cmd_node_laws.specs.Traces.{rows_of}
 use Rattle.bus_physics.specs.Schedule.{is_of_bus}
 
 -- of a frame of the bus: that it was sent, and no more

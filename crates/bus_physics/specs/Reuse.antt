@@ -1,6 +1,7 @@
 -- What stands behind a row that is refused as torn or as stale: a transfer ID that a member used twice, or one
 -- transfer of which frames are missing.
-use Rattle.std.specs.Prelude.{◌≡◌, ◌≢◌, ◌⊎◌, ℕ, ◌-◌, ◌<◌, ◌≤◌, true, false, List, [], ◌∷◌, ◌++◌, length, map, max, slice_index_or, Some}
+use Rattle.std.specs.Prelude.{◌≡◌, ◌≢◌, ◌⊎◌, ℕ, ◌-◌, ◌<◌, ◌≤◌, true, false, List, [], ◌∷◌, ◌++◌, length, map, max}
+use Rattle.std.specs.Prelude.{slice_index_or, Some}
 use Rattle.can_frame.specs.declared.identifier.Ident.{Ident}
 use Rattle.can_frame.specs.declared.identifier.Kind.TheVariants.{Response}
 use Rattle.can_frame.specs.Cutting.{frame_bytes, frame_count, frames_of as pieces_of, piece_from}
@@ -132,8 +133,8 @@ pub record IsStaleAt (made : List SentTransfer) (w : Cluster) (n k ms : ℕ) : T
 
 -- ---- what is torn on a physical bus
 
--- A frame completes what was put together behind these frames. All of them are frames of one transfer, of four frames or
--- more, and they are not all of it; but their pieces are those of some payload, so that the CRC fits.
+-- A frame completes what was put together behind these frames. All of them are frames of one transfer, of four frames
+-- or more, and they are not all of it; but their pieces are those of some payload, so that the CRC fits.
 pub record LacksFrames (made : List SentTransfer) (last : Arrival) : Type 0 where
   pub before : List Arrival
   pub ident : Ident

@@ -13,9 +13,9 @@ use Rattle.bus_physics.specs.Physics.{HoldsAreShort, Limits}
 use Rattle.bus_physics.specs.Processes.{MayAllDo, after_events}
 use Rattle.bus_physics.specs.Schedule.{HappenOnBus, LosesFrames}
 
--- From some event of the trace on its rows happen at these times on such a bus; up to it they had these times, and nothing
--- was torn or stale, whatever the bus did. All that `IsRunIn` asks holds, but that nothing which is taken from the bus is
--- torn or stale from then on: of that it is asked alone that it was sent.
+-- From some event of the trace on its rows happen at these times on such a bus; up to it they had these times, and
+-- nothing was torn or stale, whatever the bus did. All that `IsRunIn` asks holds, but that nothing which is taken from
+-- the bus is torn or stale from then on: of that it is asked alone that it was sent.
 pub record IsRunOnBus (limits : Limits) (earlier timed : List Timed) (ids : List ℕ) (before during : List Event)
     (rules : Rules) (mine : List ℕ) (given : RunInput) (to : Point) : Type 0 where
   pub members : AreMembers ids

@@ -8,7 +8,10 @@ use Rattle.bus_spec.specs.Cluster.{Cluster, after_row, arrival_at, cluster, fram
 use Rattle.bus_spec.specs.Lawful.{AreLawful, cause}
 use Rattle.bus_spec.specs.Refinement.{transfers_of_rows}
 use Rattle.bus_rows.specs.Timed.{Timed, rows_in}
-use Rattle.bus_physics.specs.Physics.{AllComeInOrder, AllocatesApart, DeviceRowsArePhysical, ClockGoesOn, ClockIsNotFast, ComeInOrderToDevice, ComesInOrder, ComesInOrderToDevice, FramesComeInTime, device_heard_by, Limits, RestsBeforeOpening, UsesIdsApart, heard_by, window}
+use Rattle.bus_physics.specs.Physics.{AllComeInOrder, AllocatesApart, DeviceRowsArePhysical, ClockGoesOn}
+use Rattle.bus_physics.specs.Physics.{ClockIsNotFast, ComeInOrderToDevice, ComesInOrder, ComesInOrderToDevice}
+use Rattle.bus_physics.specs.Physics.{FramesComeInTime, device_heard_by, Limits, RestsBeforeOpening, UsesIdsApart}
+use Rattle.bus_physics.specs.Physics.{heard_by, window}
 use Rattle.bus_physics.specs.Reuse.{LacksFrames}
 
 -- ---- the premises
@@ -29,8 +32,9 @@ pub record MemberHears (limits : Limits) (ids : List ℕ) (before : List Timed) 
 pub record DeviceHears (limits : Limits) (ids : List ℕ) (before : List Timed) (now : Timed) (a k : ℕ) : Type 0 where
   pub comes : DeviceRowsArePhysical limits (before ++ now ∷ []) a [] (cluster ids) (before ++ now ∷ [])
   pub slow : AllocatesApart limits (before ++ now ∷ []) (transfers_of_rows (cluster ids) (rows_in before) [])
-      (device_heard_by a (cluster ids) (rows_in before)) (ComeInOrderToDevice limits (before ++ now ∷ []) a [] (cluster ids)
-      (rows_in before) × ComesInOrderToDevice limits (before ++ now ∷ []) (device_heard_by a (cluster ids) (rows_in before))
+      (device_heard_by a (cluster ids) (rows_in before))
+      (ComeInOrderToDevice limits (before ++ now ∷ []) a [] (cluster ids) (rows_in before)
+      × ComesInOrderToDevice limits (before ++ now ∷ []) (device_heard_by a (cluster ids) (rows_in before))
       (frame_at (world_of ids (rows_in before)).frames k))
 
 -- the same limits, of what happened lately before this time

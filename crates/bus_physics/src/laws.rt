@@ -1,6 +1,7 @@
 //! Laws of the definitions, each the contract of a function that does nothing.
 
-ghost use Rattle.std.specs.Prelude.{None, false, ◌≡◌, ◌⊎◌, ◌+◌, ◌-◌, ◌*◌, ◌<◌, ◌≤◌, ◌∷◌, ◌++◌, ℕ, List, length, Some, []};
+ghost use Rattle.std.specs.Prelude.{None, false, ◌≡◌, ◌⊎◌, ◌+◌, ◌-◌, ◌*◌, ◌<◌, ◌≤◌, ◌∷◌, ◌++◌, ℕ, List, length, Some};
+ghost use Rattle.std.specs.Prelude.{[]};
 ghost use Rattle.can_frame.specs.Cutting.{frame_count};
 ghost use Rattle.can_frame.specs.declared.step.What.TheVariants.{Alloc};
 ghost use Rattle.raft_model.specs.Lists.{In};
@@ -22,8 +23,8 @@ ghost use Rattle.bus_physics.specs.Physics.{ClockIsNotFast, HoldsAreShort, Limit
 ghost use Rattle.bus_physics.specs.Physics.{WaitsForAnswers, heard_by, lag, window};
 ghost use Rattle.bus_rows.specs.Timed.{rows_in};
 ghost use Rattle.bus_physics.specs.Physics.{may_be_long};
-ghost use Rattle.bus_physics.specs.Example.{at_allocatee, at_member, before as first_rows, everything};
-ghost use Rattle.bus_physics.specs.Example.{limits as some_limits, two, two_minutes_later};
+ghost use Rattle.bus_physics.specs.Example.{afterwards, at_allocatee, at_member, before as first_rows, everything};
+ghost use Rattle.bus_physics.specs.Example.{limits as some_limits, two, two_minutes_later, with_bad_minute};
 ghost use Rattle.bus_physics.specs.Reuse.{IsStaleAt, IsTornAt, IsTornAtDevice, LacksFrames};
 ghost use Rattle.bus_agreement.specs.Headline.{HasHeadline};
 ghost use Rattle.cmd_node_laws.specs.Traces.{Event, MayAllHappen, all_rows};
@@ -102,8 +103,8 @@ pub fn a_device_puts_nothing_together_of_two()
     what_is_said_of_frames();
 }
 
-/// A member makes one call to a node at a time, for 1,000 ms, and forgets it as it stands for election. So a transfer ID
-/// of its calls to a node comes round only when more time has passed than a call and its answer may take, or a call
+/// A member makes one call to a node at a time, for 1,000 ms, and forgets it as it stands for election. So a transfer
+/// ID of its calls to a node comes round only when more time has passed than a call and its answer may take, or a call
 /// behind the first one was answered: where its clock does not run fast, and it rests before it is opened. The 31 calls
 /// behind the first take 31 s where they are append requests, and 20 s where they are vote requests. A member that is
 /// opened calls nobody for 2,000 ms, since it follows and stands for election only after such a wait: so calls over an
@@ -194,6 +195,7 @@ pub fn a_member_puts_nothing_together_of_two()
 
 /// The premises can be met: in this cluster a member hears a frame of another one twice, as CAN repeats it, and an
 /// allocatee hears it too. Beyond a minute a clock may lose (`slow`) and gain (`quick`) more than the drift and a turn.
+/// A frame that comes a minute late breaks them (`bad`), and those of a frame that comes 13 s later hold (`healed`).
 pub fn premises_can_be_met()
     ensures lawful { AreLawful (cluster two) (rows_in first_rows) }
     ensures clock { ClockGoesOn some_limits 2 [] (cluster two) (first_rows ++ at_member ∷ []) }
@@ -216,6 +218,9 @@ pub fn premises_can_be_met()
     ensures allocatee { cause (world_of two (rows_in first_rows)) at_allocatee.row ≡ None }
     ensures bus { HappenOnBus some_limits two [] everything }
     ensures otherwise { LawfulButForBus (cluster two) (rows_in everything) }
+    ensures bad { FramesComeInTime some_limits with_bad_minute (cluster two) with_bad_minute → ⊥ }
+    ensures but_lawful { AreLawful (cluster two) (rows_in (with_bad_minute ++ afterwards ∷ [])) }
+    ensures healed { HappenOnBus some_limits two with_bad_minute (afterwards ∷ []) }
 {}
 
 /// On a physical bus a schedule whose rows are otherwise lawful is lawful, whatever frames are lost: but for a row at
@@ -232,9 +237,10 @@ pub fn schedules_on_a_bus_are_lawful()
     no_response_outlives_its_transfer_id();
 }
 
-/// It heals: whatever happened before, once the rows since are asked of alone, and come as a bus brings them, and the rows
-/// before were lawful in fact, all that follow are lawful, or a transfer loses frames. What is asked of a row is asked of
-/// what happened lately before it (`window`), but for clocks. So one bad minute takes nothing from what comes later.
+/// It heals: whatever happened before, once the rows since are asked of alone, and come as a bus brings them, and the
+/// rows before were lawful in fact, all that follow are lawful, or a transfer loses frames. What is asked of a row is
+/// asked of what happened lately before it (`window`), but for clocks. So one bad minute takes nothing from what comes
+/// later.
 pub fn a_bad_minute_is_over()
     ensures { (limits : Limits) (ids : List ℕ) (before rest : List Timed) → AreMembers ids → HoldsAreShort limits →
         AreLawful (cluster ids) (rows_in before) → HappenOnBus limits ids before rest →
@@ -249,10 +255,11 @@ pub fn a_bad_minute_is_over()
 /// The same of processes of `node`: in a trace whose rows happen on a physical bus from some event on, what comes from
 /// the bus may come, but where frames are lost. So the headline needs no premise on what is torn or stale from then on.
 pub fn traces_on_a_bus_may_happen()
-    ensures may { (limits : Limits) (ids : List ℕ) (past trace : List Event) (earlier all : List Timed) → AreMembers ids →
-        HoldsAreShort limits → MayAllHappen past (cluster ids) → AreLawful (cluster ids) (rows_in earlier) →
-        rows_in earlier ≡ all_rows past (cluster ids) → rows_in all ≡ all_rows trace (after_events ids past) →
-        HappenOnBus limits ids earlier all → MayAllDo trace (after_events ids past) →
+    ensures may { (limits : Limits) (ids : List ℕ) (past trace : List Event) (earlier all : List Timed) →
+        AreMembers ids → HoldsAreShort limits → MayAllHappen past (cluster ids) →
+        AreLawful (cluster ids) (rows_in earlier) → rows_in earlier ≡ all_rows past (cluster ids) →
+        rows_in all ≡ all_rows trace (after_events ids past) → HappenOnBus limits ids earlier all →
+        MayAllDo trace (after_events ids past) →
         MayAllHappen (past ++ trace) (cluster ids) ⊎ LosesFrames ids (earlier ++ all) }
     ensures headline { (limits : Limits) (ids : List ℕ) (past trace : List Event) (earlier all : List Timed) →
         AreMembers ids → HoldsAreShort limits → MayAllHappen past (cluster ids) →

@@ -1,4 +1,4 @@
-use Rattle.std.proofs.Common.{◌≡◌, ℕ, ◌+◌, ◌≤◌, Bool, true, false, List, [], ◌∷◌, ◌++◌, refl, ap, sym, ◌∙◌, arith, inl, inr}
+use Rattle.std.proofs.Common.{◌≡◌, ℕ, ◌+◌, ◌≤◌, Bool, true, false, List, [], ◌∷◌, ◌++◌, refl, ap, sym, ◌∙◌, arith, inl, inr, subst}
 use Rattle.std.specs.Prelude.{◌-◌, ◌==◌, min}
 use Rattle.can_frame.specs.Cutting.{frames_of, payload_of}
 use Rattle.can_frame.specs.Identifier.{identifier_of}
@@ -19,10 +19,10 @@ use Rattle.bus_rows.specs.declared.row.Row.{Row}
 use Rattle.bus_spec.specs.Cluster.{Cluster, after_row, cluster, frame_at, world_of}
 use Rattle.bus_spec.specs.Lawful.{AreLawful}
 use Rattle.bus_spec.specs.Refinement.{transfers_of_rows}
-use Rattle.bus_physics.specs.Example.{again, at_allocatee, at_member, before, everything, limits, two}
+use Rattle.bus_physics.specs.Example.{afterwards, again, at_allocatee, at_member, before, everything, limits, two, with_bad_minute}
 use Rattle.bus_rows.specs.Timed.{Timed, rows_in}
-use Rattle.bus_physics.specs.Physics.{AllComeInOrder, ComesInOrder, GoesOn, IsNotFast, Reading, WhereIts, slack}
-use Rattle.bus_physics.specs.Schedule.{DeviceHears, LawfulButForBus, MemberHears}
+use Rattle.bus_physics.specs.Physics.{AllComeInOrder, ComeInOrder, ComesInOrder, ComesInTime, GoesOn, IsNotFast, Limits, Reading, WhereIts, slack, time_of}
+use Rattle.bus_physics.specs.Schedule.{DeviceHears, LawfulButForBus, MemberHears, lately}
 use Rattle.bus_physics.proofs.laws.premises_can_be_met.Goals as goal
 
 pub returns-clause-lawful : goal.returns-clause-lawful
@@ -274,3 +274,85 @@ returns-clause-bus c = (
     ),
   ),
 )
+
+-- ---- a bad minute
+
+bad_lawful : AreLawful (cluster two) (rows_in (with_bad_minute ++ afterwards ∷ []))
+unfolding step frame_step outcome fits_no_payload all_nodes delivery_phase arrival_judgement device_judgement session_for session_step wanted queued_frames next_out left_behind frames_of identifier_of payload_of rows device_rows
+bad_lawful = (refl, (refl, (refl, (refl, (refl, (refl, (refl, (refl, (refl, (refl, (refl, (refl, (refl, (refl, tt))))))))))))))
+
+pub returns-clause-but_lawful : goal.returns-clause-but_lawful
+returns-clause-but_lawful c = bad_lawful
+
+pub returns-clause-bad : goal.returns-clause-bad
+unfolding step frame_step outcome fits_no_payload all_nodes delivery_phase session_for session_step wanted queued_frames next_out left_behind frames_of identifier_of payload_of rows
+returns-clause-bad c = λ comes. absurd (omega (arith, comes.1.1.1.1.1.1.1.1.0.soon (omega arith) (omega arith)))
+
+made_in_all : (x : SentTransfer) → In x (transfers_of_rows (cluster two) (rows_in with_bad_minute) []) → (x.by ≡ 1) × (x.offer.to ≡ 0)
+unfolding step frame_step outcome fits_no_payload all_nodes delivery_phase session_for session_step wanted queued_frames next_out left_behind frames_of identifier_of payload_of rows
+made_in_all x (inl e) = (ap (λ (y : SentTransfer). y.by) e, ap (λ (y : SentTransfer). y.offer.to) e)
+made_in_all x (inr (inl e)) = (ap (λ (y : SentTransfer). y.by) e, ap (λ (y : SentTransfer). y.offer.to) e)
+made_in_all x (inr (inr (inl e))) = (ap (λ (y : SentTransfer). y.by) e, ap (λ (y : SentTransfer). y.offer.to) e)
+made_in_all x (inr (inr (inr (inl e)))) = (ap (λ (y : SentTransfer). y.by) e, ap (λ (y : SentTransfer). y.offer.to) e)
+made_in_all x (inr (inr (inr (inr i)))) = absurd i
+
+passes_more : (wrong : ℕ) (first : Reading) (past : List Reading) (then moment : ℕ) → GoesOn wrong (first ∷ []) then moment → GoesOn wrong past then moment
+    → GoesOn wrong (first ∷ past) then moment
+passes_more wrong first past then moment a b p (inl e) = a p (inl e)
+passes_more wrong first past then moment a b p (inr i) = b p i
+
+fast_more : (first : Reading) (past : List Reading) (then moment : ℕ) → IsNotFast limits (first ∷ []) then moment → IsNotFast limits past then moment
+    → IsNotFast limits (first ∷ past) then moment
+fast_more first past then moment a b p (inl e) soon = a p (inl e) soon
+fast_more first past then moment a b p (inr i) soon = b p i soon
+
+fast_turn : (at now then moment : ℕ) → moment ≤ now + (then - at) + 45 → IsNotFast limits (record { at = at; now = now; opens = false } ∷ []) then moment
+fast_turn at now then moment less p (inl e) soon =
+    omega (arith, less, ap (λ (r : Reading). r.at) e, ap (λ (r : Reading). r.now) e, ap (λ (r : Reading). slack limits r) e)
+fast_turn at now then moment less p (inr i) soon = absurd i
+
+later_fast : IsNotFast limits (record { at = 1050; now = 1505; opens = false } ∷ (record { at = 8; now = 500; opens = true } ∷ [])) 1050 1541
+later_fast = fast_more (record { at = 1050; now = 1505; opens = false }) (record { at = 8; now = 500; opens = true } ∷ []) 1050 1541
+    (fast_turn 1050 1505 1050 1541 (omega arith)) (not_fast 8 500 1050 1541 (omega arith))
+
+abbrev lately_limits : Limits
+lately_limits = lately limits 74050
+
+old_comes : (frame : Queued) (at : ℕ) → at ≤ 71804 → (1 ≤ frame.mark.step → time_of (with_bad_minute ++ afterwards ∷ []) frame.mark.step ≤ at)
+    → ComesInTime lately_limits (with_bad_minute ++ afterwards ∷ []) at frame
+old_comes frame at old after = record { after = after; soon = λ recent some. absurd (omega (arith, old, recent)) }
+
+abbrev InOrder : ℕ → Type 0
+InOrder m = ComeInOrder lately_limits (with_bad_minute ++ afterwards ∷ []) m [] (cluster two) (rows_in with_bad_minute)
+
+to_one : InOrder 1
+unfolding step frame_step outcome fits_no_payload all_nodes delivery_phase session_for session_step wanted queued_frames next_out left_behind frames_of identifier_of payload_of rows
+to_one = (tt, (tt, (tt, (tt, (tt, (tt, (tt, (tt, (tt, (tt, (tt, (tt, (tt, tt)))))))))))))
+
+to_two : InOrder 2
+unfolding step frame_step outcome fits_no_payload all_nodes delivery_phase session_for session_step wanted queued_frames next_out left_behind frames_of identifier_of payload_of rows
+to_two = (tt, (tt, (tt, (tt, (tt, ((λ recent other key i first second. absurd (omega (arith, recent))), ((λ recent other key i first second. absurd (omega (arith, recent))), (tt, ((λ recent other key i first second. absurd (omega (arith, recent))), (tt, (tt, (tt, (tt, tt)))))))))))))
+
+healed_hears : MemberHears lately_limits two with_bad_minute afterwards 2 4
+unfolding step frame_step outcome fits_no_payload all_nodes delivery_phase session_for session_step wanted queued_frames next_out left_behind frames_of identifier_of payload_of rows
+healed_hears = record {
+  comes = (tt, (tt, (tt, (tt, (tt, (old_comes _ 1050 (omega arith) (λ some. omega arith), (old_comes _ 1050 (omega arith) (λ some. omega arith), (tt, (old_comes _ 61008 (omega arith) (λ some. omega arith), (tt, (tt, (tt, (tt, (record { after = λ some. omega arith; soon = λ recent some. omega arith }, tt))))))))))))));
+  clock = (tt, (tt, (tt, (tt, (tt, (passes 45 8 500 1050 1505 true (omega arith) (omega arith), (passes_more 45 (record { at = 1050; now = 1505; opens = false }) _ 1050 1541 (passes 45 1050 1505 1050 1541 false (omega arith) (omega arith)) (passes 45 8 500 1050 1541 true (omega arith) (omega arith)), (tt, (passes_more 45 (record { at = 1050; now = 1541; opens = false }) _ 61008 61500 (passes 45 1050 1541 61008 61500 false (omega arith) (omega arith)) (passes_more 45 (record { at = 1050; now = 1505; opens = false }) _ 61008 61500 (passes 45 1050 1505 61008 61500 false (omega arith) (omega arith)) (passes 45 8 500 61008 61500 true (omega arith) (omega arith))), (tt, (tt, (tt, (tt, (passes_more 45 (record { at = 61008; now = 61500; opens = false }) _ 74050 74542 (passes 45 61008 61500 74050 74542 false (omega arith) (omega arith)) (passes_more 45 (record { at = 1050; now = 1541; opens = false }) _ 74050 74542 (passes 45 1050 1541 74050 74542 false (omega arith) (omega arith)) (passes_more 45 (record { at = 1050; now = 1505; opens = false }) _ 74050 74542 (passes 45 1050 1505 74050 74542 false (omega arith) (omega arith)) (passes 45 8 500 74050 74542 true (omega arith) (omega arith)))), tt))))))))))))));
+  orders = λ m i. elim i [
+    | inl e ↦ subst InOrder (sym e) to_one
+    | inr (inl e) ↦ subst InOrder (sym e) to_two
+    | inr (inr j) ↦ absurd j
+  ];
+  order = λ recent other key i first second. elim i [
+    | inl e ↦ omega (arith, ap (λ (f : Queued). f.mark.step) e)
+    | inr (inl e) ↦ omega (arith, ap (λ (f : Queued). f.mark.step) e)
+    | inr (inr (inl e)) ↦ omega (arith, ap (λ (f : Queued). f.mark.step) e)
+    | inr (inr (inr j)) ↦ absurd j
+  ];
+  fast = (tt, (tt, (tt, (tt, (tt, (not_fast 8 500 1050 1505 (omega arith), (later_fast, (tt, (fast_more (record { at = 1050; now = 1541; opens = false }) _ 61008 61500 (fast_turn 1050 1541 61008 61500 (omega arith)) (fast_more (record { at = 1050; now = 1505; opens = false }) _ 61008 61500 (fast_turn 1050 1505 61008 61500 (omega arith)) (is_long_ago 8 500 61008 61500 (omega arith))), (tt, (tt, (tt, (tt, tt)))))))))))));
+  rests = λ x number told moment word i mine recent less opened. absurd (omega (arith, (made_in_all x i).0, mine));
+  apart = λ x y i j by what to to_too id less long recent recent_too. absurd (omega (arith, (made_in_all x i).1, to));
+}
+
+pub returns-clause-healed : goal.returns-clause-healed
+returns-clause-healed c = (healed_hears, tt)
