@@ -311,8 +311,27 @@ fast_turn at now then moment less p (inl e) soon =
     omega (arith, less, ap (λ (r : Reading). r.at) e, ap (λ (r : Reading). r.now) e, ap (λ (r : Reading). slack limits r) e)
 fast_turn at now then moment less p (inr i) soon = absurd i
 
-later_fast : IsNotFast limits (record { at = 1050; now = 1505; opens = false } ∷ (record { at = 8; now = 500; opens = true } ∷ [])) 1050 1541
-later_fast = fast_more (record { at = 1050; now = 1505; opens = false }) (record { at = 8; now = 500; opens = true } ∷ []) 1050 1541
+-- the readings of member 2, the latest first
+abbrev first_readings : List Reading
+first_readings = record { at = 8; now = 500; opens = true } ∷ []
+
+abbrev second_reading : Reading
+second_reading = record { at = 1050; now = 1505; opens = false }
+
+abbrev second_readings : List Reading
+second_readings = second_reading ∷ first_readings
+
+abbrev third_reading : Reading
+third_reading = record { at = 1050; now = 1541; opens = false }
+
+abbrev third_readings : List Reading
+third_readings = third_reading ∷ second_readings
+
+abbrev fourth_reading : Reading
+fourth_reading = record { at = 61008; now = 61500; opens = false }
+
+later_fast : IsNotFast limits second_readings 1050 1541
+later_fast = fast_more second_reading first_readings 1050 1541
     (fast_turn 1050 1505 1050 1541 (omega arith)) (not_fast 8 500 1050 1541 (omega arith))
 
 abbrev lately_limits : Limits
@@ -337,7 +356,7 @@ healed_hears : MemberHears lately_limits two with_bad_minute afterwards 2 4
 unfolding step frame_step outcome fits_no_payload all_nodes delivery_phase session_for session_step wanted queued_frames next_out left_behind frames_of identifier_of payload_of rows
 healed_hears = record {
   comes = (tt, (tt, (tt, (tt, (tt, (old_comes _ 1050 (omega arith) (λ some. omega arith), (old_comes _ 1050 (omega arith) (λ some. omega arith), (tt, (old_comes _ 61008 (omega arith) (λ some. omega arith), (tt, (tt, (tt, (tt, (record { after = λ some. omega arith; soon = λ recent some. omega arith }, tt))))))))))))));
-  clock = (tt, (tt, (tt, (tt, (tt, (passes 45 8 500 1050 1505 true (omega arith) (omega arith), (passes_more 45 (record { at = 1050; now = 1505; opens = false }) _ 1050 1541 (passes 45 1050 1505 1050 1541 false (omega arith) (omega arith)) (passes 45 8 500 1050 1541 true (omega arith) (omega arith)), (tt, (passes_more 45 (record { at = 1050; now = 1541; opens = false }) _ 61008 61500 (passes 45 1050 1541 61008 61500 false (omega arith) (omega arith)) (passes_more 45 (record { at = 1050; now = 1505; opens = false }) _ 61008 61500 (passes 45 1050 1505 61008 61500 false (omega arith) (omega arith)) (passes 45 8 500 61008 61500 true (omega arith) (omega arith))), (tt, (tt, (tt, (tt, (passes_more 45 (record { at = 61008; now = 61500; opens = false }) _ 74050 74542 (passes 45 61008 61500 74050 74542 false (omega arith) (omega arith)) (passes_more 45 (record { at = 1050; now = 1541; opens = false }) _ 74050 74542 (passes 45 1050 1541 74050 74542 false (omega arith) (omega arith)) (passes_more 45 (record { at = 1050; now = 1505; opens = false }) _ 74050 74542 (passes 45 1050 1505 74050 74542 false (omega arith) (omega arith)) (passes 45 8 500 74050 74542 true (omega arith) (omega arith)))), tt))))))))))))));
+  clock = (tt, (tt, (tt, (tt, (tt, (passes 45 8 500 1050 1505 true (omega arith) (omega arith), (passes_more 45 second_reading first_readings 1050 1541 (passes 45 1050 1505 1050 1541 false (omega arith) (omega arith)) (passes 45 8 500 1050 1541 true (omega arith) (omega arith)), (tt, (passes_more 45 third_reading second_readings 61008 61500 (passes 45 1050 1541 61008 61500 false (omega arith) (omega arith)) (passes_more 45 second_reading first_readings 61008 61500 (passes 45 1050 1505 61008 61500 false (omega arith) (omega arith)) (passes 45 8 500 61008 61500 true (omega arith) (omega arith))), (tt, (tt, (tt, (tt, (passes_more 45 fourth_reading third_readings 74050 74542 (passes 45 61008 61500 74050 74542 false (omega arith) (omega arith)) (passes_more 45 third_reading second_readings 74050 74542 (passes 45 1050 1541 74050 74542 false (omega arith) (omega arith)) (passes_more 45 second_reading first_readings 74050 74542 (passes 45 1050 1505 74050 74542 false (omega arith) (omega arith)) (passes 45 8 500 74050 74542 true (omega arith) (omega arith)))), tt))))))))))))));
   orders = λ m i. elim i [
     | inl e ↦ subst InOrder (sym e) to_one
     | inr (inl e) ↦ subst InOrder (sym e) to_two
@@ -349,7 +368,7 @@ healed_hears = record {
     | inr (inr (inl e)) ↦ omega (arith, ap (λ (f : Queued). f.mark.step) e)
     | inr (inr (inr j)) ↦ absurd j
   ];
-  fast = (tt, (tt, (tt, (tt, (tt, (not_fast 8 500 1050 1505 (omega arith), (later_fast, (tt, (fast_more (record { at = 1050; now = 1541; opens = false }) _ 61008 61500 (fast_turn 1050 1541 61008 61500 (omega arith)) (fast_more (record { at = 1050; now = 1505; opens = false }) _ 61008 61500 (fast_turn 1050 1505 61008 61500 (omega arith)) (is_long_ago 8 500 61008 61500 (omega arith))), (tt, (tt, (tt, (tt, tt)))))))))))));
+  fast = (tt, (tt, (tt, (tt, (tt, (not_fast 8 500 1050 1505 (omega arith), (later_fast, (tt, (fast_more third_reading second_readings 61008 61500 (fast_turn 1050 1541 61008 61500 (omega arith)) (fast_more second_reading first_readings 61008 61500 (fast_turn 1050 1505 61008 61500 (omega arith)) (is_long_ago 8 500 61008 61500 (omega arith))), (tt, (tt, (tt, (tt, tt)))))))))))));
   rests = λ x number told moment word i mine recent less opened. absurd (omega (arith, (made_in_all x i).0, mine));
   apart = λ x y i j by what to to_too id less long recent recent_too. absurd (omega (arith, (made_in_all x i).1, to));
 }
