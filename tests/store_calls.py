@@ -1,7 +1,8 @@
 """Looks at the system calls by which the program keeps its stores, under strace.
 
 store_calls.py WAY PROGRAM BASE: in an empty folder. WAY is `order`, `write`, `part`, `sync`, `opening`, `twice` or
-`again`. The status is 0 where all is as it has to be, and 1 where it is not, or where there is no strace that may trace.
+`again`. The status is 0 where all is as it has to be, and 1 where it is not, or where there is no strace that may
+trace.
 """
 from __future__ import annotations
 

@@ -18,7 +18,7 @@ pub fn words_of_node(alloc: Global, words: &[String]) -> Result<Vec<String>, All
     Ok(of_node)
 }
 
-/// Puts the turns and the members that run here behind the base. One word alone is a member, which takes the most turns.
+/// Puts the turns and the members that run here behind the base. One word alone is a member that takes the most turns.
 #[tactic(auto, using(crate::proofs::CanWords::of_several))]
 fn push_turns_and_ids(
     alloc: Global,
