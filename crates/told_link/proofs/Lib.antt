@@ -1,3 +1,5 @@
+mod Ceilings
+mod FirstFrames
 mod Followers
 pub mod Listed
 mod Silences

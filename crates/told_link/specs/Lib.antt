@@ -1,4 +1,6 @@
 pub mod Following
 pub mod Hearing
 pub mod Silence
+pub mod Taking
+pub mod Terms
 pub mod Voice

@@ -1,18 +1,29 @@
 //! Laws of the definitions, each the contract of a function that does nothing.
 
-ghost use Rattle.std.specs.Prelude.{◌≡◌, ◌≢◌, ℕ, ◌+◌, ◌*◌, ◌<◌, ◌≤◌, ◌++◌, ◌∷◌, ◌⊎◌, ◌||◌, [], List, Option, Some, count_by, length, nat_eq, true, false};
+ghost use Rattle.std.specs.Prelude.{◌≡◌, ◌≢◌, ℕ, ◌+◌, ◌*◌, ◌<◌, ◌≤◌, ◌++◌, ◌∷◌, ◌⊎◌, ◌||◌, [], List, None, Option, Some, count_by, length, nat_eq, take, true, false};
 ghost use Rattle.alloc_spec.specs.Accepted.{is_of_members};
 ghost use Rattle.bus_spec.specs.Cluster.{is_member};
 ghost use Rattle.bus_spec.specs.Lawful.{is_forged};
 ghost use Rattle.can_frame.specs.Identifier.{identifier_of};
-ghost use Rattle.can_frame.specs.Kinds.{is_anonymous};
+ghost use Rattle.can_frame.specs.Kinds.{is_anonymous, is_service};
 ghost use Rattle.can_frame.specs.declared.identifier.Ident.{Ident};
+ghost use Rattle.can_frame.specs.Cutting.{Piece, frames_of, piece_from};
 ghost use Rattle.cluster_discovery.specs.Members.{is_on_list};
+ghost use Rattle.dsdl_codec.specs.AppendAnswer.{append_answer_of};
+ghost use Rattle.dsdl_codec.specs.AppendRequest.{append_request_of};
+ghost use Rattle.dsdl_codec.specs.VoteAnswer.{vote_answer_of};
+ghost use Rattle.dsdl_codec.specs.VoteRequest.{vote_request_of};
+ghost use Rattle.dsdl_codec.specs.declared.append_answer.AppendAnswer.{AppendAnswer};
+ghost use Rattle.dsdl_codec.specs.declared.append_request.AppendRequest.{AppendRequest};
+ghost use Rattle.dsdl_codec.specs.declared.vote_answer.VoteAnswer.{VoteAnswer};
+ghost use Rattle.dsdl_codec.specs.declared.vote_request.VoteRequest.{VoteRequest};
 ghost use Rattle.outside.specs.declared.received.RawFrame.{RawFrame};
 ghost use Rattle.told_link.specs.Following.{AnswerAt, ComeBefore, answered_by, has_answered, is_followed};
 ghost use Rattle.told_link.specs.Hearing.{wants_followers};
 ghost use Rattle.told_link.specs.Silence.{ComeSince, ComesBehindSilence, IsHeardOn, answer_counts, settling};
+ghost use Rattle.told_link.specs.Terms.{Coming, ComesAgain, ComeUntil, between_rises, ceiling_above, ceiling_for, first_number, is_below_ceiling, most_terms, takes_term, term_in, term_of};
 ghost use Rattle.told_link.specs.Voice.{fields_of, is_of_uavcan, voice_of};
+ghost use Rattle.told_link.specs.declared.terms.Ceiling.{Ceiling};
 ghost use Rattle.told_link.specs.declared.voice.Voice.TheVariants.{Other, Stranger};
 
 /// Which frames are a stranger's, to a member that is told a list: those with its own node ID, and those that members
@@ -81,4 +92,51 @@ pub fn who_is_answered_withholds_nothing()
         is_followed now me ids (answered_by answers) ≡ true }
     ensures alone { (now me : ℕ) (answered : ℕ → Option ℕ) → is_followed now me (me ∷ []) answered ≡ true }
     ensures untold { (raw : RawFrame) → wants_followers [] raw ≡ false }
+{}
+
+/// A term that is at most 1,000,000 above the first one that the member sent is taken, whatever came before. One that is
+/// further above it is not, within ten minutes.
+pub fn a_million_terms_are_taken()
+    ensures taken { (own first : ℕ) (before : List Coming) (coming : Coming) → coming.term ≤ own + most_terms →
+        takes_term (ceiling_above first own) before coming ≡ true }
+    ensures refused { (own first last : ℕ) (before : List Coming) (coming : Coming) → ComeUntil last (coming ∷ before) →
+        first ≤ last → last < first + between_rises → own + most_terms < coming.term →
+        takes_term (ceiling_above first own) before coming ≡ false }
+    // Before the member sent a term.
+    ensures unsent { (now term : ℕ) → 1000000 < term → is_below_ceiling term (ceiling_for now term None) ≡ false }
+{}
+
+/// A term that is taken is above the first one of the member by 1,000,000, and by as much for each ten minutes since then
+/// at the most. So the highest term, 2^32 - 1, takes 29 days.
+pub fn terms_go_up_slowly()
+    ensures { (own first : ℕ) (before : List Coming) (coming : Coming) → ComeUntil coming.now before →
+        first ≤ coming.now → takes_term (ceiling_above first own) before coming ≡ true →
+        (rises : ℕ) × (first + rises * between_rises ≤ coming.now) ×
+        (coming.term ≤ own + most_terms + rises * most_terms) }
+{}
+
+/// Whoever is far ahead, and calls again and again, is taken in the end: by the second call where it is up to 2,000,000
+/// ahead of the first term, and so on.
+pub fn who_calls_again_is_taken()
+    ensures { (ceiling : Ceiling) (before : List Coming) (coming : Coming) →
+        ComesAgain ceiling coming.term (coming ∷ before) →
+        coming.term ≤ ceiling.term + length (coming ∷ before) * most_terms →
+        takes_term ceiling before coming ≡ true }
+{}
+
+/// The term that is judged is the one that the member would read: the first frame of a payload has the number with which
+/// the payload begins, and with that each call and each answer begins.
+pub fn first_frames_have_the_term()
+    ensures frames { (signature id : ℕ) (payload : List ℕ) (first : Piece) (rest : List Piece) →
+        frames_of signature id payload ≡ first ∷ rest → term_of first ≡ first_number payload }
+    ensures terms { (raw : RawFrame) (ident : Ident) → fields_of raw ≡ Some ident → is_service ident.kind ≡ true →
+        is_of_members ident.kind ident.number ≡ true → term_in raw ≡ term_of (piece_from (take raw.len raw.bytes)) }
+    ensures vote_requests { (payload : List ℕ) (request : VoteRequest) → vote_request_of payload ≡ Some request →
+        first_number payload ≡ Some request.term }
+    ensures vote_answers { (payload : List ℕ) (answer : VoteAnswer) → vote_answer_of payload ≡ Some answer →
+        first_number payload ≡ Some answer.term }
+    ensures append_requests { (payload : List ℕ) (request : AppendRequest) →
+        append_request_of payload ≡ Some request → first_number payload ≡ Some request.term }
+    ensures append_answers { (payload : List ℕ) (answer : AppendAnswer) → append_answer_of payload ≡ Some answer →
+        first_number payload ≡ Some answer.term }
 {}

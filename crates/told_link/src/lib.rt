@@ -6,13 +6,22 @@
 //! AppendEntries count for nothing for half a second, since one may have been held until then
 //! (`specs/Silence.antt`). And a frame by which a leader gives a node ID goes out only where more than half of the list
 //! follow it (`specs/Following.antt`). What it makes of the link and the clock below stands in `specs/Hearing.antt`.
-//! [`laws`] has what follows of frames of members and devices, of answers behind a silence, and of followers.
+//!
+//! [`TermLink`] stands below it. A call or an answer whose term is above a ceiling is not handed on: the ceiling stands
+//! 1,000,000 above the first term that the member sent, and rises by as much once in ten minutes, where a higher one
+//! comes (`specs/Terms.antt`, `specs/Taking.antt`).
+//!
+//! [`laws`] has what follows of frames of members and devices, of answers behind a silence, of followers, and of terms.
 #![tactic(auto)]
 
 mod following;
 pub mod laws;
 mod link;
+mod past;
 mod silence;
+mod term_link;
+mod terms;
 mod voice;
 
 pub use link::ToldLink;
+pub use term_link::TermLink;

@@ -1,5 +1,7 @@
-ghost use Rattle.std.specs.Prelude.{◌≡◌, ◌<◌, ◌+◌, nat_le};
+ghost use Rattle.std.specs.Prelude.{◌≡◌};
 ghost use Rattle.told_link.specs.Silence as silences;
+
+use crate::past::is_past;
 
 /// A silence is at least so long, in milliseconds. Transfer IDs have 5 bits, and a call that is not answered is given
 /// up after 1,000 ms: so they come round after 32 s, and this is a third of it. Members that are heard speak each second.
@@ -44,12 +46,4 @@ pub fn counts(now: u64, heard: Heard) -> bool
     ensures { result ≡ silences.answers_count now heard }
 {
     is_past(now, heard.back, SETTLING)
-}
-
-/// Whether so much has passed, now, since an earlier reading.
-fn is_past(now: u64, since: u64, span: u64) -> bool
-    requires { 0 < span }
-    ensures { result ≡ nat_le (since + span) now }
-{
-    now.saturating_sub(since) >= span
 }

@@ -1,4 +1,4 @@
-ghost use Rattle.std.specs.Prelude.{◌≡◌, ◌<◌, ℕ, IfSome};
+ghost use Rattle.std.specs.Prelude.{◌≡◌, ◌<◌, ◌≤◌, ℕ, IfSome};
 ghost use Rattle.can_frame.specs.Sizes.{node_ids};
 ghost use Rattle.told_link.specs.Voice as voices;
 ghost use Rattle.told_link.specs.declared.voice.Voice.TheVariants.{Answer, Member};
@@ -48,6 +48,7 @@ pub fn voice_of(me: u8, ids: &[u8], frame: &RawFrame) -> Voice
 pub fn fields_of(frame: &RawFrame) -> Option<Ident>
     ensures fields { result ≡ voices.fields_of frame.now }
     ensures source { IfSome result (λ ident. ident.source < node_ids) }
+    ensures size { IfSome result (λ ident. (0 < frame.now.len) × (frame.now.len ≤ 8)) }
 {
     if frame.id >= FIRST_WIDE || frame.len == 0 || frame.len > MOST_DATA {
         return None;

@@ -1,0 +1,177 @@
+-- How a ceiling rises.
+use Rattle.std.proofs.Common.{◌≡◌, ◌≤◌, ◌<◌, ◌+◌, ◌*◌, ◌⊎◌, inl, inr, ℕ, suc, Bool, true, false, ◌&&◌, List, [], ◌∷◌, length, refl, arith, nat_le, nat_lt, if◌then◌else◌}
+use Rattle.std.proofs.lemmas.Bool.Decides.{leb_tells}
+use Rattle.told_link.specs.Terms.{Coming, ComesAgain, ComeUntil, between_rises, ceiling_above, ceiling_by, latest_reading, most_terms, raised_by, takes_term}
+use Rattle.told_link.specs.declared.terms.Ceiling.{Ceiling}
+
+-- a rise
+record Rises (now term : ℕ) (old new : Ceiling) : Type 0 where
+  above : old.term < term
+  late : old.since + between_rises ≤ now
+  term_is : new.term ≡ old.term + most_terms
+  since_is : new.since ≡ now
+
+-- none: the term is not too high, or the last rise is not so long ago
+record Stays (now term : ℕ) (old new : Ceiling) : Type 0 where
+  term_is : new.term ≡ old.term
+  since_is : new.since ≡ old.since
+  why : (term ≤ old.term) ⊎ (now < old.since + between_rises)
+
+either : (now term : ℕ) (old : Ceiling) (above late : Bool) →
+    ((above ≡ true) × (old.term < term)) ⊎ ((above ≡ false) × (term < suc old.term)) →
+    ((late ≡ true) × (old.since + between_rises ≤ now)) ⊎ ((late ≡ false) × (now < old.since + between_rises)) →
+    let new : Ceiling = if above && late then ceiling_above now old.term else old in
+    Rises now term old new ⊎ Stays now term old new
+either now term old true true (inl a) (inl l) = inl (record { above = a.1; late = l.1; term_is = refl; since_is = refl })
+either now term old true true (inl a) (inr l) = absurd (cc)
+either now term old true true (inr a) l = absurd (cc)
+either now term old true false a (inl l) = absurd (cc)
+either now term old true false a (inr l) = inr (record { term_is = refl; since_is = refl; why = inr l.1 })
+either now term old false late (inl a) l = absurd (cc)
+either now term old false late (inr a) l =
+    inr (record { term_is = refl; since_is = refl; why = inl (omega (arith, a)) })
+
+rises_or_stays : (now term : ℕ) (old : Ceiling) →
+    Rises now term old (raised_by now term old) ⊎ Stays now term old (raised_by now term old)
+rises_or_stays now term old = either now term old (nat_lt old.term term) (nat_le (old.since + between_rises) now)
+    (leb_tells (suc old.term) term) (leb_tells (old.since + between_rises) now)
+
+-- ---- it never falls
+
+falls_never : (first : Ceiling) (before : List Coming) → first.term ≤ (ceiling_by first before).term
+falls_never first [] = omega (arith)
+falls_never first (coming ∷ before) =
+    let so_far = falls_never first before in
+    elim (rises_or_stays coming.now coming.term (ceiling_by first before))
+    as (λ _. first.term ≤ (ceiling_by first (coming ∷ before)).term) [
+      | inl r ↦ let is = r.term_is in omega (arith, so_far, is)
+      | inr s ↦ let is = s.term_is in omega (arith, so_far, is)
+    ]
+
+not_above : (term ceiling : ℕ) → term ≤ ceiling → nat_le term ceiling ≡ true
+not_above term ceiling le = elim (leb_tells term ceiling) as (λ _. nat_le term ceiling ≡ true) [
+  | inl t ↦ t.0
+  | inr t ↦ absurd (omega (arith, le, t.1))
+]
+
+is_above : (term ceiling : ℕ) → ceiling < term → nat_le term ceiling ≡ false
+is_above term ceiling lt = elim (leb_tells term ceiling) as (λ _. nat_le term ceiling ≡ false) [
+  | inl t ↦ absurd (omega (arith, lt, t.1))
+  | inr t ↦ t.0
+]
+
+below : (term ceiling : ℕ) → nat_le term ceiling ≡ true → term ≤ ceiling
+below term ceiling is = elim (leb_tells term ceiling) as (λ _. term ≤ ceiling) [
+  | inl t ↦ t.1
+  | inr t ↦ absurd (cc)
+]
+
+pub taken : (own first : ℕ) (before : List Coming) (coming : Coming) → coming.term ≤ own + most_terms →
+    takes_term (ceiling_above first own) before coming ≡ true
+taken own first before coming le =
+    let more = falls_never (ceiling_above first own) (coming ∷ before) in
+    not_above coming.term (ceiling_by (ceiling_above first own) (coming ∷ before)).term (omega (arith, le, more))
+
+-- ---- it rises slowly
+
+record Bounded (own first last : ℕ) (ceiling : Ceiling) : Type 0 where
+  rises : ℕ
+  term_is : ceiling.term ≡ own + most_terms + rises * most_terms
+  since_is : first + rises * between_rises ≤ ceiling.since
+  until : ceiling.since ≤ last
+
+bounded : (own first last : ℕ) (before : List Coming) → ComeUntil last before → first ≤ last →
+    Bounded own first last (ceiling_by (ceiling_above first own) before)
+bounded own first last [] until le =
+    record { rises = 0; term_is = omega (arith); since_is = omega (arith); until = le }
+bounded own first last (coming ∷ before) until le =
+    let old = ceiling_by (ceiling_above first own) before in
+    let so_far = bounded own first last before until.1 le in
+    let count = so_far.rises in
+    let old_term = so_far.term_is in
+    let old_since = so_far.since_is in
+    let old_until = so_far.until in
+    let by = until.0 in
+    elim (rises_or_stays coming.now coming.term old)
+    as (λ _. Bounded own first last (ceiling_by (ceiling_above first own) (coming ∷ before))) [
+      | inl r ↦ let term = r.term_is in let since = r.since_is in let late = r.late in record {
+        rises = suc count;
+        term_is = omega (arith, old_term, term);
+        since_is = omega (arith, old_since, since, late);
+        until = omega (arith, since, by);
+      }
+      | inr s ↦ let term = s.term_is in let since = s.since_is in record {
+        rises = count;
+        term_is = omega (arith, old_term, term);
+        since_is = omega (arith, old_since, since);
+        until = omega (arith, since, old_until);
+      }
+    ]
+
+pub refused : (own first last : ℕ) (before : List Coming) (coming : Coming) → ComeUntil last (coming ∷ before) →
+    first ≤ last → last < first + between_rises → own + most_terms < coming.term →
+    takes_term (ceiling_above first own) before coming ≡ false
+refused own first last before coming until le soon high =
+    let is = bounded own first last (coming ∷ before) until le in
+    let rises = is.rises in
+    let term = is.term_is in
+    let since = is.since_is in
+    let late = is.until in
+    is_above coming.term (ceiling_by (ceiling_above first own) (coming ∷ before)).term
+    (omega (arith, soon, high, term, since, late))
+
+pub slowly : (own first : ℕ) (before : List Coming) (coming : Coming) → ComeUntil coming.now before →
+    first ≤ coming.now → takes_term (ceiling_above first own) before coming ≡ true →
+    (rises : ℕ) × (first + rises * between_rises ≤ coming.now) ×
+    (coming.term ≤ own + most_terms + rises * most_terms)
+slowly own first before coming until le is =
+    let ceiling = ceiling_by (ceiling_above first own) (coming ∷ before) in
+    let bound = bounded own first coming.now (coming ∷ before) (omega (arith), until) le in
+    let low = below coming.term ceiling.term is in
+    let term = bound.term_is in
+    let since = bound.since_is in
+    let late = bound.until in
+    (bound.rises, omega (arith, since, late), omega (arith, low, term))
+
+-- ---- a term that comes again
+
+record Climbs (first : Ceiling) (last term count : ℕ) (ceiling : Ceiling) : Type 0 where
+  since_is : ceiling.since ≤ last
+  term_is : (term ≤ ceiling.term) ⊎ (ceiling.term ≡ first.term + count * most_terms)
+
+climbs : (first : Ceiling) (term : ℕ) (before : List Coming) → ComesAgain first term before →
+    Climbs first (latest_reading first before) term (length before) (ceiling_by first before)
+climbs first term [] again = record { since_is = omega (arith); term_is = inr (omega (arith)) }
+climbs first term (coming ∷ before) again =
+    let old = ceiling_by first before in
+    let so_far = climbs first term before again.2 in
+    let old_since = so_far.since_is in
+    let same = again.0 in
+    let apart = again.1 in
+    elim (rises_or_stays coming.now coming.term old) as (λ _. Climbs first coming.now term (suc (length before))
+    (ceiling_by first (coming ∷ before))) [
+      | inl r ↦ let is = r.term_is in let since = r.since_is in let above = r.above in record {
+        since_is = omega (arith, since);
+        term_is = elim so_far.term_is [
+          | inl t ↦ absurd (omega (arith, t, above, same))
+          | inr t ↦ inr (omega (arith, t, is))
+        ];
+      }
+      | inr s ↦ let is = s.term_is in let since = s.since_is in record {
+        since_is = omega (arith, since, old_since, apart);
+        term_is = elim s.why [
+          | inl w ↦ inl (omega (arith, w, is, same))
+          | inr w ↦ absurd (omega (arith, w, old_since, apart))
+        ];
+      }
+    ]
+
+pub taken_again : (ceiling : Ceiling) (before : List Coming) (coming : Coming) →
+    ComesAgain ceiling coming.term (coming ∷ before) →
+    coming.term ≤ ceiling.term + length (coming ∷ before) * most_terms → takes_term ceiling before coming ≡ true
+taken_again ceiling before coming again le =
+    let is = climbs ceiling coming.term (coming ∷ before) again in
+    not_above coming.term (ceiling_by ceiling (coming ∷ before)).term (elim is.term_is [
+      | inl t ↦ t
+      | inr t ↦ omega (arith, t, le)
+    ])
