@@ -14,12 +14,18 @@ use std::fs;
 use std::fs::{File, Permissions};
 use std::os::unix::fs::PermissionsExt;
 use std::rt::Files;
-use told_link::ToldLink;
+use told_link::{TermLink, ToldLink};
 use udp_link::UdpLink;
 use watched_disk::{FileAtPath, WatchedDisk, open_watched};
 
 /// The store of a member that is told a list of them.
 type WatchedStore<'a> = WatchedDisk<FileDisk, FileAtPath<'a, HostRuntime>>;
+
+/// The link of a member over another one.
+type ListeningLink<'a, L> = ToldLink<
+    TermLink<L, StdClock<&'a HostRuntime>>,
+    StdClock<&'a HostRuntime>,
+>;
 
 /// The descriptors of the standard streams are those below this.
 const STREAMS: usize = 3;
@@ -71,22 +77,33 @@ fn or_refusal(opened: Result<UdpLink, Failed>) -> Result<UdpLink, Refusal>
     }
 }
 
-/// The link of a member over this one, which listens for strangers where the member is told the list of its cluster.
+/// The link of a member over this one. Where the member is told the list of its cluster, it takes no term that is far
+/// ahead, and listens for strangers.
 pub fn listening_link<'a, L: Link>(
     rt: &'a HostRuntime,
     link: L,
     told: &Told,
     id: u8,
-) -> ToldLink<L, StdClock<&'a HostRuntime>>
-    ensures link { result.link ≡ link }
-    ensures me { result.me ≡ id }
-    ensures list { result.ids.items ≡ list_of told.now }
+) -> ListeningLink<'a, L>
+    ensures link { result.link.link ≡ link }
+    ensures me { (result.me ≡ id) × (result.link.me ≡ id) }
+    ensures list { (result.ids.items ≡ list_of told.now) × (result.link.ids.items ≡ list_of told.now) }
 {
-    let clock = StdClock::new(rt);
     match told {
-        Told::Size(_) => ToldLink::new(link, clock, id, &[]),
-        Told::Members(members) => ToldLink::new(link, clock, id, members),
+        Told::Size(_) => over(rt, link, id, &[]),
+        Told::Members(members) => over(rt, link, id, members),
     }
+}
+
+/// The same, for a member that is told this list. An empty one stands for none.
+fn over<'a, L: Link>(rt: &'a HostRuntime, link: L, id: u8, list: &[u8]) -> ListeningLink<'a, L>
+    requires { length list.now ≤ most_members }
+    ensures link { result.link.link ≡ link }
+    ensures me { (result.me ≡ id) × (result.link.me ≡ id) }
+    ensures list { (result.ids.items ≡ list.now) × (result.link.ids.items ≡ list.now) }
+{
+    let link = TermLink::new(link, StdClock::new(rt), id, list);
+    ToldLink::new(link, StdClock::new(rt), id, list)
 }
 
 /// The stores of these members, each in its file. A missing file is made.
