@@ -18,10 +18,11 @@ ghost use Rattle.dsdl_codec.specs.declared.append_request.AppendRequest.{AppendR
 ghost use Rattle.dsdl_codec.specs.declared.vote_answer.VoteAnswer.{VoteAnswer};
 ghost use Rattle.dsdl_codec.specs.declared.vote_request.VoteRequest.{VoteRequest};
 ghost use Rattle.outside.specs.declared.received.RawFrame.{RawFrame};
+ghost use Rattle.outside.specs.declared.received.Received.TheVariants.{Frame};
 ghost use Rattle.told_link.specs.Following.{AnswerAt, ComeBefore, answered_by, has_answered, is_followed};
 ghost use Rattle.told_link.specs.Hearing.{wants_followers};
 ghost use Rattle.told_link.specs.Silence.{ComeSince, ComesBehindSilence, IsHeardOn, answer_counts, settling};
-ghost use Rattle.told_link.specs.Terms.{Coming, ComesAgain, ComeUntil, between_rises, ceiling_above, ceiling_for, first_number, is_below_ceiling, most_terms, takes_term, term_in, term_of};
+ghost use Rattle.told_link.specs.Terms.{Coming, ComesAgain, ComeUntil, between_rises, ceiling_above, ceiling_for, first_number, is_below_ceiling, most_terms, takes_term, term_in, term_of, term_to};
 ghost use Rattle.told_link.specs.Voice.{fields_of, is_of_uavcan, voice_of};
 ghost use Rattle.told_link.specs.declared.terms.Ceiling.{Ceiling};
 ghost use Rattle.told_link.specs.declared.voice.Voice.TheVariants.{Other, Stranger};
@@ -131,6 +132,9 @@ pub fn first_frames_have_the_term()
         frames_of signature id payload ≡ first ∷ rest → term_of first ≡ first_number payload }
     ensures terms { (raw : RawFrame) (ident : Ident) → fields_of raw ≡ Some ident → is_service ident.kind ≡ true →
         is_of_members ident.kind ident.number ≡ true → term_in raw ≡ term_of (piece_from (take raw.len raw.bytes)) }
+    ensures listed { (me : ℕ) (ids : List ℕ) (raw : RawFrame) (ident : Ident) → fields_of raw ≡ Some ident →
+        is_anonymous ident.kind ≡ false → is_on_list ids ident.source ≡ true → ident.source ≢ me →
+        term_to me ids (Frame raw) ≡ term_in raw }
     ensures vote_requests { (payload : List ℕ) (request : VoteRequest) → vote_request_of payload ≡ Some request →
         first_number payload ≡ Some request.term }
     ensures vote_answers { (payload : List ℕ) (answer : VoteAnswer) → vote_answer_of payload ≡ Some answer →
