@@ -1,7 +1,7 @@
 -- How a ceiling rises.
-use Rattle.std.proofs.Common.{◌≡◌, ◌≤◌, ◌<◌, ◌+◌, ◌*◌, ◌⊎◌, inl, inr, ℕ, suc, Bool, true, false, ◌&&◌, List, [], ◌∷◌, length, refl, arith, nat_le, nat_lt, if◌then◌else◌}
+use Rattle.std.proofs.Common.{◌≡◌, ◌≤◌, ◌<◌, ◌+◌, ◌*◌, ◌⊎◌, inl, inr, ℕ, suc, Bool, true, false, ◌&&◌, List, [], ◌∷◌, refl, arith, nat_le, nat_lt, if◌then◌else◌}
 use Rattle.std.proofs.lemmas.Bool.Decides.{leb_tells}
-use Rattle.told_link.specs.Terms.{Coming, ComesAgain, ComeUntil, between_rises, ceiling_above, ceiling_by, latest_reading, most_terms, raised_by, takes_term}
+use Rattle.told_link.specs.Terms.{CallsOn, Coming, ComeUntil, between_rises, ceiling_above, ceiling_by, last_call, longest_pause, most_terms, raised_by, takes_term}
 use Rattle.told_link.specs.declared.terms.Ceiling.{Ceiling}
 
 -- a rise
@@ -133,45 +133,95 @@ slowly own first before coming until le is =
     let late = bound.until in
     (bound.rises, omega (arith, since, late), omega (arith, low, term))
 
--- ---- a term that comes again
+-- ---- a term that comes again and again
 
-record Climbs (first : Ceiling) (last term count : ℕ) (ceiling : Ceiling) : Type 0 where
-  since_is : ceiling.since ≤ last
-  term_is : (term ≤ ceiling.term) ⊎ (ceiling.term ≡ first.term + count * most_terms)
+-- after so many rises it was not taken, and the last one is not long ago
+record Climbs (first : Ceiling) (last term : ℕ) (ceiling : Ceiling) : Type 0 where
+  rises : ℕ
+  term_is : ceiling.term ≡ first.term + rises * most_terms
+  since_is : ceiling.since ≤ first.since + rises * (between_rises + longest_pause)
+  soon : last < ceiling.since + between_rises
 
-climbs : (first : Ceiling) (term : ℕ) (before : List Coming) → ComesAgain first term before →
-    Climbs first (latest_reading first before) term (length before) (ceiling_by first before)
-climbs first term [] again = record { since_is = omega (arith); term_is = inr (omega (arith)) }
-climbs first term (coming ∷ before) again =
-    let old = ceiling_by first before in
-    let so_far = climbs first term before again.2 in
-    let old_since = so_far.since_is in
-    let same = again.0 in
-    let apart = again.1 in
-    elim (rises_or_stays coming.now coming.term old) as (λ _. Climbs first coming.now term (suc (length before))
-    (ceiling_by first (coming ∷ before))) [
-      | inl r ↦ let is = r.term_is in let since = r.since_is in let above = r.above in record {
-        since_is = omega (arith, since);
-        term_is = elim so_far.term_is [
-          | inl t ↦ absurd (omega (arith, t, above, same))
-          | inr t ↦ inr (omega (arith, t, is))
-        ];
-      }
-      | inr s ↦ let is = s.term_is in let since = s.since_is in record {
-        since_is = omega (arith, since, old_since, apart);
-        term_is = elim s.why [
-          | inl w ↦ inl (omega (arith, w, is, same))
-          | inr w ↦ absurd (omega (arith, w, old_since, apart))
-        ];
-      }
+step : (first : Ceiling) (term last now called : ℕ) (old new : Ceiling) (calls : Bool) →
+    ((calls ≡ true) × (term ≤ called)) ⊎ ((calls ≡ false) × (called < term)) → now ≤ last + longest_pause →
+    Rises now called old new ⊎ Stays now called old new → (term ≤ old.term) ⊎ Climbs first last term old →
+    (term ≤ new.term) ⊎ Climbs first (if calls then now else last) term new
+step first term last now called old new calls it soon (inl r) (inl t) =
+    let is = r.term_is in inl (omega (arith, t, is))
+step first term last now called old new calls it soon (inr s) (inl t) =
+    let is = s.term_is in inl (omega (arith, t, is))
+step first term last now called old new true it soon (inl r) (inr c) =
+    let is = r.term_is in let since = r.since_is in
+    let old_term = c.term_is in let old_since = c.since_is in let old_soon = c.soon in
+    inr (record {
+      rises = suc c.rises;
+      term_is = omega (arith, is, old_term);
+      since_is = omega (arith, since, old_since, old_soon, soon);
+      soon = omega (arith, since);
+    })
+step first term last now called old new false it soon (inl r) (inr c) =
+    let is = r.term_is in let since = r.since_is in let late = r.late in
+    let old_term = c.term_is in let old_since = c.since_is in let old_soon = c.soon in
+    inr (record {
+      rises = suc c.rises;
+      term_is = omega (arith, is, old_term);
+      since_is = omega (arith, since, old_since, old_soon, soon);
+      soon = omega (arith, since, late, old_soon);
+    })
+step first term last now called old new true (inr no_call) soon (inr s) (inr c) = absurd (cc)
+step first term last now called old new true (inl call) soon (inr s) (inr c) =
+    let is = s.term_is in let since = s.since_is in
+    let old_term = c.term_is in let old_since = c.since_is in let high = call.1 in
+    elim s.why [
+      | inl w ↦ inl (omega (arith, w, is, high))
+      | inr w ↦ inr (record {
+        rises = c.rises;
+        term_is = omega (arith, is, old_term);
+        since_is = omega (arith, since, old_since);
+        soon = omega (arith, since, w);
+      })
+    ]
+step first term last now called old new false it soon (inr s) (inr c) =
+    let is = s.term_is in let since = s.since_is in
+    let old_term = c.term_is in let old_since = c.since_is in let old_soon = c.soon in
+    inr (record {
+      rises = c.rises;
+      term_is = omega (arith, is, old_term);
+      since_is = omega (arith, since, old_since);
+      soon = omega (arith, since, old_soon);
+    })
+
+climbs : (first : Ceiling) (term : ℕ) (before : List Coming) → CallsOn first term before →
+    (term ≤ (ceiling_by first before).term) ⊎ Climbs first (last_call first term before) term (ceiling_by first before)
+climbs first term [] calls = inr (record {
+  rises = 0;
+  term_is = omega (arith);
+  since_is = omega (arith);
+  soon = omega (arith);
+})
+climbs first term (coming ∷ before) calls = step first term (last_call first term before) coming.now coming.term
+    (ceiling_by first before) (ceiling_by first (coming ∷ before)) (nat_le term coming.term)
+    (leb_tells term coming.term) calls.0 (rises_or_stays coming.now coming.term (ceiling_by first before))
+    (climbs first term before calls.1)
+
+last_is : (first : Ceiling) (before : List Coming) (coming : Coming) →
+    last_call first coming.term (coming ∷ before) ≡ coming.now
+last_is first before coming = elim (leb_tells coming.term coming.term)
+    as (λ _. last_call first coming.term (coming ∷ before) ≡ coming.now) [
+      | inl t ↦ rw (t.0) refl
+      | inr t ↦ absurd (omega (arith, t.1))
     ]
 
-pub taken_again : (ceiling : Ceiling) (before : List Coming) (coming : Coming) →
-    ComesAgain ceiling coming.term (coming ∷ before) →
-    coming.term ≤ ceiling.term + length (coming ∷ before) * most_terms → takes_term ceiling before coming ≡ true
-taken_again ceiling before coming again le =
-    let is = climbs ceiling coming.term (coming ∷ before) again in
-    not_above coming.term (ceiling_by ceiling (coming ∷ before)).term (elim is.term_is [
+pub taken_on : (ceiling : Ceiling) (spans : ℕ) (before : List Coming) (coming : Coming) →
+    CallsOn ceiling coming.term (coming ∷ before) → coming.term ≤ ceiling.term + spans * most_terms →
+    ceiling.since + spans * (between_rises + longest_pause) ≤ coming.now → takes_term ceiling before coming ≡ true
+taken_on ceiling spans before coming calls low late =
+    not_above coming.term (ceiling_by ceiling (coming ∷ before)).term
+    (elim (climbs ceiling coming.term (coming ∷ before) calls) [
       | inl t ↦ t
-      | inr t ↦ omega (arith, t, le)
+      | inr c ↦ let count = c.rises in let term = c.term_is in let since = c.since_is in let soon = c.soon in
+          let now = last_is ceiling before coming in elim (leb_tells spans count) [
+            | inl t ↦ let enough = t.1 in omega (arith, low, term, enough)
+            | inr t ↦ let few = t.1 in absurd (omega (arith, late, since, soon, now, few))
+          ]
     ])

@@ -1,7 +1,7 @@
 -- Which terms a member takes from calls and answers: a ceiling stands 1,000,000 above the first term that the member
 -- sends. Where a higher term comes, the ceiling rises by 1,000,000, once in ten minutes. So terms cannot be used up in a
 -- hurry; and whoever is far ahead, and goes on to call, is heard in the end.
-use Rattle.std.specs.Prelude.{◌≡◌, ℕ, ◌+◌, ◌≤◌, ◌&&◌, nat_le, nat_lt, Bool, List, [], ◌∷◌, Option, Some, None, ⊤, take, if◌then◌else◌}
+use Rattle.std.specs.Prelude.{ℕ, ◌+◌, ◌≤◌, ◌&&◌, nat_le, nat_lt, Bool, List, [], ◌∷◌, Option, Some, None, ⊤, take, if◌then◌else◌}
 use Rattle.std.specs.Int.{from_le_bytes, w32}
 use Rattle.can_frame.specs.Cutting.{Piece, piece_from}
 use Rattle.can_frame.specs.Kinds.{is_service}
@@ -120,13 +120,17 @@ abbrev pub ComeUntil : ℕ → List Coming → Type 0
 ComeUntil last [] = ⊤
 ComeUntil last (coming ∷ before) = (coming.now ≤ last) × ComeUntil last before
 
--- the reading of the last of these, or that at which the ceiling was set
-abbrev pub latest_reading : Ceiling → List Coming → ℕ
-latest_reading first [] = first.since
-latest_reading first (coming ∷ before) = coming.now
+-- a call of whoever calls on comes once in so long at least, in milliseconds
+abbrev pub longest_pause : ℕ
+longest_pause = 60000
 
--- these have all this term, and come ten minutes apart or more
-abbrev pub ComesAgain : Ceiling → ℕ → List Coming → Type 0
-ComesAgain first term [] = ⊤
-ComesAgain first term (coming ∷ before) = (coming.term ≡ term) × (latest_reading first before + between_rises ≤ coming.now)
-    × ComesAgain first term before
+-- the reading at which this term, or a higher one, came last; or that at which the ceiling was set
+abbrev pub last_call : Ceiling → ℕ → List Coming → ℕ
+last_call first term [] = first.since
+last_call first term (coming ∷ before) = if nat_le term coming.term then coming.now else last_call first term before
+
+-- among all that comes this term, or a higher one, comes once in so long at least
+abbrev pub CallsOn : Ceiling → ℕ → List Coming → Type 0
+CallsOn first term [] = ⊤
+CallsOn first term (coming ∷ before) = (coming.now ≤ last_call first term before + longest_pause)
+    × CallsOn first term before
