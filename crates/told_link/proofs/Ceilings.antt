@@ -1,7 +1,7 @@
 -- How a ceiling rises.
 use Rattle.std.proofs.Common.{◌≡◌, ◌≤◌, ◌<◌, ◌+◌, ◌*◌, ◌⊎◌, inl, inr, ℕ, suc, Bool, true, false, ◌&&◌, List, [], ◌∷◌, refl, arith, nat_le, nat_lt, if◌then◌else◌}
 use Rattle.std.proofs.lemmas.Bool.Decides.{leb_tells}
-use Rattle.told_link.specs.Terms.{CallsOn, Coming, ComeUntil, between_rises, ceiling_above, ceiling_by, last_call, longest_pause, most_terms, raised_by, takes_term}
+use Rattle.told_link.specs.Terms.{CallsOn, Coming, ComeUntil, between_rises, ceiling_above, ceiling_by, last_time_of, between_calls, most_terms, raised_by, takes_term}
 use Rattle.told_link.specs.declared.terms.Ceiling.{Ceiling}
 
 -- a rise
@@ -139,11 +139,11 @@ slowly own first before coming until le is =
 record Climbs (first : Ceiling) (last term : ℕ) (ceiling : Ceiling) : Type 0 where
   rises : ℕ
   term_is : ceiling.term ≡ first.term + rises * most_terms
-  since_is : ceiling.since ≤ first.since + rises * (between_rises + longest_pause)
+  since_is : ceiling.since ≤ first.since + rises * (between_rises + between_calls)
   soon : last < ceiling.since + between_rises
 
 step : (first : Ceiling) (term last now called : ℕ) (old new : Ceiling) (calls : Bool) →
-    ((calls ≡ true) × (term ≤ called)) ⊎ ((calls ≡ false) × (called < term)) → now ≤ last + longest_pause →
+    ((calls ≡ true) × (term ≤ called)) ⊎ ((calls ≡ false) × (called < term)) → now ≤ last + between_calls →
     Rises now called old new ⊎ Stays now called old new → (term ≤ old.term) ⊎ Climbs first last term old →
     (term ≤ new.term) ⊎ Climbs first (if calls then now else last) term new
 step first term last now called old new calls it soon (inl r) (inl t) =
@@ -192,29 +192,29 @@ step first term last now called old new false it soon (inr s) (inr c) =
     })
 
 climbs : (first : Ceiling) (term : ℕ) (before : List Coming) → CallsOn first term before →
-    (term ≤ (ceiling_by first before).term) ⊎ Climbs first (last_call first term before) term (ceiling_by first before)
+    (term ≤ (ceiling_by first before).term) ⊎ Climbs first (last_time_of first term before) term (ceiling_by first before)
 climbs first term [] calls = inr (record {
   rises = 0;
   term_is = omega (arith);
   since_is = omega (arith);
   soon = omega (arith);
 })
-climbs first term (coming ∷ before) calls = step first term (last_call first term before) coming.now coming.term
+climbs first term (coming ∷ before) calls = step first term (last_time_of first term before) coming.now coming.term
     (ceiling_by first before) (ceiling_by first (coming ∷ before)) (nat_le term coming.term)
     (leb_tells term coming.term) calls.0 (rises_or_stays coming.now coming.term (ceiling_by first before))
     (climbs first term before calls.1)
 
 last_is : (first : Ceiling) (before : List Coming) (coming : Coming) →
-    last_call first coming.term (coming ∷ before) ≡ coming.now
+    last_time_of first coming.term (coming ∷ before) ≡ coming.now
 last_is first before coming = elim (leb_tells coming.term coming.term)
-    as (λ _. last_call first coming.term (coming ∷ before) ≡ coming.now) [
+    as (λ _. last_time_of first coming.term (coming ∷ before) ≡ coming.now) [
       | inl t ↦ rw (t.0) refl
       | inr t ↦ absurd (omega (arith, t.1))
     ]
 
 pub taken_on : (ceiling : Ceiling) (spans : ℕ) (before : List Coming) (coming : Coming) →
     CallsOn ceiling coming.term (coming ∷ before) → coming.term ≤ ceiling.term + spans * most_terms →
-    ceiling.since + spans * (between_rises + longest_pause) ≤ coming.now → takes_term ceiling before coming ≡ true
+    ceiling.since + spans * (between_rises + between_calls) ≤ coming.now → takes_term ceiling before coming ≡ true
 taken_on ceiling spans before coming calls low late =
     not_above coming.term (ceiling_by ceiling (coming ∷ before)).term
     (elim (climbs ceiling coming.term (coming ∷ before) calls) [

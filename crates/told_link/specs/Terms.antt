@@ -121,16 +121,16 @@ ComeUntil last [] = ⊤
 ComeUntil last (coming ∷ before) = (coming.now ≤ last) × ComeUntil last before
 
 -- a call of whoever calls on comes once in so long at least, in milliseconds
-abbrev pub longest_pause : ℕ
-longest_pause = 60000
+abbrev pub between_calls : ℕ
+between_calls = 60000
 
 -- the reading at which this term, or a higher one, came last; or that at which the ceiling was set
-abbrev pub last_call : Ceiling → ℕ → List Coming → ℕ
-last_call first term [] = first.since
-last_call first term (coming ∷ before) = if nat_le term coming.term then coming.now else last_call first term before
+abbrev pub last_time_of : Ceiling → ℕ → List Coming → ℕ
+last_time_of first term [] = first.since
+last_time_of first term (coming ∷ before) = if nat_le term coming.term then coming.now else last_time_of first term before
 
 -- among all that comes this term, or a higher one, comes once in so long at least
 abbrev pub CallsOn : Ceiling → ℕ → List Coming → Type 0
 CallsOn first term [] = ⊤
-CallsOn first term (coming ∷ before) = (coming.now ≤ last_call first term before + longest_pause)
+CallsOn first term (coming ∷ before) = (coming.now ≤ last_time_of first term before + between_calls)
     × CallsOn first term before

@@ -22,7 +22,7 @@ ghost use Rattle.outside.specs.declared.received.Received.TheVariants.{Frame};
 ghost use Rattle.told_link.specs.Following.{AnswerAt, ComeBefore, answered_by, has_answered, is_followed};
 ghost use Rattle.told_link.specs.Hearing.{wants_followers};
 ghost use Rattle.told_link.specs.Silence.{ComeSince, ComesBehindSilence, IsHeardOn, answer_counts, settling};
-ghost use Rattle.told_link.specs.Terms.{CallsOn, Coming, ComeUntil, between_rises, ceiling_above, ceiling_for, first_number, is_below_ceiling, longest_pause, most_terms, takes_term, term_in, term_of, term_to};
+ghost use Rattle.told_link.specs.Terms.{CallsOn, Coming, ComeUntil, between_rises, ceiling_above, ceiling_for, first_number, is_below_ceiling, between_calls, most_terms, takes_term, term_in, term_of, term_to};
 ghost use Rattle.told_link.specs.Voice.{fields_of, is_of_uavcan, voice_of};
 ghost use Rattle.told_link.specs.declared.terms.Ceiling.{Ceiling};
 ghost use Rattle.told_link.specs.declared.voice.Voice.TheVariants.{Other, Stranger};
@@ -121,7 +121,7 @@ pub fn terms_go_up_slowly()
 pub fn who_calls_on_is_taken()
     ensures { (ceiling : Ceiling) (spans : ℕ) (before : List Coming) (coming : Coming) →
         CallsOn ceiling coming.term (coming ∷ before) → coming.term ≤ ceiling.term + spans * most_terms →
-        ceiling.since + spans * (between_rises + longest_pause) ≤ coming.now →
+        ceiling.since + spans * (between_rises + between_calls) ≤ coming.now →
         takes_term ceiling before coming ≡ true }
 {}
 
