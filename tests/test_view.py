@@ -5,6 +5,7 @@ import hashlib
 import json
 import pathlib
 import re
+import shutil
 import sys
 import tempfile
 import unittest
@@ -169,6 +170,50 @@ class Pages(ViewCase):
         """`bench/pages --picture` writes it, and the sum of the page that it is of."""
         page = (EXAMPLES / "a_real_bus/page.html").read_bytes()
         self.assertEqual(hashlib.sha256(page).hexdigest() + "\n", read(ROOT / "docs/a_real_bus.sum"))
+
+
+@unittest.skipUnless(shutil.which("node"), "there is no node on the PATH")
+class Stories(ViewCase):
+    """What a page says in words before its picture."""
+
+    def story(self, facts: Facts) -> Tuple[str, List[str], int]:
+        code = """
+            const Story = require(process.argv[1]), facts = JSON.parse(require("fs").readFileSync(0, "utf8"));
+            const {main, left} = Story.events(facts);
+            process.stdout.write(JSON.stringify([Story.outcome(facts), main.map(one => one.join(" ")), left]));
+        """
+        words = ["node", "-e", code, ROOT / "tools/caldrouz/story.js"]
+        outcome, events, left = json.loads(Ended(words, input=json.dumps(facts).encode()).written)
+        return outcome, events, left
+
+    def test_it_says_who_has_which_node_id_who_led_and_what_happened(self) -> None:
+        """What examples/README.md says of the example, whose row 122 stops the leader."""
+        outcome, events, left = self.story(self.view_example("three_lose_their_leader"))
+        self.assertEqual(
+            outcome,
+            "The device … 0b0c0d0e0f was told node ID 125 and the device … 4030201000 was told node ID 124. "
+            "Member 1 led in term 1 and member 2 led in term 2.",
+        )
+        self.assertEqual(left, 0)
+        self.assertEqual([events[0], events[6]], ["1 member 1 starts", "122 member 1 stops"])
+        self.assertIn("133 member 2 leads, in term 2", events)
+        self.assertEqual(events[-1], "208 the device … 4030201000 is told node ID 124")
+
+    def test_a_row_that_is_refused_is_its_last_event(self) -> None:
+        facts = self.view_example("a_torn_transfer_to_an_allocatee")
+        outcome, events, _ = self.story(facts)
+        self.assertEqual(outcome, "No device was told a node ID. Member 1 led in term 1.")
+        self.assertIn("row 80", events[-1])
+        self.assertIn("cause 7", events[-1])
+
+    def test_of_many_events_the_main_ones_are_told(self) -> None:
+        """Openings, each an event; then one who leads, which no opening may hide."""
+        rows = [row for at in range(8) for row in (f"open 1 {at} 0", "crash 1 0 old")]
+        rows += ["open 1 90 0", "tick 1 2000 0"]
+        lines = [*["1 open 0 0 0 0", "1 stop"] * 8, "1 open 0 0 0 0", "1 L 1 0 0 1 tick", "log 1 0", f"end {len(rows)}"]
+        _, events, left = self.story(self.view(*self.written(rows, lines)))
+        self.assertEqual((len(events), left), (10, 8))
+        self.assertEqual(events[-1], "18 member 1 leads, in term 1")
 
 
 class Refusals(ViewCase):

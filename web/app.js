@@ -75,13 +75,13 @@ async function sha256(bytes) {
 // --- the modes
 
 const FORMATS = ["candump", "slcan"];
-const LINES = {name: "lines", about: "most lines", value: "1000000"};
+const LINES = {name: "lines", about: "lines, at most", value: "1000000"};
 const MODES = {
   replay: {
     label: "Replay", input: "Schedule", unit: "row",
     hint: "What happened, a row for each event. Edit it: the answer follows. A click goes to the row in the picture.",
     ranges: "1 to 1,000,000 rows, and 1 to 5 different members with node IDs of 1 to 125",
-    fields: [{name: "rows", about: "most rows", value: "100000"}, {name: "ids", about: "members", value: "1 2 3"}],
+    fields: [{name: "rows", about: "rows, at most", value: "100000"}, {name: "ids", about: "members", value: "1 2 3"}],
   },
   soak: {
     label: "Soak", input: "Stops, losses and repeats by chance",
@@ -382,7 +382,7 @@ function draw_run() {
   $("part_last").textContent = `${last.toLocaleString("en")} of ${total.toLocaleString("en")}`;
   $("summary").textContent = Facts.summary(run);
   $("run").hidden = false;
-  Picture.open(Facts.facts(run, "", state.first, last), Math.min(state.row, last) || state.first);
+  Picture.open(Facts.facts(run, "", state.first, last), Math.min(state.row, last));
 }
 Picture.moved = row => {
   state.row = row;

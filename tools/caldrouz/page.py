@@ -88,11 +88,11 @@ def page(run: Run, title: str) -> str:
     fields = {
         "TITLE": html.escape(title),
         "SUMMARY": html.escape(summary(run)),
-        "END": html.escape(run.end_words),
+        "END": re.sub(r"`([^`]*)`", r"<code>\1</code>", html.escape(run.end_words)),
         "ENDKIND": run.end,
         "DATA": json.dumps(facts(run, title), separators=(",", ":")).replace("<", "\\u003c"),
         "STYLE": part("page.css"),
         "PICTURE": part("picture.html"),
-        "SCRIPT": part("picture.js"),
+        "SCRIPT": part("story.js") + part("picture.js"),
     }
     return FIELD.sub(lambda field: fields[field[1]], part("view.html"))

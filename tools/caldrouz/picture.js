@@ -5,8 +5,9 @@ const Picture = (() => {
 const $ = id => document.getElementById(id);
 let facts, first, last, lanes, rows, lines, moments, count, outside_used;
 const esc = text => String(text).replace(/[&<>"]/g, c => ({"&": "&amp;", "<": "&lt;", ">": "&gt;", '"': "&quot;"}[c]));
+const coded = text => esc(text).replace(/`([^`]*)`/g, "<code>$1</code>");
 const LEFT = 112, RIGHT = 44, TOP = 42, BAR = 26, GRAPH = 24, GAP = 30, LONG_PAUSE = 10000;
-let current = 0, scale = 1, fitted = true, axis = "row", places_of = [], end_of_axis = 1, breaks = [], drawn = {y: []};
+let current = 0, scale = 1, fitted = true, axis = "time", places_of = [], end_of_axis = 1, breaks = [], drawn = {y: []};
 
 // --- the axis: where a row stands, from 0
 function set_axis() {
@@ -95,9 +96,11 @@ function draw(whole) {
       if (b < LEFT || a > w) return;
       const words = `${lane.name}, rows ${r} to ${until - 1}: ${role_words(what)}` + ("FCL".includes(what) ? `, term ${term}` : what === "hold" ? ` (${term})` : "");
       out.push(`<rect class="${what}" x="${a}" y="${y[i] + (tall === 15 ? 2 : 0)}" width="${Math.max(.6, b - a)}" height="${tall}"><title>${esc(words)}</title></rect>`);
-      const label = "FCL".includes(what) ? `${what} ${term}` : what === "hold" ? `holds ${term}` : {stopped: "stopped", failed: "failed", wait: "waits", never: lane.kind === "member" ? "not opened" : "not there", gone: ""}[what];
+      const labels = "FCL".includes(what) ? [`${role_words(what)}, term ${term}`, `${what} ${term}`] : what === "hold" ? [`holds ${term}`] :
+        [{stopped: "stopped", failed: "failed", wait: "waits", never: lane.kind === "member" ? "not opened" : "not there", gone: ""}[what]];
       const beside = what === "hold" ? 40 : begun.has(`${r} ${i}`) ? 12 : 4; // what a mark at its start leaves free
-      if (label && b - a > 7 * label.length + beside) out.push(`<text class="${what === "stopped" || what === "failed" ? "dark" : "in"}" x="${a + beside}" y="${y[i] + (tall === 15 ? 13 : 17)}">${label}</text>`);
+      const label = labels.find(one => b - a > 7 * one.length + beside);
+      if (label) out.push(`<text class="${what === "stopped" || what === "failed" ? "dark" : "in"}" x="${a + beside}" y="${y[i] + (tall === 15 ? 13 : 17)}">${label}</text>`);
     });
     if (lane.kind !== "member") continue;
     const base = y[i] + BAR + GRAPH - 3, value = v => base - (GRAPH - 6) * v / peak;
@@ -148,7 +151,7 @@ function draw(whole) {
   for (const i of shown_lanes()) {
     const lane = lanes[i], device = lane.kind === "device" || lane.kind === "heard";
     out.push(`<text class="${device ? "small" : "name"}" x="6" y="${y[i] + (lane.kind === "member" ? 17 : 13)}">${esc(short_name(lane))}<title>${esc(device ? "the device " + lane.name : lane.name)}</title></text>`);
-    if (lane.kind === "member") out.push(`<text class="small" x="6" y="${y[i] + BAR + 15}">log, 0 to ${peak}</text>`);
+    if (lane.kind === "member") out.push(`<text class="small" x="6" y="${y[i] + BAR + 15}">log: 0 to ${peak} entries</text>`);
   }
   const now = x(place(current));
   if (now >= LEFT) out.push(`<line class="now" id="now" x1="${now}" x2="${now}" y1="${TOP - 10}" y2="${bottom}"/>`);
@@ -191,7 +194,7 @@ function show(r, bring) {
   const from = Math.max(first, Math.min(current - 6, last - 12)), to = Math.min(last, from + 12);
   for (let i = from; i <= to; i++)
     text += `<tr${i === current ? ' class="now" aria-current="true"' : ""}><td class="n"><a href="#${i}">${i}</a><td class="n">${moments[i - first].toLocaleString("en")}<td>${esc(rows[i - first])}<td>${esc(lines[i - first])}<td>${esc(says(i))}</tr>`;
-  if (to === last && last === facts.total && facts.end !== "whole") text += `<tr><td colspan="5">${esc(facts.end_words)}</tr>`;
+  if (to === last && last === facts.total && facts.end !== "whole") text += `<tr class="refused"><td colspan="5">${coded(facts.end_words)}</tr>`;
   $("near").innerHTML = text + "</table>";
   picture.moved(current);
 }
@@ -204,20 +207,29 @@ function event_from(r, by) {
 
 // --- the parts that stay
 function legend() {
-  const bar = what => `<span><svg width="14" height="11"><rect class="${what}" width="14" height="11"/></svg>${role_words(what)}</span>`;
+  const duties = {F: ", hears a leader", C: ", asks to lead", L: ", gives node IDs"};
+  const bar = what => `<span><svg width="14" height="11"><rect class="${what}" width="14" height="11"/></svg>${role_words(what)}${duties[what] || ""}</span>`;
   const arrow = (kind, words) => `<span><svg width="22" height="11"><line class="arrow ${kind}" x1="0" x2="22" y1="6" y2="6"/></svg>${words}</span>`;
   $("legend").innerHTML = ["F", "C", "L", "stopped", "failed"].map(bar).join("") + arrow("disc", "discovery") + arrow("vote", "votes") + arrow("app", "append") +
-    arrow("alloc", "allocation") + arrow("info", "who are you") + arrow("stat", "status") + arrow("dropped", "dropped") +
-    '<span><svg width="11" height="11"><circle class="lost" cx="5.5" cy="5.5" r="3"/></svg>lost</span>' +
-    '<span>▶ opens</span><span>✖ stops</span><span>⚡ its disk failed</span><span>▾ armed</span><span>◆ a node ID is told</span><span>● commits</span>';
+    arrow("alloc", "allocation") + arrow("info", "who are you") + arrow("stat", "status") + arrow("dropped", "dropped by its receiver") +
+    '<span><svg width="11" height="11"><circle class="lost" cx="5.5" cy="5.5" r="3"/></svg>never came</span>' +
+    '<span>▶ opens</span><span>✖ stops</span><span>⚡ its disk failed</span><span>▾ will fail later</span><span>◆ a node ID is told</span><span>● commits</span>';
 }
 function places() {
-  const told = facts.marks.filter(m => m[2] === "told" && lanes[m[1]].kind === "member");
+  const told = facts.marks.filter(m => m[2] === "told" && lanes[m[1]].kind === "member"), blank = facts.places.some(place => !place[1]);
   let text = "";
   if (told.length) text += "<h2>Node IDs that were told</h2><p>" + told.map(m => `<a href="#${m[0]}">row ${m[0]}</a>: ${esc(says(m[0]))}`).join("<br>") + "</p>";
   if (facts.places.length) text += "<h2>The committed logs at the end</h2><div class='wide'><table><tr><th>place<th>node ID<th>unique ID<th>committed by</tr>" +
-    facts.places.map(([at, node, uid, who]) => `<tr><td class="n">${at}<td class="n">${node || ""}<td><code>${node ? /^0+$/.test(uid) ? "none: the node ID is kept back" : uid : "a blank"}</code><td>${who.join(", ")}</tr>`).join("") + "</table></div>";
+    facts.places.map(([at, node, uid, who]) => `<tr><td class="n">${at}<td class="n">${node || ""}<td><code>${node ? /^0+$/.test(uid) ? "none: the node ID is kept back" : uid : "a blank"}</code><td>${who.join(", ")}</tr>`).join("") + "</table></div>" +
+    (blank ? "<p class='soft'>A blank is an entry without a node ID: a leader begins its term with one where entries of earlier terms wait.</p>" : "");
   $("places").innerHTML = text;
+}
+function story() {
+  const {main, left} = Story.events(facts);
+  $("outcome").textContent = Story.outcome(facts);
+  $("story").innerHTML = main.map(([row, words]) => `<li><a href="#${row}">${moments[row - first].toLocaleString("en")} ms</a> ${coded(words)}`).join("") +
+    (left ? `<li class="soft">and ${left} more, in the picture` : "");
+  for (const id of ["tools", "strip", "legend", "move"]) $(id).hidden = !count;
 }
 $("slide").oninput = () => show($("slide").value, true);
 $("row").onchange = () => show($("row").value, true);
@@ -236,7 +248,7 @@ $("picture").onclick = e => {
 };
 let waits = false;
 $("strip").onscroll = () => { if (!waits) { waits = true; requestAnimationFrame(() => { waits = false; draw(); }); } };
-for (const id of ["near", "places"]) $(id).onclick = e => {
+for (const id of ["near", "places", "story"]) $(id).onclick = e => {
   const link = e.target.closest("a");
   if (link) { e.preventDefault(); show(link.hash.slice(1), true); }
 };
@@ -268,7 +280,8 @@ const picture = {
     $("slide").min = $("row").min = first; $("slide").max = $("row").max = last;
     $("picture").setAttribute("aria-label", $("summary").textContent);
     if (lanes.filter(l => l.kind === "device" || l.kind === "heard").length > 16) $("devices").checked = false;
-    legend(); places(); set_axis(); if (fitted) fit(); else scale = Math.max(scale, room() / end_of_axis); show(row || first, true);
+    story(); legend(); places(); set_axis(); if (fitted) fit(); else scale = Math.max(scale, room() / end_of_axis);
+    show(row || (facts.end === "whole" ? first : last), true); // (a run that was refused is seen where that was)
   },
   show,
   draw,
