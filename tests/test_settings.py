@@ -154,6 +154,23 @@ class Units(unittest.TestCase):
         self.assertIn("caldrouz-bridge@can0.service", conflicts[0].split("=")[1].split())
 
 
+class Units(unittest.TestCase):
+    def test_units_that_cannot_run_together(self) -> None:
+        rows = {
+            "caldrouz-node@1 caldrouz-bridge@can0 caldrouz-monitor@can0": "",
+            "caldrouz-can-node@1 caldrouz-can-node@2 caldrouz-record@can0": "",
+            "caldrouz-can-node@1 caldrouz-bridge@can1 caldrouz-node@4": "",
+            "caldrouz-can-node@1 caldrouz-node@2 caldrouz-bridge@can0": "caldrouz-bridge@can0 and caldrouz-can-node@1 are",
+            "caldrouz-can-node@1 caldrouz-node@1": "caldrouz-can-node@1 and caldrouz-node@1 are enabled together",
+            "caldrouz-serial@3 caldrouz-can-node@3": "caldrouz-can-node@3 and caldrouz-serial@3 are enabled together",
+        }
+        for units, text in rows.items():
+            with self.subTest(units):
+                found = vehicle.between_units(units.split())
+                self.assertEqual(len(found), bool(text))
+                self.assertIn(text, "".join(found))
+
+
 class Tools(Case):
     """`why` knows the members by settings."""
 

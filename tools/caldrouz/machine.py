@@ -209,6 +209,12 @@ def unit_value(unit: str, name: str) -> Optional[str]:
     return _said("systemctl", "show", "-p", name, "--value", unit)
 
 
+def units_enabled() -> List[str]:
+    """The units of the package that start with the machine, without their endings; none where that is not told."""
+    words = "systemctl", "list-unit-files", "--state=enabled", "--no-legend", "--no-pager", "caldrouz-*@*.service"
+    return [line.split()[0][: -len(".service")] for line in (_said(*words) or "").splitlines() if line.strip()]
+
+
 def member_end(member: int) -> Optional[int]:
     """The exit code of a member that a unit of this machine has started and that does not run now, or None."""
     for unit in (f"caldrouz-node@{member}", f"caldrouz-can-node@{member}"):

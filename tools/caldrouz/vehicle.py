@@ -5,6 +5,7 @@
     it.members, it.size, it.here, it.base, it.folders
     vehicle.faults(it)                    # what is wrong in them, in words
     vehicle.between_machines([it, other]) # what is wrong between those of several machines; between_buses: of one
+    vehicle.between_units(["caldrouz-bridge@can0", ..]) # which units start with the machine, and cannot run together
 
 The units read /etc/default/caldrouz, and then, where it is there, /etc/caldrouz/NAME.conf, whose settings hold: NAME is
 the interface of a bridge, or the node ID of a member, whose file may be a link to that of its interface.
@@ -173,6 +174,23 @@ def _of_one_machine(one: Vehicle, other: Vehicle) -> Iterator[str]:
         yield f"{names}: BASE {one.base} and {other.base} share ports: they are to be {PORTS} apart"
     for member in sorted(set(one.here) & set(other.here)):
         yield f"{names}: MEMBERS of both name {member}, which has one unit and one store on a machine"
+
+
+def between_units(enabled: Sequence[str]) -> List[str]:
+    """Which of these units run a member twice, or a bridge beside members of an interface, of which one ends the other."""
+    ways: Dict[str, List[str]] = {}
+    for unit in sorted(enabled):
+        kind, _, instance = unit.partition("@")
+        if kind in ("caldrouz-node", "caldrouz-can-node", "caldrouz-serial"):
+            ways.setdefault(instance, []).append(unit)
+    found = [f"{' and '.join(units)} are enabled together: they run one member" for units in ways.values() if units[1:]]
+    members = [unit for unit in enabled if unit.startswith("caldrouz-can-node@")]
+    if members and "caldrouz-bridge@can0" in enabled:
+        found.append(
+            f"caldrouz-bridge@can0 and {min(members)} are enabled together: members of an interface run without a "
+            "bridge, so disable that and its members (OPERATING.md, \"Other adapters\")"
+        )
+    return found
 
 
 def between_machines(of: Sequence[Vehicle]) -> List[str]:
