@@ -348,6 +348,8 @@ def run(count: int, seed: int) -> bool:
     print(f"and {count} datagrams, and {count} lines and as many datagrams:")
     good &= run_while("node_status", listening, seed, feed_datagrams(BASE + 118, count), True)
     good &= run_while("monitor", [str(BASE), "--lines"], seed, feed_datagrams(BASE + 118, count), False)
+    with tempfile.TemporaryDirectory(dir=MEMORY) as folder:
+        good &= run_while("record", [str(BASE), folder], seed, feed_datagrams(BASE + 118, count), False)
     return run_bridge(count, seed) and good
 
 
@@ -363,7 +365,7 @@ RUN_ONCE = [
     Tool("follow", {0, 1, 2, 3, 4}, write_log),
     Tool("why", {0, 1, 2, 3, 5}, write_why),
     Tool("check_settings", {0, 1, 2, 3}, write_settings),
-    Tool("check_vehicle", {0, 1, 2, 3}, write_vehicle),
+    Tool("check_vehicle", {0, 1, 2, 3, 5}, write_vehicle),
     Tool("assign", {2}, write_table),
     Tool("node_status", {0, 1, 2}, write_stores),
 ]

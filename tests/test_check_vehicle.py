@@ -14,9 +14,10 @@ from typing import Any, Dict, List, Tuple
 from unittest import mock
 
 import images
+from acts import ONE, Act
 from support import EXAMPLES, ROOT, TESTS, Ended, run_tool, write_lines
 
-from caldrouz import causes, lists, logs, machine, stores, timing, wire
+from caldrouz import causes, logs, machine, stores, timing, waits, wire
 
 MOUNTS = r"""21 1 254:0 / / rw,relatime - ext4 /dev/vda rw
 22 21 0:21 / /proc rw - proc proc rw
@@ -129,17 +130,17 @@ class Clocks(unittest.TestCase):
 
 
 class Lists(unittest.TestCase):
-    """Whom members call, in a log of 3 s, and what is said of the lists 1, 2, 3."""
+    """Whom members call, in a log of 9 s, and what is said of the lists 1, 2, 3, by `why` and here alike."""
 
     def said(self, calls: Dict[int, List[int]], answerer: int = 0, members: Tuple[int, ...] = (1, 2, 3)) -> List[str]:
-        told = lists.Lists()
-        for at in range(30):
-            for caller, called in calls.items():
-                for node in called:
-                    told.take(at / 10, wire.Frame(wire.identifier_of(caller, "appq", node), bytes(8)))
-            if answerer:
-                told.take(at / 10, wire.Frame(wire.identifier_of(answerer, "alloc"), bytes(8)))
-        return told.wrong(members)
+        act = Act()
+        for caller, called in calls.items():
+            act.calls(caller, called, 0, 9)
+        if answerer:
+            act.node(answerer, 0, 9)
+            act.device(ONE, 5, answerer, 125)
+        found = causes.find(act.scene(members))
+        return [cause.text.split(": they")[0] for cause in found if cause.name == "another-list"]
 
     def test_one_list(self) -> None:
         self.assertEqual(self.said({1: [2, 3]}, 1), [])
@@ -148,16 +149,14 @@ class Lists(unittest.TestCase):
         self.assertEqual(self.said({}, 7, members=(7,)), [])
 
     def test_another_list(self) -> None:
-        self.assertEqual(
-            self.said({3: [1, 4]}), ["member 3 calls 4, and the list is 1, 2, 3: it was told another one"]
-        )
-        self.assertEqual(self.said({3: [1]}), ["member 3 calls 1 alone, and the list is 1, 2, 3"])
-        alone = "member 1 calls 2 alone, and the list is 1, 2, 3"
-        self.assertEqual(self.said({2: [1, 3], 1: [2]}, members=()), [alone])
+        self.assertEqual(self.said({3: [1, 4]}), ["Member 3 calls 1 and 4, and the members are to be 1, 2 and 3"])
+        self.assertEqual(self.said({3: [1]}), ["Member 3 calls 1, and the members are to be 1, 2 and 3"])
 
     def test_a_list_with_one_member(self) -> None:
         self.assertEqual(
-            self.said({2: [1, 3]}, 1), ["member 1 answers devices, and calls no other member: its list is another one"]
+            self.said({2: [1, 3]}, 1),
+            ["Member 1 answers devices, and calls no other member, though the members are to be 1, 2 and 3: it was told "
+             "that it is alone"],
         )
 
     def test_what_a_log_shows(self) -> None:
@@ -165,14 +164,14 @@ class Lists(unittest.TestCase):
         said = check("--log", log, "--members", "1,2,3")
         self.assertRegex(said.written, r"A3 +ok: +whom members 1.* call is the list")
         said = check("--log", log, "--members", "1,2,3,4")
-        self.assertRegex(said.written, r"A3 +NOT SO: +member 1 calls 2, 3 alone, and the list is 1, 2, 3, 4")
+        self.assertRegex(said.written, r"A3 +NOT SO: +Member 1 calls 2 and 3, and the members are to be 1, 2, 3 and 4")
         self.assertRegex(said.written, r"A3 +not tested: +the list of .*4, who called nobody")
 
 
 class Waits(unittest.TestCase):
     def test_waits_that_end_together(self) -> None:
         """Members 15, 50 and 65 apart often wait as long as each other."""
-        self.assertEqual([lists.first_wait(node) for node in (1, 2, 3, 8, 23)], [2584, 3294, 3562, 2670, 2668])
+        self.assertEqual([waits.first_wait(node) for node in (1, 2, 3, 8, 23)], [2584, 3294, 3562, 2670, 2668])
         said = check("--members", "8,23,1")
         broken = "NOT SO:" in said.written  # of the machine of this test
         self.assertEqual(said.status, 1 if broken else 5)

@@ -15,6 +15,9 @@ STANDS_BY = 10.0  # seconds within which a member that hears no leader stands fo
 MANY_ROUNDS = 8  # calls to one member, after which one that was never called is in no list
 GAPS = 4  # so often a member that answers does not, where frames are lost
 REFUSALS = 200  # more in a row than a log has places
+OF_ONE_LIST = (
+    "end the member whose CLUSTER is another (`check_settings` compares them), and audit the stores before it runs again"
+)
 BEGIN_ANEW = "begin anew with the same IDs"
 
 
@@ -143,25 +146,39 @@ def _other_lists(scene: Scene, members: Set[int]) -> Found:
     """Members that call nodes which are no members to others, or never call one. Calls may be lost: so what is not
     called counts only where many calls were heard, and the leader's own list once it led for a while."""
     lead = scene.leader()
-    if scene.listings or not scene.given and (lead is None or age(scene, lead.since) < ELECTED_BY):
+    if not scene.given and (scene.listings or lead is None or age(scene, lead.since) < ELECTED_BY):
         return
+    if scene.listings and scene.strange():
+        return  # members that were told their number alone call whom they met
     reference = set(scene.given) or members
     for node in sorted(members & set(scene.callers)):
         listed, rounds = scene.called_by(node), max(scene.callers[node].peers.values())
         if listed - reference or rounds >= MANY_ROUNDS and reference - listed:
             yield _another_list(scene, node, lead, reference)
+    for node in sorted({answer.by for answer in scene.answers if _led_long_enough(scene, answer)} & reference):
+        if node not in scene.callers and len(reference) > 1:
+            yield Cause(
+                "another-list",
+                f"Member {node} answers devices, and calls no other member, though the members are to be "
+                f"{ids(reference)}: it was told that it is alone",
+                OF_ONE_LIST,
+            )
+
+
+def _led_long_enough(scene: Scene, answer: scenes.Answer) -> bool:
+    """Whether who gave this answer would have been heard to call others: who answers devices leads."""
+    return scene.begin is not None and answer.moment - scene.begin > scenes.ALL_CALLED
 
 
 def _another_list(scene: Scene, node: int, lead: Optional[Lead], reference: Set[int]) -> Cause:
     other = f"the members are to be {ids(reference)}"
-    if lead and lead.node != node:
+    if lead and scene.called_by(lead.node) != scene.called_by(node):
         other = f"member {lead.node} calls {ids(scene.callers[lead.node].peers)}"
     return Cause(
         "another-list",
         f"Member {node} calls {ids(scene.callers[node].peers)}, and {other}: they were told different lists, so two "
         "majorities may have no member in common, and one node ID may be given twice",
-        "end the member whose CLUSTER is another (`check_settings` compares them), and audit the stores before it runs "
-        "again",
+        OF_ONE_LIST,
     )
 
 
