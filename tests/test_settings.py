@@ -10,7 +10,7 @@ from typing import Dict, List
 from acts import Act
 from support import ROOT, Ended, run_tool, write_lines
 
-from caldrouz import table, vehicle
+from caldrouz import machine, table, vehicle
 
 WELL = {"CLUSTER": "1,2,3", "BASE": "5000", "MEMBERS": '"1"', "BITRATE": "1000000"}
 
@@ -155,6 +155,14 @@ class Units(unittest.TestCase):
 
 
 class Units(unittest.TestCase):
+    def test_which_start_with_the_machine(self) -> None:
+        with tempfile.TemporaryDirectory() as folder:
+            for target, unit in (("multi-user", "caldrouz-node@1"), ("other", "caldrouz-node@1"), ("other", "ssh")):
+                wants = pathlib.Path(folder) / f"{target}.target.wants"
+                wants.mkdir(exist_ok=True)
+                (wants / f"{unit}.service").symlink_to("/no/unit")
+            self.assertEqual(machine.units_enabled(folder), ["caldrouz-node@1"])
+
     def test_units_that_cannot_run_together(self) -> None:
         rows = {
             "caldrouz-node@1 caldrouz-bridge@can0 caldrouz-monitor@can0": "",

@@ -9,6 +9,7 @@
 """
 from __future__ import annotations
 
+import glob
 import json
 import os
 import re
@@ -209,10 +210,11 @@ def unit_value(unit: str, name: str) -> Optional[str]:
     return _said("systemctl", "show", "-p", name, "--value", unit)
 
 
-def units_enabled() -> List[str]:
-    """The units of the package that start with the machine, without their endings; none where that is not told."""
-    words = "systemctl", "list-unit-files", "--state=enabled", "--no-legend", "--no-pager", "caldrouz-*@*.service"
-    return [line.split()[0][: -len(".service")] for line in (_said(*words) or "").splitlines() if line.strip()]
+def units_enabled(folder: str = "/etc/systemd/system") -> List[str]:
+    """The units of the package that start with the machine, without their endings: `systemctl enable` makes a link for
+    each where a target wants it."""
+    links = glob.glob(os.path.join(glob.escape(folder), "*.wants", "caldrouz-*@*.service"))
+    return sorted({os.path.basename(path)[: -len(".service")] for path in links})
 
 
 def member_end(member: int) -> Optional[int]:
