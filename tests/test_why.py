@@ -102,7 +102,7 @@ class Words(unittest.TestCase):
             (folder / "alloc-1.store").write_bytes(b"short")
             self.ends(3, "it has 5 bytes", EXAMPLES / "a_real_bus/log", "--store", folder)
             self.ends(3, "no line of it is one of `candump -L`", write_lines(folder / "text", ["no log"]))
-            self.ends(3, "Is a directory", folder)
+            self.ends(3, "no log of tools/record", folder)
             self.ends(3, "nocan0: ", "nocan0")
             self.ends(3, "a CAN interface can have", "an_interface_that_is_too_long")
 

@@ -65,6 +65,8 @@ def _of_last_start(folder: str) -> Iterable[str]:
 def read(path: str) -> Log:
     if os.path.isdir(path):
         try:
+            if not parts(path):
+                raise CannotRead(f"{path}: no log of tools/record (000001-0001.log) is in this folder")
             return read_lines(_of_last_start(path))
         except OSError as error:
             raise CannotRead(f"{path}: {error.strerror}") from None
