@@ -426,7 +426,7 @@ class Times(unittest.TestCase):
         self.assertIn("a clock gains or loses less than half a second in a minute", self.readme)
         self.assertIn("a member's turn takes a second at most", self.readme)
         self.assertEqual((drift, turn), (0.499, 1))
-        said = f"Two holds of {hold:g} s and a drift of 0.5 s are below the rest and {wait:g} s. "
+        said = f"Two holds of {hold:g} s and a drift below 0.5 s are below the rest and {wait:g} s. "
         self.assertIn(f"{said}With a turn of {turn:g} s they are below {vote_round:g} s", self.premises)
         device, member = hold + 2 + 0.5, hold + 2 + 0.5 + turn
         self.assertIn(f"in the {hold + member:g} s before it (`window`)", self.premises)
