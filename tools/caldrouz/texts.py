@@ -57,8 +57,8 @@ CAUSES: Dict[str, str] = {
     ),
     "ended-member": "a member of this machine ended: its exit code, in words. A warning where the others go on",
     "terms-used-up": (
-        "a store or a frame has the highest term; or, as a guess, members are there and none stands for "
-        "election: \"Terms are used up\", below"
+        "a store has the highest term, or a frame one that is far ahead; or, as a guess, members are there "
+        "and none stands for election: \"Terms are used up\", below"
     ),
     "frames-twice": "each frame comes twice (A7): a second bridge or gateway, an echo, a log of two interfaces",
     "no-members": "frames, none of a member. One that is alone in its cluster shows itself only when a device asks",
