@@ -25,7 +25,9 @@ LONGEST_SENTENCE = 35
 # So many names of definitions may stand in more than one crate: a goal that has one cannot be read without its imports.
 # `StandsFor`, the relation of a layer to its definition, is one on purpose. The count may only fall.
 NAMES_TWICE = 209
-DEFINITION = re.compile(r"(?:abbrev |unfoldable |opaque )?pub (?:abbrev |unfoldable )?(record |data )?([A-Za-z_][\w']*)")
+DEFINITION = re.compile(
+    r"(?:abbrev |unfoldable |opaque )?pub (?:abbrev |unfoldable )?(record |data )?([A-Za-z_][\w']*)"
+)
 # The pages of docs/ that are written by hand.
 PAGES = (
     "ARCHITECTURE GLOSSARY PROOFS PREMISES OPERATING TROUBLE FORMATS PROTOCOL EMBEDDING AUDIT DECISIONS"

@@ -1,5 +1,5 @@
-"""Terms that are far ahead: three members that are told their list take no call and no answer with one, go on, and serve
-a device. A term is taken that is 1,000,000 above the first one of a member, and the next one is not.
+"""Terms that are far ahead: three members that are told their list take no call and no answer with one, go on, and
+serve a device. A term is taken that is 1,000,000 above the first one of a member, and the next one is not.
 
 far_terms.py PROGRAM BASE: in an empty folder. The status is 1 where it is not so.
 """

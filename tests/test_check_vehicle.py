@@ -155,8 +155,8 @@ class Lists(unittest.TestCase):
     def test_a_list_with_one_member(self) -> None:
         self.assertEqual(
             self.said({2: [1, 3]}, 1),
-            ["Member 1 answers devices, and calls no other member, though the members are to be 1, 2 and 3: it was told "
-             "that it is alone"],
+            ["Member 1 answers devices, and calls no other member, though the members are to be 1, 2 and 3: it was "
+             "told that it is alone"],
         )
 
     def test_what_a_log_shows(self) -> None:
@@ -245,8 +245,10 @@ class Interfaces(unittest.TestCase):
         text = """echo '[{"ifname":"can0","flags":["NOARP","UP","LOWER_UP","ECHO"],"mtu":16,"txqlen":1000,
         "link_type":"can","linkinfo":{"info_kind":"can","info_data":{"state":"ERROR-ACTIVE",
         "berr_counter":{"tx":0,"rx":7},"restart_ms":100,"bittiming":{"bitrate":1000000,"sample_point":"0.750"}},
-        "info_xstats":{"restarts":3,"bus_error":0,"arbitration_lost":9,"error_warning":5,"error_passive":4,"bus_off":3}},
-        "stats64":{"rx":{"bytes":80,"packets":10,"errors":2,"dropped":0},"tx":{"packets":5,"errors":1,"dropped":6}}}]'"""
+        "info_xstats":{"restarts":3,"bus_error":0,"arbitration_lost":9,"error_warning":5,"error_passive":4,
+        "bus_off":3}},
+        "stats64":{"rx":{"bytes":80,"packets":10,"errors":2,"dropped":0},
+        "tx":{"packets":5,"errors":1,"dropped":6}}}]'"""
         found = self.told({"ip": text})
         self.assertEqual((found.restarts, found.passive, found.dropped, found.queue), (3, 4, 6, 1000))
         said = [it.text for it in causes.interface("can0", found)]

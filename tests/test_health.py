@@ -70,7 +70,8 @@ class Metrics(unittest.TestCase):
             ],
         )
         virtual = machine.Interface(True, True, "vcan", 1000, None, None, None)
-        self.assertEqual(len(health.metrics_of_interface("can1", virtual).splitlines()), 6)  # up and queue, 3 lines each
+        lines = health.metrics_of_interface("can1", virtual).splitlines()
+        self.assertEqual(len(lines), 6)  # up and queue, 3 lines each
         self.assertEqual(health.metrics_of_interface("can1", None), "")
 
     def test_labels_that_need_care(self) -> None:

@@ -168,7 +168,9 @@ class Units(unittest.TestCase):
             "caldrouz-node@1 caldrouz-bridge@can0 caldrouz-monitor@can0": "",
             "caldrouz-can-node@1 caldrouz-can-node@2 caldrouz-record@can0": "",
             "caldrouz-can-node@1 caldrouz-bridge@can1 caldrouz-node@4": "",
-            "caldrouz-can-node@1 caldrouz-node@2 caldrouz-bridge@can0": "caldrouz-bridge@can0 and caldrouz-can-node@1 are",
+            "caldrouz-can-node@1 caldrouz-node@2 caldrouz-bridge@can0": (
+                "caldrouz-bridge@can0 and caldrouz-can-node@1 are"
+            ),
             "caldrouz-can-node@1 caldrouz-node@1": "caldrouz-can-node@1 and caldrouz-node@1 are enabled together",
             "caldrouz-serial@3 caldrouz-can-node@3": "caldrouz-can-node@3 and caldrouz-serial@3 are enabled together",
         }

@@ -16,7 +16,8 @@ from support import ROOT, run_tool
 
 from caldrouz import buses, notify, wire
 
-# Sends the NodeStatus of a node ID from the port of one, 20 times a second; each line that it reads is what it does next.
+# Sends the NodeStatus of a node ID from the port of one, 20 times a second; each line that it reads is what it does
+# next.
 MEMBER = """
 import select, signal, socket, sys, time
 base, node, port = map(int, sys.argv[1:4])

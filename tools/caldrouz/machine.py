@@ -71,7 +71,8 @@ def refusal(folder: str) -> str:
     no reason."""
     disk = None if os.environ.get(ANY_DISK) else disk_of(folder)
     why = disk.wrong() if disk else ""
-    return f"{os.path.realpath(folder)}: {why}: no place for a store ({ANY_DISK}=1 lets a trial be there)" if why else ""
+    trial = f"({ANY_DISK}=1 lets a trial be there)"
+    return f"{os.path.realpath(folder)}: {why}: no place for a store {trial}" if why else ""
 
 
 class Running(NamedTuple):
@@ -108,8 +109,8 @@ def members_running(proc: str = "/proc") -> List[Running]:
 
 class Interface(NamedTuple):
     """A CAN interface, as `ip` tells it; None where it does not. `echo`: a frame comes back once it was on the bus.
-    `errors` are the controller's error counters, the greater of both. How often since it is there: `bus_off` it left the
-    bus, `restarts` it was brought back, `passive` it became ERROR-PASSIVE, `dropped` a frame to be sent was lost."""
+    `errors` are the controller's error counters, the greater of both. How often since it is there: `bus_off` it left
+    the bus, `restarts` it was brought back, `passive` it became ERROR-PASSIVE, `dropped` a frame to send was lost."""
 
     up: bool
     echo: bool

@@ -177,7 +177,7 @@ def _of_one_machine(one: Vehicle, other: Vehicle) -> Iterator[str]:
 
 
 def between_units(enabled: Sequence[str]) -> List[str]:
-    """Which of these units run a member twice, or a bridge beside members of an interface, of which one ends the other."""
+    """Which of these units run a member twice, or a bridge beside members of an interface: one ends the other."""
     ways: Dict[str, List[str]] = {}
     for unit in sorted(enabled):
         kind, _, instance = unit.partition("@")

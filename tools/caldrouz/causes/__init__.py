@@ -63,7 +63,8 @@ def notes(scene: Scene) -> Iterator[str]:
     size, members, lead = scene.size(), scene.members(), scene.leader()
     if scene.unheard:
         away = ids(filter(lambda node: not scene.is_online(node), members - scene.unheard))
-        yield f"Members {ids(scene.unheard)} run on other machines, and are not heard at a base port: listen at the bus."
+        elsewhere = ids(scene.unheard)
+        yield f"Members {elsewhere} run on other machines, and are not heard at a base port: listen at the bus."
         if away != "nobody":
             yield f"Of this machine {away} is not heard."
     if members:

@@ -16,7 +16,8 @@ MANY_ROUNDS = 8  # calls to one member, after which one that was never called is
 GAPS = 4  # so often a member that answers does not, where frames are lost
 REFUSALS = 200  # more in a row than a log has places
 OF_ONE_LIST = (
-    "end the member whose CLUSTER is another (`check_settings` compares them), and audit the stores before it runs again"
+    "end the member whose CLUSTER is another (`check_settings` compares them), and audit the stores before it runs "
+    "again"
 )
 BEGIN_ANEW = "begin anew with the same IDs"
 
