@@ -15,9 +15,11 @@
 //! its descriptor never becomes that of a link or a disk. A word that is not UTF-8 is none that the program reads.
 #![tactic(auto)]
 
-ghost use Rattle.std.specs.Prelude.{◌≡◌, ◌≤◌, length, IfErr, IfOk};
+ghost use Rattle.std.specs.Prelude.{◌≡◌, ◌≤◌, ℕ, length, IfErr, IfOk, OnOk};
 ghost use Rattle.can_frame.specs.Sizes.{most_members};
-ghost use Rattle.allocator.specs.declared.refusal.Refusal.TheVariants.{Stranger};
+ghost use Rattle.listed_entry.specs.Listed.{IsFoundIn, IsInNone};
+ghost use Rattle.allocator.specs.declared.refusal.Refusal.TheVariants.{Listed, Stranger};
+ghost use Rattle.store_audit.specs.Reads.{AllStay};
 
 mod can_words;
 mod opened;
@@ -36,6 +38,7 @@ use can_link::{CanBus, CanLink, RawSocket};
 use cmd_new::write_end;
 use disk_model::{Disk, FileDisk};
 use host_pace::{PacedClock, TimelyLink};
+use listed_entry::{find_listed, write_listed};
 use outside::{Clock, Link, StdClock, StdSink, StdSource};
 use std::cell::{Cell, RefCell};
 use std::process::ExitCode;
@@ -176,13 +179,36 @@ fn run_members<L: Link>(
             let mut stores = stores_of(rt, ids)?;
             Ok(rest_and_follow(rt, words, told, false, links, &mut stores, idle))
         }
-        Told::Members(_) => {
+        Told::Members(members) => {
             let mut stores = watched_stores(rt, ids)?;
+            told_of_listed(rt, members, ids, &mut stores)?;
             match known_stores(ids, &mut stores) {
                 Ok(used) => Ok(rest_and_follow(rt, words, told, used, links, &mut stores, idle)),
                 Err(status) => Ok(write_end(status, &[], &mut StdSink::new(rt.stdout()))),
             }
         }
+    }
+}
+
+/// Refuses stores of these members, one of which has an entry with an ID of the list of the cluster: the line of that is
+/// written, whether it can be or not.
+fn told_of_listed<D: Disk>(
+    rt: &HostRuntime,
+    members: &[u8],
+    ids: &[u8],
+    stores: &mut [Option<D>],
+) -> Result<(), Refusal>
+    ensures none { OnOk result (IsInNone D.Disk members.now ids.now stores.old stores.new) }
+    ensures listed { IfErr result (λ refusal. (refusal ≡ Listed) × ((id : ℕ) × (node : ℕ)
+        × IsFoundIn D.Disk members.now ids.now stores.old id node)) }
+    ensures stay { AllStay D.Disk stores.old stores.new }
+{
+    match find_listed(members, ids, stores) {
+        Some(listed) => {
+            let _ = write_listed(&mut StdSink::new(rt.stdout()), listed);
+            Err(Refusal::Listed)
+        }
+        None => Ok(()),
     }
 }
 

@@ -23,6 +23,9 @@ pub enum Refusal {
 
     /// A member that is told the list of its cluster heard a stranger.
     Stranger,
+
+    /// The log of a member that is told the list of its cluster has an entry with an ID of the list.
+    Listed,
 }
 
 impl Refusal {
@@ -30,7 +33,7 @@ impl Refusal {
     pub fn code(self) -> u8 {
         match self {
             Refusal::Memory => Status::Memory.code(),
-            Refusal::Usage => Status::Usage.code(),
+            Refusal::Usage | Refusal::Listed => Status::Usage.code(),
             Refusal::NotOpened => 12,
             Refusal::LateEcho => 17,
             Refusal::Stranger => 18,

@@ -1,0 +1,15 @@
+use Rattle.std.proofs.Common.{inl, rules, []}
+use Rattle.listed_entry.proofs.Passing.{unread}
+use Rattle.listed_entry.proofs.find.listed_on.Goals as goal
+
+pub returns-in-Ok-clause-none : goal.returns-in-Ok-clause-none
+returns-in-Ok-clause-none g c none before after was now = inl (record {
+  store = c.in-Ok.store;
+  is = c.in-Ok.ensures.read before was;
+  entries = let clear = c.listed_in.ensures.none none in search (rules, clear);
+})
+
+pub returns-in-Err-clause-none : goal.returns-in-Err-clause-none
+returns-in-Err-clause-none g c none before after was now =
+    unread g.D.Disk c.args.list.now [] c.in-Err.field-0 before after (λ key is. c.in-Err.ensures.damaged key before is was)
+    (λ is. c.in-Err.ensures.failed before after is was now)
