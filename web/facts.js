@@ -37,7 +37,7 @@ const Facts = (() => {
     [0, ["watch"], "end <lines>", "every line of the log was read"],
     [0, ["convert"], "-", "every line of the log was read"],
     [0, ["decode"], "end <count>", "the report has the numbers of the payload"],
-    [2, ["node", "can"], "-", "the words are none that it reads; nothing was read or written"],
+    [2, ["node", "can"], "-", "{the words are none that it reads; nothing was read or written|with the last line `listed` the log of a member has a node ID of its list; else the words are none that it reads}"],
     [2, ["new", "replace", "audit", "replay", "soak", "watch", "convert", "decode"], "-", "the words are none that it reads; nothing was read or written"],
     [3, ["replay"], "bad row <r>", "{row <r>|the row in the last line} cannot be read: it is no row, has more than 120 bytes or a carriage return, or has no line feed"],
     [3, ["watch", "convert"], "bad row <r>", "{line <r>|the line in the last line of the report} cannot be read: it is none of `candump -L` or `candump -l`, or of the adapter, has more than 120 bytes or the end of a DOS line, or does not end"],

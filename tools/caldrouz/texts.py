@@ -137,10 +137,14 @@ MEMBER_EXITS: Dict[int, Tuple[str, str]] = {
         "nothing: it is started again",
     ),
     2: (
-        "the words are none that it reads; nothing was read or written",
+        (
+            "with the last line listed the log of a member has a node ID of its list; else the words are none "
+            "that it reads"
+        ),
         (
             "caldrouz-check-settings says what is wrong (as spaces in CLUSTER); or the number behind @ does not "
-            "stand in CLUSTER"
+            "stand in CLUSTER; after listed, give the member the list that it always had; where its store is of "
+            "another cluster, replace it, as that of a machine; where the list is new on purpose, begin anew"
         ),
     ),
     6: (

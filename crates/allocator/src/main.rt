@@ -6,13 +6,14 @@
 //! is a raw CAN socket then (`can_link`), and the links of all members are on it. Where the members are told a list of
 //! them, links are strict, take no term that is far ahead ([`TermLink`]) and listen for strangers ([`ToldLink`]). A
 //! missing file is refused then, and so is one that others may write, or without a version, as one of zeros
-//! ([`look_for_stores`]). Their stores are watched ([`WatchedDisk`]), and a process whose members ran before rests
-//! first ([`Told::rest`]). Where they are told a number, a missing file is made, and nothing rests. The words of `new`
-//! have the disks alone, in files that are made for them: where one is there already, or `run` does not come to its
-//! end, none of those that were made stays. Those of `replace` have the disk of the lost member alone so, and those of
-//! the others as `audit` has them. The words of `audit` have the disks alone, in files that are there, and only read
-//! them. Where one of these cannot be opened the exit code is 12. A standard stream that is closed stays so for `run`:
-//! its descriptor never becomes that of a link or a disk. A word that is not UTF-8 is none that the program reads.
+//! ([`look_for_stores`]), or whose log has an ID of the list ([`told_of_listed`]). Their stores are watched
+//! ([`WatchedDisk`]), and a process whose members ran before rests first ([`Told::rest`]). Where they are told a
+//! number, a missing file is made, and nothing rests. The words of `new` have the disks alone, in files that are made
+//! for them: where one is there already, or `run` does not come to its end, none of those that were made stays. Those
+//! of `replace` have the disk of the lost member alone so, and those of the others as `audit` has them. The words of
+//! `audit` have the disks alone, in files that are there, and only read them. Where one of these cannot be opened the
+//! exit code is 12. A standard stream that is closed stays so for `run`: its descriptor never becomes that of a link or
+//! a disk. A word that is not UTF-8 is none that the program reads.
 #![tactic(auto)]
 
 ghost use Rattle.std.specs.Prelude.{◌≡◌, ◌≤◌, ℕ, length, IfErr, IfOk, OnOk};
