@@ -1,0 +1,6 @@
+pub mod Agreeing
+pub mod Calls
+pub mod InTurn
+pub mod Marks
+pub mod Received
+pub mod Worked
