@@ -7,7 +7,7 @@ use Rattle.outside.specs.Traffic.{Receives, Sends}
 use Rattle.outside.specs.declared.failed.Failed.{Failed}
 use Rattle.outside.specs.declared.received.RawFrame.{RawFrame}
 use Rattle.outside.specs.declared.received.Received.{Received}
-use Rattle.outside.specs.declared.received.Received.TheVariants.{Frame, Junk}
+use Rattle.outside.specs.declared.received.Received.TheVariants.{Frame, Junk, Nothing}
 use Rattle.told_link.specs.Following.{answered_of, gives_node_id, is_followed, item_agrees, noted}
 use Rattle.told_link.specs.Silence.{answers_count, heard_at}
 use Rattle.told_link.specs.Voice.{voice_in}
@@ -78,3 +78,26 @@ module _ {L : Type 0} (sent : L → Option (List RawFrame)) (faults : L → ℕ)
   IsSent frame result true = WhereTold (Sends frame result) (sent link_old) (sent link)
       × HasCause (faults link_old) (faults link) result
   IsSent frame result false = IsOk result × (link ≡ link_old)
+
+-- ---- behind a frame that did not go out
+--
+-- To a link below, a call of `recv` with none of `send` since the one before says that no frame waits to be sent. Behind
+-- a frame that was withheld others may wait: so the next call of `recv` gives nothing, and the link below is not asked.
+-- The frames B1, B2 and B3 give a node ID, and X is another one. All four wait behind A3 as the process stops for 60 s;
+-- member 2 answered last at 9,500. The link below sends none that may have waited for more than 1,000 ms:
+--
+--   reading   recv     link below            send           none waited there at
+--    9,999    -        is asked              -              9,998
+--   10,000    -        is asked              A3 goes out    9,999
+--   70,000    -        is asked              B1 withheld    9,999, since A3 was sent
+--   70,001    nothing  is not asked          B2 too late    9,999
+--   70,002    -        is asked              B3 too late    9,999, since B2 was handed in
+--   70,003    -        is asked              X too late     9,999
+--   70,004    -        is asked              -              9,999
+--   70,005    -        is asked              -              70,004
+
+-- a call of `recv` since the last one of which a frame was withheld: it gives nothing, and all stands as it did
+abbrev pub IsPassedOver : {L C : Type 0} (link_old link : L) (clock_old clock : C) (known_old known : List (Option Heard))
+    (answered_old answered : List (Option ℕ)) (result : Result Received Failed) → Type 0
+IsPassedOver link_old link clock_old clock known_old known answered_old answered result = (result ≡ Ok Nothing)
+    × (link ≡ link_old) × (clock ≡ clock_old) × (known ≡ known_old) × (answered ≡ answered_old)

@@ -1,4 +1,4 @@
-ghost use Rattle.std.specs.Prelude.{◌≡◌, ◌≤◌, ◌<◌, ℕ, Bool, true, List, Option, None, length, replicate, IsErr, IsSome, IfOk, IfErr, OnOk, OnErr};
+ghost use Rattle.std.specs.Prelude.{◌≡◌, ◌≤◌, ◌<◌, ℕ, ◌||◌, Bool, true, false, not, List, Option, None, length, replicate, IsErr, IsSome, IfOk, IfErr, OnOk, OnErr};
 ghost use Rattle.can_frame.specs.Sizes.{most_members, node_ids};
 ghost use Rattle.outside.specs.Contents.{WhereTold};
 ghost use Rattle.outside.specs.Faults.{HasCause, Rose, counted, one_more};
@@ -7,7 +7,7 @@ ghost use Rattle.outside.specs.declared.received.Received.{Received};
 ghost use Rattle.outside.specs.declared.received.RawFrame.{RawFrame};
 ghost use Rattle.told_link.specs.Following.{answered_of, is_followed, noted};
 ghost use Rattle.told_link.specs.Following as followings;
-ghost use Rattle.told_link.specs.Hearing.{FailsToHear, GoesOut, Hears, IsHeardAt, IsSent, known_of, wants_followers};
+ghost use Rattle.told_link.specs.Hearing.{FailsToHear, GoesOut, Hears, IsHeardAt, IsPassedOver, IsSent, known_of, wants_followers};
 ghost use Rattle.told_link.specs.Silence.{answers_count, heard_at as known_at};
 
 use crate::following::{agrees, gives_node_id, is_followed};
@@ -39,6 +39,9 @@ pub struct ToldLink<L, C> {
 
     /// The identifier of the frame by which a stranger was heard.
     stranger: Option<u32>,
+
+    /// Whether a frame was withheld since the last call of `recv`: others may wait behind it.
+    has_withheld: bool,
     faults: u64,
     ghost all: { length known ≡ node_ids },
     ghost each: { length answered ≡ node_ids },
@@ -55,6 +58,7 @@ impl<L: Link, C: Clock> ToldLink<L, C> {
         ensures known { result.known ≡ replicate node_ids None }
         ensures answered { result.answered ≡ replicate node_ids None }
         ensures stranger { result.stranger ≡ None }
+        ensures has_withheld { result.has_withheld ≡ false }
         ensures faults { result.faults ≡ 0 }
     {
         let mut list = ArrayVec::new();
@@ -67,6 +71,7 @@ impl<L: Link, C: Clock> ToldLink<L, C> {
             known: [None; NODE_IDS],
             answered: [None; NODE_IDS],
             stranger: None,
+            has_withheld: false,
             faults: 0,
         }
     }
@@ -93,16 +98,21 @@ impl<L: Link, C: Clock> Link for ToldLink<L, C> {
 
     ghost faults = { λ l. l.faults };
 
-    /// It fails where the link below does, and from the first frame of a stranger on, without asking the link below.
+    /// It fails where the link below does, and from the first frame of a stranger on, without asking the link below. That
+    /// is not asked either by the first call behind a frame that was withheld, which gives nothing.
     fn recv(&mut self) -> Result<Received, Failed>
         ensures items { WhereTold {A = List Received} (Receives result) None None }
         ensures cause { HasCause self.old.faults self.new.faults result }
         ensures kept { OnOk result (self.new.faults ≡ self.old.faults) }
         ensures faults { self.new.faults ≡ counted result self.old.faults }
         // What the link below gave, and what is made of it.
-        ensures hears { IfOk result (λ handed. Hears C.readings self.old.clock self.new.clock
-            self.old.known self.new.known self.old.answered self.new.answered (L.coming self.old.link) (L.coming self.new.link)
-            self.old.me self.old.ids.items handed) }
+        ensures hears { self.old.has_withheld ≡ false → IfOk result (λ handed. Hears C.readings
+            self.old.clock self.new.clock self.old.known self.new.known self.old.answered self.new.answered
+            (L.coming self.old.link) (L.coming self.new.link) self.old.me self.old.ids.items handed) }
+        ensures passed_over { self.old.stranger ≡ None → self.old.has_withheld ≡ true →
+            IsPassedOver self.old.link self.new.link self.old.clock self.new.clock self.old.known self.new.known
+            self.old.answered self.new.answered result }
+        ensures has_withheld { OnOk result (self.new.has_withheld ≡ false) }
         ensures stranger { OnOk result ((self.old.stranger ≡ None) × (self.new.stranger ≡ None)) }
         ensures below { OnOk result (L.faults self.new.link ≡ L.faults self.old.link) }
         ensures ends { IfErr result (λ error. self.old.stranger ≡ None →
@@ -111,13 +121,17 @@ impl<L: Link, C: Clock> Link for ToldLink<L, C> {
         ensures ended { IsSome self.old.stranger → IsErr result × (self.new.link ≡ self.old.link)
             × (self.new.stranger ≡ self.old.stranger) }
         ensures unheard { OnErr result ((self.new.clock ≡ self.old.clock) × (self.new.known ≡ self.old.known)
-            × (self.new.answered ≡ self.old.answered)) }
+            × (self.new.answered ≡ self.old.answered) × (self.new.has_withheld ≡ self.old.has_withheld)) }
         ensures unsent { L.sent self.new.link ≡ L.sent self.old.link }
         ensures me { self.new.me ≡ self.old.me }
         ensures ids { self.new.ids ≡ self.old.ids }
     {
         if self.stranger.is_some() {
             return Err(self.fault());
+        }
+        if self.has_withheld {
+            self.has_withheld = false;
+            return Ok(Received::Nothing);
         }
         let Ok(item) = self.link.recv() else {
             return Err(self.fault());
@@ -157,9 +171,10 @@ impl<L: Link, C: Clock> Link for ToldLink<L, C> {
         // Whether it goes, and what the link below makes of it then.
         ensures goes { self.old.stranger ≡ None → (goes : Bool) × GoesOut C.readings self.old.clock self.new.clock
             self.old.me self.old.ids.items self.old.answered (wants_followers self.old.ids.items frame.now) goes
-            × IsSent L.sent L.faults self.old.link self.new.link frame.now result goes }
+            × IsSent L.sent L.faults self.old.link self.new.link frame.now result goes
+            × (self.new.has_withheld ≡ (self.old.has_withheld || not goes)) }
         ensures ended { IsSome self.old.stranger → IsErr result × (self.new.link ≡ self.old.link)
-            × (self.new.clock ≡ self.old.clock) }
+            × (self.new.clock ≡ self.old.clock) × (self.new.has_withheld ≡ self.old.has_withheld) }
         ensures coming { L.coming self.new.link ≡ L.coming self.old.link }
         ensures stranger { self.new.stranger ≡ self.old.stranger }
         ensures known { self.new.known ≡ self.old.known }
@@ -171,6 +186,7 @@ impl<L: Link, C: Clock> Link for ToldLink<L, C> {
             return Err(self.fault());
         }
         if !self.goes(frame) {
+            self.has_withheld = true;
             return Ok(());
         }
         match self.link.send(frame) {
@@ -191,6 +207,7 @@ impl<L, C: Clock> ToldLink<L, C> {
         ensures known { self.new.known ≡ self.old.known }
         ensures answered { self.new.answered ≡ self.old.answered }
         ensures stranger { self.new.stranger ≡ self.old.stranger }
+        ensures has_withheld { self.new.has_withheld ≡ self.old.has_withheld }
         ensures faults { self.new.faults ≡ self.old.faults }
     {
         if self.ids.is_empty() || !gives_node_id(frame) {
@@ -212,6 +229,7 @@ impl<L, C> ToldLink<L, C> {
         ensures known { self.new.known ≡ self.old.known }
         ensures answered { self.new.answered ≡ self.old.answered }
         ensures stranger { self.new.stranger ≡ self.old.stranger }
+        ensures has_withheld { self.new.has_withheld ≡ self.old.has_withheld }
     {
         self.faults = self.faults.saturating_add(1);
         Failed
