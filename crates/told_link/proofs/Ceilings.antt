@@ -135,6 +135,12 @@ slowly own first before coming until le is =
 
 -- ---- a term that comes again and again
 
+-- after so many rises it is taken
+record Reaches (first : Ceiling) (term : ℕ) (ceiling : Ceiling) : Type 0 where
+  rises : ℕ
+  term_is : ceiling.term ≡ first.term + rises * most_terms
+  high : term ≤ ceiling.term
+
 -- after so many rises it was not taken, and the last one is not long ago
 record Climbs (first : Ceiling) (last term : ℕ) (ceiling : Ceiling) : Type 0 where
   rises : ℕ
@@ -144,12 +150,14 @@ record Climbs (first : Ceiling) (last term : ℕ) (ceiling : Ceiling) : Type 0 w
 
 step : (first : Ceiling) (term last now called : ℕ) (old new : Ceiling) (calls : Bool) →
     ((calls ≡ true) × (term ≤ called)) ⊎ ((calls ≡ false) × (called < term)) → now ≤ last + between_calls →
-    Rises now called old new ⊎ Stays now called old new → (term ≤ old.term) ⊎ Climbs first last term old →
-    (term ≤ new.term) ⊎ Climbs first (if calls then now else last) term new
+    Rises now called old new ⊎ Stays now called old new → Reaches first term old ⊎ Climbs first last term old →
+    Reaches first term new ⊎ Climbs first (if calls then now else last) term new
 step first term last now called old new calls it soon (inl r) (inl t) =
-    let is = r.term_is in inl (omega (arith, t, is))
+    let is = r.term_is in let old_term = t.term_is in let high = t.high in
+    inl (record { rises = suc t.rises; term_is = omega (arith, is, old_term); high = omega (arith, high, is) })
 step first term last now called old new calls it soon (inr s) (inl t) =
-    let is = s.term_is in inl (omega (arith, t, is))
+    let is = s.term_is in let old_term = t.term_is in let high = t.high in
+    inl (record { rises = t.rises; term_is = omega (arith, is, old_term); high = omega (arith, high, is) })
 step first term last now called old new true it soon (inl r) (inr c) =
     let is = r.term_is in let since = r.since_is in
     let old_term = c.term_is in let old_since = c.since_is in let old_soon = c.soon in
@@ -173,7 +181,11 @@ step first term last now called old new true (inl call) soon (inr s) (inr c) =
     let is = s.term_is in let since = s.since_is in
     let old_term = c.term_is in let old_since = c.since_is in let high = call.1 in
     elim s.why [
-      | inl w ↦ inl (omega (arith, w, is, high))
+      | inl w ↦ inl (record {
+        rises = c.rises;
+        term_is = omega (arith, is, old_term);
+        high = omega (arith, w, is, high);
+      })
       | inr w ↦ inr (record {
         rises = c.rises;
         term_is = omega (arith, is, old_term);
@@ -192,7 +204,8 @@ step first term last now called old new false it soon (inr s) (inr c) =
     })
 
 climbs : (first : Ceiling) (term : ℕ) (before : List Coming) → CallsOn first term before →
-    (term ≤ (ceiling_by first before).term) ⊎ Climbs first (last_time_of first term before) term (ceiling_by first before)
+    Reaches first term (ceiling_by first before)
+    ⊎ Climbs first (last_time_of first term before) term (ceiling_by first before)
 climbs first term [] calls = inr (record {
   rises = 0;
   term_is = omega (arith);
@@ -204,24 +217,29 @@ climbs first term (coming ∷ before) calls = step first term (last_time_of firs
     (leb_tells term coming.term) calls.0 (rises_or_stays coming.now coming.term (ceiling_by first before))
     (climbs first term before calls.1)
 
-last_is : (first : Ceiling) (before : List Coming) (coming : Coming) →
-    last_time_of first coming.term (coming ∷ before) ≡ coming.now
-last_is first before coming = elim (leb_tells coming.term coming.term)
-    as (λ _. last_time_of first coming.term (coming ∷ before) ≡ coming.now) [
+last_is : (first : Ceiling) (low : ℕ) (before : List Coming) (coming : Coming) → low ≤ coming.term →
+    last_time_of first low (coming ∷ before) ≡ coming.now
+last_is first low before coming le = elim (leb_tells low coming.term)
+    as (λ _. last_time_of first low (coming ∷ before) ≡ coming.now) [
       | inl t ↦ rw (t.0) refl
-      | inr t ↦ absurd (omega (arith, t.1))
+      | inr t ↦ absurd (omega (arith, le, t.1))
     ]
 
-pub taken_on : (ceiling : Ceiling) (spans : ℕ) (before : List Coming) (coming : Coming) →
-    CallsOn ceiling coming.term (coming ∷ before) → coming.term ≤ ceiling.term + spans * most_terms →
+pub taken_on : (ceiling : Ceiling) (low spans : ℕ) (before : List Coming) (coming : Coming) →
+    CallsOn ceiling low (coming ∷ before) → low ≤ coming.term → coming.term ≤ ceiling.term + spans * most_terms →
+    ceiling.term + spans * most_terms < low + most_terms →
     ceiling.since + spans * (between_rises + between_calls) ≤ coming.now → takes_term ceiling before coming ≡ true
-taken_on ceiling spans before coming calls low late =
+taken_on ceiling low spans before coming calls from until near late =
     not_above coming.term (ceiling_by ceiling (coming ∷ before)).term
-    (elim (climbs ceiling coming.term (coming ∷ before) calls) [
-      | inl t ↦ t
+    (elim (climbs ceiling low (coming ∷ before) calls) [
+      | inl r ↦ let count = r.rises in let term = r.term_is in let high = r.high in
+          elim (leb_tells spans count) [
+            | inl t ↦ let enough = t.1 in omega (arith, until, term, enough)
+            | inr t ↦ let few = t.1 in absurd (omega (arith, near, term, high, few))
+          ]
       | inr c ↦ let count = c.rises in let term = c.term_is in let since = c.since_is in let soon = c.soon in
-          let now = last_is ceiling before coming in elim (leb_tells spans count) [
-            | inl t ↦ let enough = t.1 in omega (arith, low, term, enough)
+          let now = last_is ceiling low before coming from in elim (leb_tells spans count) [
+            | inl t ↦ let enough = t.1 in omega (arith, until, term, enough)
             | inr t ↦ let few = t.1 in absurd (omega (arith, late, since, soon, now, few))
           ]
     ])

@@ -6,11 +6,11 @@ use Rattle.can_frame.specs.Cutting.{Piece, bytes_cut, crc_bytes, cut, frames_of,
 use Rattle.can_frame.specs.TransferCrc.{transfer_crc}
 use Rattle.told_link.specs.Terms.{first_number, number_behind_crc, term_of}
 
-head_is : (a b : Piece) (xs ys : List Piece) → a ∷ xs ≡ b ∷ ys → a ≡ b
+pub head_is : (a b : Piece) (xs ys : List Piece) → a ∷ xs ≡ b ∷ ys → a ≡ b
 head_is a b xs ys e = cc
 
 -- a payload of seven bytes or less is alone in its frame
-alone : (signature id : ℕ) (payload : List ℕ) → length payload ≤ 7 →
+pub alone : (signature id : ℕ) (payload : List ℕ) → length payload ≤ 7 →
     frames_of signature id payload ≡ record { bytes = payload; tail = tail_at id 0 true } ∷ []
 unfolding frames_of
 alone signature id payload short = ap (λ (bytes : List ℕ). cut id 0 ((length bytes - 1) / 7) bytes) whole
@@ -28,7 +28,7 @@ front : (id count : ℕ) (bytes : List ℕ) → count ≢ 0 → (rest : List Pie
 front id zero bytes some = absurd (some refl)
 front id (suc more) bytes some = (_, refl)
 
-many : (signature id : ℕ) (payload : List ℕ) → 7 < length payload → (rest : List Piece) ×
+pub many : (signature id : ℕ) (payload : List ℕ) → 7 < length payload → (rest : List Piece) ×
     (frames_of signature id payload
     ≡ record { bytes = take 7 (crc_bytes signature payload ++ payload); tail = tail_at id 0 false } ∷ rest)
 unfolding frames_of

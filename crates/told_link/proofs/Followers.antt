@@ -1,10 +1,12 @@
 -- Who answered lately, and who follows.
-use Rattle.std.proofs.Common.{◌≡◌, ◌⊎◌, inl, inr, ◌≤◌, ◌<◌, ◌+◌, ◌*◌, ◌&&◌, ◌||◌, ℕ, Bool, true, false, List, [], ◌∷◌, refl, arith, nat_eq, nat_le, length, if◌then◌else◌}
-use Rattle.std.specs.Prelude.{Option, Some, count_by}
+use Rattle.std.proofs.Common.{◌≡◌, ◌∙◌, ◌⊎◌, inl, inr, ◌≤◌, ◌<◌, ◌+◌, ◌*◌, ◌&&◌, ◌||◌, ℕ, zero, suc, Bool, true, false, List, [], ◌∷◌, refl, sym, subst, arith, nat_eq, nat_le, length, if◌then◌else◌}
+use Rattle.std.specs.Prelude.{Option, Some, None, count_by, replicate, slice_index_or, slice_set}
 use Rattle.std.proofs.lemmas.Bool.{lt-ltb, ltb-true}
-use Rattle.std.proofs.lemmas.Bool.Decides.{leb_tells}
+use Rattle.std.proofs.lemmas.Bool.Decides.{eqb_tells, leb_tells}
+use Rattle.std.proofs.lemmas.List.{get_or-set_other, get_or-set_same}
+use Rattle.can_frame.specs.Sizes.{node_ids}
 use Rattle.std.proofs.lemmas.List.Sums.{sum_by-cons}
-use Rattle.told_link.specs.Following.{AnswerAt, ComeBefore, answered_by, answered_lately, following, follows, has_answered, is_followed}
+use Rattle.told_link.specs.Following.{AnswerAt, ComeBefore, answered_by, answered_lately, answered_of, following, follows, has_answered, is_followed, noted}
 
 either : (a b : Bool) → (a || b) ≡ true → (a ≡ true) ⊎ (b ≡ true)
 either true b e = inl refl
@@ -126,3 +128,23 @@ module _ (now me : ℕ) (ids : List ℕ) (answers : List AnswerAt) where
       (λ id. or_in (nat_eq id me) (has_answered now answers id) (answered_lately now (answered_by answers id))
       (is_last now now id answers come)) ids in
       lt-ltb (length ids) (2 * count_by (follows now me (answered_by answers)) ids) (omega (arith, le, enough))
+
+-- ---- what is kept of each node
+
+none_of : (count id : ℕ) → answered_of (replicate count None) id ≡ None
+none_of zero id = refl
+none_of (suc n) zero = refl
+none_of (suc n) (suc id) = none_of n id
+
+pub none_answered : (id : ℕ) → answered_of (replicate node_ids None) id ≡ answered_by [] id
+none_answered id = none_of node_ids id
+
+pub reading_is : (all : List (Option ℕ)) (answers : List AnswerAt) (answer : AnswerAt) (id : ℕ) →
+    answer.node < length all → answered_of all id ≡ answered_by answers id →
+    answered_of (noted answer.node answer.at true all) id ≡ answered_by (answer ∷ answers) id
+reading_is all answers answer id within same = elim (eqb_tells answer.node id)
+    as (λ _. answered_of (noted answer.node answer.at true all) id ≡ answered_by (answer ∷ answers) id) [
+      | inl t ↦ rw (t.0) (subst (λ (j : ℕ). slice_index_or (slice_set all answer.node (Some answer.at)) j None
+          ≡ Some answer.at) t.1 (get_or-set_same all answer.node (Some answer.at) None within))
+      | inr t ↦ rw (t.0) (get_or-set_other all answer.node id (Some answer.at) None (λ e. t.1 (sym e)) ∙ same)
+    ]

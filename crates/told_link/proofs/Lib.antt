@@ -1,5 +1,6 @@
 mod Ceilings
-mod FirstFrames
+pub mod FirstFrames
 mod Followers
 pub mod Listed
 mod Silences
+mod WholeFrames

@@ -65,10 +65,10 @@ item_agrees Nothing = false
 
 -- ---- who follows
 
--- A member follows for so long, in milliseconds, behind the last call that it answered so. A leader calls each member
+-- A member follows for so long, in milliseconds, behind the last such answer of it that came. A leader calls each member
 -- 400 ms after the last call that was answered, and 1,000 ms after one that was not: so three lost calls in a row are
--- not enough to lose it. A member that is not called stands for election after 4,000 ms at the latest: so behind this
--- time there may be another leader.
+-- not enough to lose it. A member that is not called stands for election after 2,000 to 4,000 ms: so another leader may
+-- be elected within this time, and behind it there is one wherever a majority hears each other.
 abbrev pub following : ℕ
 following = 5000
 

@@ -129,7 +129,8 @@ abbrev pub last_time_of : Ceiling → ℕ → List Coming → ℕ
 last_time_of first term [] = first.since
 last_time_of first term (coming ∷ before) = if nat_le term coming.term then coming.now else last_time_of first term before
 
--- among all that comes this term, or a higher one, comes once in so long at least
+-- among all that comes this term, or a higher one, comes once in so long at least: so does whoever stands for election
+-- again and again, each time in a higher term
 abbrev pub CallsOn : Ceiling → ℕ → List Coming → Type 0
 CallsOn first term [] = ⊤
 CallsOn first term (coming ∷ before) = (coming.now ≤ last_time_of first term before + between_calls)

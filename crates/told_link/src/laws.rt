@@ -1,28 +1,33 @@
 //! Laws of the definitions, each the contract of a function that does nothing.
 
-ghost use Rattle.std.specs.Prelude.{◌≡◌, ◌≢◌, ℕ, ◌+◌, ◌*◌, ◌<◌, ◌≤◌, ◌++◌, ◌∷◌, ◌⊎◌, ◌||◌, [], List, None, Option, Some, count_by, length, nat_eq, take, true, false};
+ghost use Rattle.std.specs.Prelude.{◌≡◌, ◌≢◌, ℕ, ◌+◌, ◌*◌, ◌<◌, ◌≤◌, ◌++◌, ◌∷◌, ◌⊎◌, ◌||◌, [], List, None, Option, Some, count_by, length, nat_eq, nat_le, replicate, take, true, false};
 ghost use Rattle.alloc_spec.specs.Accepted.{is_of_members};
 ghost use Rattle.bus_spec.specs.Cluster.{is_member};
 ghost use Rattle.bus_spec.specs.Lawful.{is_forged};
 ghost use Rattle.can_frame.specs.Identifier.{identifier_of};
 ghost use Rattle.can_frame.specs.Kinds.{is_anonymous, is_service};
 ghost use Rattle.can_frame.specs.declared.identifier.Ident.{Ident};
-ghost use Rattle.can_frame.specs.Cutting.{Piece, frames_of, piece_from};
+ghost use Rattle.can_frame.specs.Cutting.{Piece, frame_bytes, frames_of, piece_from};
+ghost use Rattle.can_frame.specs.DataTypes.{allocation};
+ghost use Rattle.can_frame.specs.Sizes.{node_ids};
+ghost use Rattle.can_frame.specs.declared.identifier.Kind.TheVariants.{Message};
 ghost use Rattle.cluster_discovery.specs.Members.{is_on_list};
+ghost use Rattle.dsdl_codec.specs.Allocation.{allocation_bytes};
 ghost use Rattle.dsdl_codec.specs.AppendAnswer.{append_answer_of};
 ghost use Rattle.dsdl_codec.specs.AppendRequest.{append_request_of};
 ghost use Rattle.dsdl_codec.specs.VoteAnswer.{vote_answer_of};
 ghost use Rattle.dsdl_codec.specs.VoteRequest.{vote_request_of};
+ghost use Rattle.dsdl_codec.specs.declared.allocation.Allocation.{Allocation};
 ghost use Rattle.dsdl_codec.specs.declared.append_answer.AppendAnswer.{AppendAnswer};
 ghost use Rattle.dsdl_codec.specs.declared.append_request.AppendRequest.{AppendRequest};
 ghost use Rattle.dsdl_codec.specs.declared.vote_answer.VoteAnswer.{VoteAnswer};
 ghost use Rattle.dsdl_codec.specs.declared.vote_request.VoteRequest.{VoteRequest};
 ghost use Rattle.outside.specs.declared.received.RawFrame.{RawFrame};
 ghost use Rattle.outside.specs.declared.received.Received.TheVariants.{Frame};
-ghost use Rattle.told_link.specs.Following.{AnswerAt, ComeBefore, answered_by, has_answered, is_followed};
+ghost use Rattle.told_link.specs.Following.{AnswerAt, ComeBefore, agrees, answered_by, answered_of, gives_node_id, has_answered, is_followed, noted};
 ghost use Rattle.told_link.specs.Hearing.{wants_followers};
 ghost use Rattle.told_link.specs.Silence.{ComeSince, ComesBehindSilence, IsHeardOn, answer_counts, settling};
-ghost use Rattle.told_link.specs.Terms.{CallsOn, Coming, ComeUntil, between_rises, ceiling_above, ceiling_for, first_number, is_below_ceiling, between_calls, most_terms, takes_term, term_in, term_of, term_to};
+ghost use Rattle.told_link.specs.Terms.{CallsOn, Coming, ComeUntil, between_rises, ceiling_above, ceiling_for, first_number, first_term, is_below_ceiling, between_calls, most_terms, takes_term, term_in, term_of, term_to};
 ghost use Rattle.told_link.specs.Voice.{fields_of, is_of_uavcan, voice_of};
 ghost use Rattle.told_link.specs.declared.terms.Ceiling.{Ceiling};
 ghost use Rattle.told_link.specs.declared.voice.Voice.TheVariants.{Other, Stranger};
@@ -95,6 +100,32 @@ pub fn who_is_answered_withholds_nothing()
     ensures untold { (raw : RawFrame) → wants_followers [] raw ≡ false }
 {}
 
+/// An Allocation of several frames gives a node ID where its first frame says so, and its value has one.
+pub fn first_frames_give_node_ids()
+    ensures { (raw : RawFrame) (ident : Ident) (signature id : ℕ) (answer : Allocation) (first second : Piece)
+        (rest : List Piece) → fields_of raw ≡ Some ident → ident.kind ≡ Message → ident.number ≡ allocation.number →
+        frames_of signature id (allocation_bytes answer) ≡ first ∷ second ∷ rest → id < 32 →
+        take raw.len raw.bytes ≡ frame_bytes first → gives_node_id raw ≡ nat_le 1 answer.node }
+{}
+
+/// An answer to a call of AppendEntries agrees where it says success, and no other frame does.
+pub fn answers_of_success_agree()
+    ensures answers { (raw : RawFrame) (signature id : ℕ) (payload : List ℕ) (answer : AppendAnswer) (first : Piece)
+        (rest : List Piece) → append_answer_of payload ≡ Some answer → frames_of signature id payload ≡ first ∷ rest →
+        id < 32 → length raw.bytes ≡ 8 → take raw.len raw.bytes ≡ frame_bytes first → agrees raw ≡ answer.success }
+    ensures alone { (raw : RawFrame) → agrees raw ≡ true → (raw.len ≡ 6) × ((answer : AppendAnswer)
+        × (append_answer_of (take 5 raw.bytes) ≡ Some answer) × (answer.success ≡ true)) }
+{}
+
+/// The reading that is kept of each node is that at the last of its answers that agreed.
+pub fn answers_are_noted()
+    ensures first { (id : ℕ) → answered_of (replicate node_ids None) id ≡ answered_by [] id }
+    ensures noted { (all : List (Option ℕ)) (answers : List AnswerAt) (answer : AnswerAt) (id : ℕ) →
+        answer.node < length all → answered_of all id ≡ answered_by answers id →
+        answered_of (noted answer.node answer.at true all) id ≡ answered_by (answer ∷ answers) id }
+    ensures others { (node now : ℕ) (all : List (Option ℕ)) → noted node now false all ≡ all }
+{}
+
 /// A term that is at most 1,000,000 above the first one that the member sent is taken, whatever came before. One that is
 /// further above it is not, within ten minutes.
 pub fn a_million_terms_are_taken()
@@ -105,6 +136,7 @@ pub fn a_million_terms_are_taken()
         takes_term (ceiling_above first own) before coming ≡ false }
     // Before the member sent a term.
     ensures unsent { (now term : ℕ) → 1000000 < term → is_below_ceiling term (ceiling_for now term None) ≡ false }
+    ensures unsent_taken { (now term : ℕ) → term ≤ 1000000 → is_below_ceiling term (ceiling_for now term None) ≡ true }
 {}
 
 /// A term that is taken is above the first one of the member by 1,000,000, and by as much for each ten minutes since then
@@ -117,10 +149,11 @@ pub fn terms_go_up_slowly()
 {}
 
 /// Whoever is far ahead, and calls on, once in a minute at least, is taken in the end, whatever else comes: within 11
-/// minutes for each million terms above the ceiling.
+/// minutes for each million terms above the ceiling, also where its terms rise, within the last of these millions.
 pub fn who_calls_on_is_taken()
-    ensures { (ceiling : Ceiling) (spans : ℕ) (before : List Coming) (coming : Coming) →
-        CallsOn ceiling coming.term (coming ∷ before) → coming.term ≤ ceiling.term + spans * most_terms →
+    ensures { (ceiling : Ceiling) (low spans : ℕ) (before : List Coming) (coming : Coming) →
+        CallsOn ceiling low (coming ∷ before) → low ≤ coming.term →
+        coming.term ≤ ceiling.term + spans * most_terms → ceiling.term + spans * most_terms < low + most_terms →
         ceiling.since + spans * (between_rises + between_calls) ≤ coming.now →
         takes_term ceiling before coming ≡ true }
 {}
@@ -135,6 +168,9 @@ pub fn first_frames_have_the_term()
     ensures listed { (me : ℕ) (ids : List ℕ) (raw : RawFrame) (ident : Ident) → fields_of raw ≡ Some ident →
         is_anonymous ident.kind ≡ false → is_on_list ids ident.source ≡ true → ident.source ≢ me →
         term_to me ids (Frame raw) ≡ term_in raw }
+    // The first one that a member sends, which is told a list.
+    ensures own { (ids : List ℕ) (raw : RawFrame) → ids ≢ [] → first_term ids None raw ≡ term_in raw }
+    ensures once { (ids : List ℕ) (ceiling : Ceiling) (raw : RawFrame) → first_term ids (Some ceiling) raw ≡ None }
     ensures vote_requests { (payload : List ℕ) (request : VoteRequest) → vote_request_of payload ≡ Some request →
         first_number payload ≡ Some request.term }
     ensures vote_answers { (payload : List ℕ) (answer : VoteAnswer) → vote_answer_of payload ≡ Some answer →
