@@ -24,7 +24,7 @@ base, node, port = map(int, sys.argv[1:4])
 link = socket.socket(socket.AF_INET, socket.SOCK_DGRAM)
 link.bind(("127.0.0.1", base + port))
 while True:
-    for to in (118, 120, 121):
+    for to in (123, 124, 125):
         link.sendto(bytes([0x1E, 1, 0x55, node, 8]) + bytes(7) + b"\\xc0", ("127.0.0.1", base + to))
     if select.select([sys.stdin], [], [], 0.05)[0]:
         exec(sys.stdin.readline() or "sys.exit()")

@@ -22,7 +22,7 @@ from . import table, texts, wire
 LEAST_BASE, GREATEST_BASE = texts.LEAST_BASE, texts.GREATEST_BASE
 # Tools listen at these ports, counted from the base: a member has none of them (1 to 117), nor the bridge (119).
 TOOL_PORTS = 118, 121, 122, 123, 124, 125
-WATCH_PORTS = 120, *reversed(TOOL_PORTS)  # of those who watch the members of this machine, each one of them
+WATCH_PORTS = *reversed(TOOL_PORTS), 120  # of those who watch the members of this machine; a device listens at 120
 BRIDGE_PORT = 119  # from here members that were told their list take frames of any node
 ROOM = 1 << 20  # bytes that a socket is asked to keep
 FULL_FOR = 0.5  # seconds for which a full queue of an interface is tried again
