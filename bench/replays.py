@@ -1,0 +1,50 @@
+"""A run of `replay` that a script of this folder feeds row by row, so that a row may depend on the lines before it."""
+from __future__ import annotations
+
+import subprocess
+from typing import List, Sequence
+
+ROWS = 1_000_000
+
+
+class Refused(Exception):
+    """`replay` ended before the case did; the text is its last line."""
+
+
+class Replay:
+    """A run of `replay`, whose lines are read while its rows are still written."""
+
+    def __init__(self, program: Sequence[str], members: Sequence[int]) -> None:
+        words = [*program, str(ROWS), *map(str, members)]
+        self.process = subprocess.Popen(words, stdin=subprocess.PIPE, stdout=subprocess.PIPE)
+        self.rows = 0
+
+    def ask(self, rows: Sequence[str]) -> List[List[str]]:
+        """Hands these rows over, and gives the words of the line of each."""
+        assert self.process.stdin and self.process.stdout
+        if self.rows + len(rows) > ROWS:
+            raise Refused("too many rows")
+        try:
+            self.process.stdin.write("".join(f"{row}\n" for row in rows).encode())
+            self.process.stdin.flush()
+        except BrokenPipeError:
+            pass
+        told = []
+        for _ in rows:
+            words = self.process.stdout.readline().decode().split()
+            self.rows += 1
+            if len(words) < 2 or words[0] != str(self.rows):
+                # without a last line the program was ended, as by a signal
+                raise Refused(" ".join(words) or f"ended with status {self.process.wait()}")
+            told.append(words)
+        return told
+
+    def end(self) -> List[List[str]]:
+        """Ends the schedule, and gives the words of the lines that come then."""
+        rest, _ = self.process.communicate()
+        return [line.split() for line in rest.decode().splitlines()]
+
+    def kill(self) -> None:
+        """Ends the program, whatever it has told."""
+        self.process.kill()
+        self.process.communicate()
