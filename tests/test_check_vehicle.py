@@ -188,14 +188,16 @@ class Processes(unittest.TestCase):
             proc = pathlib.Path(name)
             lines = {7: "allocator node 3 5000 9 1", 8: "/usr/bin/allocator node 1,2,3 5200 9 1 2", 9: "less node"}
             lines[10] = "/usr/lib/caldrouz/allocator can 1,2,3 9 3"
-            lines[11] = "allocator can 1,2,3 9"
+            lines[11] = "allocator can 1,2,3 2"
+            lines[12] = "allocator can 1,2,3"
             for number, words in lines.items():
                 (proc / str(number)).mkdir()
                 (proc / str(number) / "cmdline").write_text(words.replace(" ", "\0") + "\0")
                 (proc / str(number) / "cwd").symlink_to(name)
             found = machine.members_running(name)
-        self.assertEqual([(it.process, it.members) for it in found], [(7, [1]), (8, [1, 2]), (10, [3])])
-        self.assertEqual([(it.mode, it.told) for it in found], [("node", "3"), ("node", "1,2,3"), ("can", "1,2,3")])
+        self.assertEqual([(it.process, it.members) for it in found], [(7, [1]), (8, [1, 2]), (10, [3]), (11, [2])])
+        told = [(it.mode, it.told) for it in found]
+        self.assertEqual(told, [("node", "3"), ("node", "1,2,3"), ("can", "1,2,3"), ("can", "1,2,3")])
 
 
 class Interfaces(unittest.TestCase):

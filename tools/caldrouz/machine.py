@@ -87,8 +87,8 @@ class Running(NamedTuple):
 
 
 def members_running(proc: str = "/proc") -> List[Running]:
-    """The processes `.. node <members> <base> <turns> <id>..` and `.. can <members> <turns> <id>..` of this machine, as
-    far as they may be seen."""
+    """The processes `.. node <members> <base> <turns> <id>..`, `.. can <members> <turns> <id>..` and
+    `.. can <members> <id>` of this machine, as far as they may be seen."""
     found = []
     for name in sorted(filter(str.isdigit, os.listdir(proc)), key=int):
         try:
@@ -99,7 +99,8 @@ def members_running(proc: str = "/proc") -> List[Running]:
             continue
         if len(words) < 2 or words[1] not in BEFORE_IDS or "allocator" not in os.path.basename(words[0]):
             continue
-        ids = [int(word) for word in words[BEFORE_IDS[words[1]]:] if word.isascii() and word.isdigit()]
+        before = 3 if words[1] == "can" and len(words) == 4 else BEFORE_IDS[words[1]]
+        ids = [int(word) for word in words[before:] if word.isascii() and word.isdigit()]
         if not ids:
             continue
         base = int(words[3]) if words[1] == "node" and buses.is_base(words[3]) else None
