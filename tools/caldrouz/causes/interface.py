@@ -15,7 +15,12 @@ def interface(name: str, it: Optional[Interface]) -> Found:
         return
     errors = f", with error counters up to {it.errors}" if it.errors else ""
     if not it.up:
-        yield Cause("bad-interface", f"{name} is down", f"ip link set {name} up; the unit caldrouz-can@{name} does it")
+        yield Cause(
+            "bad-interface",
+            f"{name} is down",
+            f"where a member ended with 17, look at its cable: its unit takes {name} down then, and up with the next "
+            f"start; else ip link set {name} up",
+        )
     elif it.state == "BUS-OFF":
         yield Cause("bad-interface", f"{name} left the bus (BUS-OFF){errors}", LOOK)
     elif it.state in ("ERROR-WARNING", "ERROR-PASSIVE"):
