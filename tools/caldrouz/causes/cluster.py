@@ -26,8 +26,8 @@ def silence() -> Cause:
     return Cause(
         "silence",
         "Nothing is heard at all",
-        "on CAN: is the interface up, its bit rate that of the bus, both ends of the bus terminated, and any node "
-        "powered? On a base port: do members run there?",
+        "on CAN: is the plug on (where it is off, members of this machine end with 17), the interface up, its bit rate "
+        "that of the bus, both ends of the bus terminated, and any node powered? On a base port: do members run there?",
     )
 
 
