@@ -189,7 +189,8 @@ def read_log(path: str, status: int = CANNOT) -> logs.Log:
     except logs.CannotRead as error:
         raise Ended(status, str(error)) from None
     if not log.frames:
-        what = "no line of it is one of `candump -L`" if log.broken else "it has no data frame with 29 bits"
+        nothing = "it has no data frame with 29 bits: no node was heard (TROUBLE.md, \"Bring-up of a bus\")"
+        what = "no line of it is one of `candump -L`" if log.broken else nothing
         raise Ended(status if log.broken else CANNOT, f"{path}: {what}")
     return log
 
