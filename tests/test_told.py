@@ -114,6 +114,30 @@ def one_away(act: Act) -> None:
     act.cluster(THREE, 0, END, away=[3])
 
 
+def tells_an_id_of_the_list(act: Act) -> None:
+    """Members 1 and 2 were told that they are all, and end when they hear member 3."""
+    for member in THREE:
+        act.node(member, member / 10, END if member == 3 else 2)
+    act.calls(1, [2], 0.5, 2)
+    act.device(ONE, 1, 1, 3)
+
+
+def a_leader_that_hears_nobody(act: Act) -> None:
+    """It calls each second, as after a call without an answer."""
+    for member in THREE:
+        act.node(member, member / 10, END)
+    for at in range(11):
+        act.calls(1, [2, 3], 0.5 + at, 0.6 + at)
+        act.device(ONE, 1 + at)
+
+
+def votes_that_do_not_help(act: Act) -> None:
+    for member in THREE:
+        act.node(member, member / 10, END)
+    for at in range(4):
+        act.stands(1, [2, 3], 1 + 2.5 * at, 5 + at, [2, 3])
+
+
 def one_of_five_away(act: Act) -> None:
     act.cluster([1, 2, 3, 4, 5], 0, END, away=[3])
 
@@ -169,6 +193,15 @@ def ids_run_out_by_status(act: Act) -> None:
             act.enters(6.2 + at / 20, 1, [2, 3], 11 + at, wire.NO_UNIQUE_ID, 20 + at)
 
 
+def many_fixed_nodes(act: Act) -> None:
+    """Nodes that answer, while the log takes another pair each time: their IDs are kept back."""
+    act.cluster(THREE, 0, END, place=10)
+    for at in range(8):
+        act.node(50 + at, 1, END)
+        act.tells(2 + at / 50, 50 + at, f"{at + 1:02x}" * 16)
+        act.enters(7 + at / 2, 1, [2, 3], 11 + at, wire.NO_UNIQUE_ID, 50 + at)
+
+
 def terms_end(act: Act) -> None:
     """Two frames in the name of member 3 have the highest term, and then nobody stands any more."""
     act.cluster(THREE, 0, 3)
@@ -216,6 +249,15 @@ def each_frame_twice(act: Act) -> None:
     act.lone, act.transfers = act.twice().lone, []
 
 
+def each_frame_twice_ends_members(act: Act) -> None:
+    """Each member ends with the first frame that comes back."""
+    for member in THREE:
+        act.node(member, member / 10, 0.5)
+    for at in range(10):
+        act.device(ONE, 2 + at)
+    act.lone, act.transfers = act.twice().lone, []
+
+
 # --- devices
 
 
@@ -245,6 +287,12 @@ def with_a_source(act: Act) -> None:
     act.cluster(THREE, 0, END)
     act.node(99, 0, END)
     act.tells(0.5, 99, TWO)
+    for at in range(8):
+        act.send(2 + at, 99, "alloc", b"\1" + bytes.fromhex(ONE)[:6])
+
+
+def with_a_source_ends_members(act: Act) -> None:
+    act.cluster(THREE, 0, 3)
     for at in range(8):
         act.send(2 + at, 99, "alloc", b"\1" + bytes.fromhex(ONE)[:6])
 
@@ -279,6 +327,20 @@ def never_goes_on(act: Act) -> None:
     act.cluster(THREE, 0, END)
     for at in range(8):
         act.device(ONE, 2 + at, 1, stages=1)
+
+
+def takes_no_answer_of_two_frames(act: Act) -> None:
+    act.cluster(THREE, 0, END)
+    for at in range(8):
+        act.device(ONE, 2 + at, 1, stages=2)
+
+
+def starts_again(act: Act) -> None:
+    """A device is told its ID, shows itself for 2 s, and begins anew."""
+    act.cluster(THREE, 0, END)
+    for at in range(4):
+        act.device(ONE, 2 + 2.5 * at, 1, 125)
+        act.node(125, 2.3 + 2.5 * at, 4 + 2.5 * at, 0)
 
 
 def does_not_hear(act: Act) -> None:
@@ -323,6 +385,15 @@ def mute_nodes_in_turn(act: Act) -> None:
         act.device(TWO, 3.4 + at, 1, stages=2)
 
 
+def a_babbling_node(act: Act) -> None:
+    """It shows itself under eight node IDs in turn, with uptimes at random, and answers nobody."""
+    act.cluster(THREE, 0, END)
+    for at in range(8):
+        act.node(50 + at, 1, END, 0)
+        act.node(50 + at, 1.5, END, 5000)
+        act.send(2 + at / 50, 1, "infoq", b"", 50 + at)
+
+
 def refused_calls(act: Act) -> None:
     """The leader has another log: member 2 refuses each of its calls."""
     for member in THREE:
@@ -364,7 +435,12 @@ ROWS: Dict[str, Row] = {
         only_one_of_three, "no-majority", says=("Of 3 members 2 alone is there", "1 and 3 are away", "2 are needed")
     ),
     "the leader alone": Row(the_leader_alone, "no-majority", says=("2 and 3",)),
-    "one is away": Row(one_away, "!deaf-member", says=("Member 3 is not there", "no further loss")),
+    "one is away": Row(one_away, "!deaf-member", says=("Member 3 is not there", "no further loss", "18 or 19")),
+    "tells an ID of the list": Row(
+        tells_an_id_of_the_list, "another-list", (THREE,), ("Member 1 told node ID 3", "3 is a member")
+    ),
+    "a leader that hears nobody": Row(a_leader_that_hears_nobody, "?deaf-member", says=("hears no answer",)),
+    "votes that do not help": Row(votes_that_do_not_help, "no-leader", never=("apart", "end within")),
     "one of five is away": Row(one_of_five_away, "!deaf-member", ([1, 2, 3, 4, 5],), ("the loss of 1 more",)),
     "a node has its ID": Row(a_node_in_place_of_a_member, "!deaf-member", says=("another node may have its ID",)),
     "IDs are full": Row(ids_are_full, "?ids-full", says=("122 entries", "122 node IDs"), never=("crossed",)),
@@ -373,26 +449,34 @@ ROWS: Dict[str, Row] = {
     "the log is nearly full": Row(the_log_is_nearly_full, "!log-nearly-full"),
     "IDs run out by asking": Row(ids_run_out_by_asking, "ids-run-out", says=("60 new pairs", "a minute")),
     "IDs run out by NodeStatus": Row(ids_run_out_by_status, "ids-run-out", says=("40 new pairs", "kept back")),
+    "many fixed nodes": Row(many_fixed_nodes, ""),
     "terms end": Row(terms_end, "terms-used-up", says=("4294967295", "member 3"), never=("start the members",)),
     "terms ended": Row(terms_ended, "?terms-used-up", (THREE,), ("--store",)),
     "terms that nobody took": Row(terms_that_nobody_took, "!terms-used-up", says=("in the name of member 3",)),
     "30 % lost": Row(a_lossy_bus(0.3), "lossy-bus", never=("strange", "the log full", "crossed")),
     "50 % lost": Row(a_lossy_bus(0.5), "lossy-bus", never=("strange", "the log full", "crossed")),
     "each frame twice": Row(each_frame_twice, "frames-twice", never=("Two nodes use",)),
+    "each frame twice ends members": Row(each_frame_twice_ends_members, "frames-twice", (THREE,), ("18",)),
     "zeros": Row(zeros, "zero-unique-id", says=("zeros",)),
     "zeros beside another": Row(zeros_beside_another, "zero-unique-id", never=("unplug all but one",)),
     "two unique IDs": Row(two_unique_ids, "!two-unique-ids", says=(ONE, TWO, "boot loader")),
     "with a source": Row(with_a_source, "wrong-request", says=("Node 99", "source"), never=("answers devices",)),
+    "with a source, and members end": Row(with_a_source_ends_members, "wrong-request", (THREE,), ("Node 99", "18")),
     "without the first flag": Row(without_the_first_flag, "wrong-request", says=("first part",)),
     "with a toggle": Row(with_a_toggle, "wrong-request", says=("toggle",)),
     "with a short end": Row(with_a_short_end, "wrong-request", says=("3 bytes",)),
     "a late second request": Row(a_late_second_request, "never-goes-on", says=("700 ms", "500 ms")),
     "never goes on": Row(never_goes_on, "never-goes-on", says=("never sent its second request",)),
+    "takes no answer of two frames": Row(
+        takes_no_answer_of_two_frames, "never-goes-on", says=("never sent its third request",), never=("log full",)
+    ),
+    "starts again": Row(starts_again, "starts-again", says=("again and again",), never=("does not hear",)),
     "does not hear": Row(does_not_hear, "unheard-answer"),
     "cross each other": Row(cross_each_other, "?crossed-requests"),
     "a server beside": Row(a_server_beside, "second-server", says=("Node 10 answers devices",)),
     "a mute node": Row(a_mute_node, "unidentified-node", says=("Node 50",), never=("crossed",)),
     "mute nodes in turn": Row(mute_nodes_in_turn, "unidentified-node", says=("6 node IDs",), never=("crossed",)),
+    "a babbling node": Row(a_babbling_node, "unidentified-node", says=("8 node IDs",), never=("Two nodes use",)),
     "refused calls": Row(refused_calls, "another-log", says=("Member 2 refused", "member 1")),
 }
 

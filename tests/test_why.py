@@ -29,6 +29,7 @@ def named(said: Ended) -> List[str]:
 NAMES = (
     "silence no-members missing-members another-size strange-member no-majority no-leader not-committed "
     "unidentified-node second-server log-full ids-full crossed-requests never-goes-on unheard-answer unanswered "
+    "starts-again "
     "wrong-address one-id-twice one-unique-id bad-interface ended-member terms-used-up frames-twice "
     "two-clusters another-list ids-run-out lossy-bus another-log wrong-request zero-unique-id"
 ).split()

@@ -18,6 +18,7 @@ from . import table, wire
 ONLINE = table.ONLINE_TIMEOUT / 1000  # seconds for which a node is there after its NodeStatus
 ALL_CALLED = 1.5  # seconds after which a leader has called each member
 LEADS_FOR = 2.5  # seconds for which who called as a leader is taken to lead
+LATE_CALL = 0.9 * table.CALL_TIMEOUT / 1000  # seconds after a call that was answered in which the next one is due
 JITTER = 1.5  # seconds by which the openings that uptimes tell may differ, as they are whole seconds
 LATE = 5.0  # seconds by which a NodeStatus may be late
 REPEATS = 4  # so many more transfer IDs that do not go on than half of all are those of two nodes
@@ -159,14 +160,16 @@ class Listing(NamedTuple):
 
 @dataclass
 class Call:
-    """The calls of a leader to one member: what the last one said, how many were not answered since, and when one was
-    agreed to."""
+    """The calls of a leader to one member: what the last one said and when, how many were not answered since, when one
+    was agreed to, and how many in a row came as late as after a call without an answer, though there was one."""
 
     term: int
     place: int = 0  # the place that the call goes on behind, or that of its entry
     commit: int = 0
     unanswered: int = 0
     agreed: Optional[float] = None
+    moment: float = 0.0
+    as_unanswered: int = 0
 
 
 class Lead(NamedTuple):
@@ -333,9 +336,9 @@ class Scene:
 
     def comes_twice(self) -> bool:
         """Whether each frame comes twice, of more than one node: not those of two devices with one node ID."""
-        many = [of for of in self._sent.values() if of[0] >= 8]
-        twice = sum(copies > 0.35 * count for count, copies in many)
-        return twice >= 2 and 2 * twice > len(many)
+        several = [of for of in self._sent.values() if of[0] >= 2]
+        twice = sum(copies > 0.35 * count for count, copies in several)
+        return self.frames >= 16 and twice >= 2 and 2 * twice > len(several)
 
     # --- what comes
 
@@ -532,7 +535,9 @@ class Scene:
         call = self.calls.get((heading.source, heading.destination))
         if call is None or call.term != term:
             call = self.calls[heading.source, heading.destination] = Call(term)
-        call.place, call.commit, call.unanswered = place, commit, call.unanswered + 1
+        is_late = call.agreed is not None and not call.unanswered and self.now - call.moment >= LATE_CALL
+        call.as_unanswered = call.as_unanswered + 1 if is_late else 0
+        call.place, call.commit, call.unanswered, call.moment = place, commit, call.unanswered + 1, self.now
         if self.given and heading.source not in self.given:
             return events
         if self.lead is None or (term, heading.source) != (self.lead.term, self.lead.node):

@@ -109,10 +109,11 @@ CAUSES: Dict[str, str] = {
     ),
     "zero-unique-id": "a device asks with a unique ID of zeros, and is given nothing",
     "never-goes-on": (
-        "a device asks, is answered, and sends its second request never, or later than 500 ms: it does not "
-        "hear, or is broken"
+        "a device asks, is answered, and sends its second request never, or later than 500 ms, or no third "
+        "one: it does not hear, or is broken"
     ),
     "unheard-answer": "a device was told its ID again and again, and asks on",
+    "starts-again": "the same, and its node begins anew each time",
     "crossed-requests": (
         "a guess, where nothing else is found: several devices ask, and begin each other's exchange anew. "
         "Those that keep the standard's times are served one after the other"
@@ -120,7 +121,7 @@ CAUSES: Dict[str, str] = {
     "unanswered": "a guess: a device asks, and nobody answers, though all looks well",
     "deaf-member": (
         "a warning: a member is away, or shows itself and does not answer; and how many more losses the "
-        "cluster bears"
+        "cluster bears. No warning, but a guess, of a leader that goes on as if nobody answered"
     ),
     "two-unique-ids": (
         "a warning, as a guess: two nodes are there in turn, and never both: a boot loader and its "

@@ -5,11 +5,12 @@ import re
 from typing import Dict, List, Mapping, Optional, Sequence, Set
 
 from .. import scene as scenes
-from .. import texts
+from .. import texts, waits
 from ..scene import Lead, Listing, Scene
 from .common import ELECTED_BY, LATELY, RECENT, Cause, Found, Stores, age, enumeration, ids, seconds, times, verb
 
 SEARCHES = 2.5  # seconds after which a member that still searched would have told so again
+UNHEARD_ANSWERS = 5  # so many answers in a row that a leader seems not to have heard are told
 UNANSWERED_CALLS = 3  # so many calls in a row without an answer are told
 STANDS_BY = 10.0  # seconds within which a member that hears no leader stands for election, its rest included
 MANY_ROUNDS = 8  # calls to one member, after which one that was never called is in no list
@@ -20,6 +21,10 @@ OF_ONE_LIST = (
     "again"
 )
 BEGIN_ANEW = "begin anew with the same IDs"
+LOOK_HOW_IT_ENDED = (
+    "read in the journals with which exit code a member ended that is away, and do what OPERATING.md has for it: after "
+    "18 or 19 mend what is named there before a start. Else start it, or mend its interface and bridge"
+)
 
 
 def silence() -> Cause:
@@ -156,6 +161,13 @@ def _other_lists(scene: Scene, members: Set[int]) -> Found:
         listed, rounds = scene.called_by(node), max(scene.callers[node].peers.values())
         if listed - reference or rounds >= MANY_ROUNDS and reference - listed:
             yield _another_list(scene, node, lead, reference)
+    for answer in {it.by: it for it in scene.answers if it.by in scene.given and it.node in scene.given}.values():
+        yield Cause(
+            "another-list",
+            f"Member {answer.by} told node ID {answer.node} to {answer.part}, and {answer.node} is a member: the list "
+            f"that {answer.by} was told does not have it",
+            OF_ONE_LIST,
+        )
     for node in sorted({answer.by for answer in scene.answers if _led_long_enough(scene, answer)} & reference):
         if node not in scene.callers and len(reference) > 1:
             yield Cause(
@@ -279,7 +291,8 @@ def twice(scene: Scene, _: Stores) -> Found:
             "frames-twice",
             "Each frame comes twice, of more than one node",
             "a second bridge or gateway joins this bus to itself, an adapter gives back what it sent, or the log has "
-            "two interfaces of one bus: end the second way (PREMISES.md, A7)",
+            "two interfaces of one bus: end the second way (PREMISES.md, A7). Members that are told their list ended "
+            "with 18 where they heard it: start them after that",
         )
 
 
@@ -328,7 +341,7 @@ def _no_majority(there: Set[int], members: Set[int], size: int) -> Cause:
         "no-majority",
         f"Of {times(size, 'member')} {here}, {', '.join(missing)}, and {size // 2 + 1} "
         f"{'is' if size == 1 else 'are'} needed",
-        "start the others (OPERATING.md has what each exit code means), or mend their interface and bridge",
+        LOOK_HOW_IT_ENDED,
     )
 
 
@@ -347,7 +360,7 @@ def _no_leader(scene: Scene) -> Found:
             "no-leader",
             f"Nobody leads: {ids({stood.node for _, stood in elections})} stood in {text}, and {answers}",
             "frames between the members are lost, or come late: look at the counts of the bridges and the load of the "
-            "machines. Members whose IDs are 15 apart stand at one moment again and again: take others",
+            f"machines{''.join(f'; {it}: take other node IDs' for it in waits.together(sorted(members)))}",
         )
     elif scene.heard_for >= ELECTED_BY and not _nobody_stands(scene) and not scene.wild:
         yield Cause(
@@ -370,6 +383,15 @@ def _unanswered(scene: Scene, lead: Lead, size: int) -> Found:
         )
     elif deaf:
         yield from _deaf(scene, lead, sorted(deaf), size)
+    unheard = {to for to, call in calls.items() if call.as_unanswered >= UNHEARD_ANSWERS}
+    if size - len(unheard) < size // 2 + 1:
+        yield Cause(
+            "deaf-member",
+            f"Member {lead.node} leads in term {lead.term}, {ids(unheard)} answer its calls, and it goes on as one "
+            "that hears no answer: then it hears no device either",
+            f"mend its receiver, interface or bridge; or stop member {lead.node}, so that another one leads",
+            guess=True,
+        )
     agreed = any(call.agreed is not None and age(scene, call.agreed) <= ELECTED_BY for call in calls.values())
     if behind and not agreed and not deaf:
         yield Cause(
@@ -390,7 +412,7 @@ def _deaf(scene: Scene, lead: Lead, deaf: Sequence[int], size: int) -> Found:
             remedy = "does this member run? Then mend its interface and bridge. Else another node may have its ID"
         else:
             what = f"is not there: it answers none of the calls of member {lead.node}, which leads"
-            remedy = "start this member (OPERATING.md has what its exit code means), or mend its interface and bridge"
+            remedy = LOOK_HOW_IT_ENDED
         yield Cause("deaf-member", f"Member {node} {what}. The cluster goes on, and {bears}", remedy, stops=False)
 
 

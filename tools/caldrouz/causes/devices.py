@@ -9,24 +9,18 @@ from .common import LATELY, RECENT, Cause, Found, Stores, age, ids, times
 
 MANY_ASKED = 3  # requests that are told
 FIRST_BYTES = 12  # of a unique ID, in hexadecimal digits: those of the first request
+TO_BEGIN = 1.0  # seconds from the first answer, after which a node that is switched on had started again
 SOON = 15.0  # seconds within which one device starts again as another
 
 
+def with_a_source(scene: Scene, _: Stores) -> Found:
+    """Requests with a source, by which members that are told their list end."""
+    return _wrong(scene, True)
+
+
 def wrong_requests(scene: Scene, _: Stores) -> Found:
-    """Requests that no allocator takes."""
-    kinds: Dict[Tuple[int, str], List[Malformed]] = {}
-    for it in scene.malformed:
-        if age(scene, it.moment) <= 2 * RECENT:
-            kinds.setdefault((it.source, it.wrong), []).append(it)
-    for (source, wrong), requests in sorted(kinds.items()):
-        if len(requests) >= MANY_ASKED:
-            who = f"Node {source} asks for a node ID, and its request" if source else "A request of a device"
-            yield Cause(
-                "wrong-request",
-                f"{who} {wrong} ({times(len(requests), 'time')}, bytes {requests[-1].part}): no allocator takes it",
-                "mend the device's firmware: it asks without a source node ID, in single frames, with 6, 6 and 4 bytes "
-                "(PROTOCOL.md)",
-            )
+    """Other requests that no allocator takes."""
+    yield from _wrong(scene, False)
     lone = _without_a_first(scene)
     if lone:
         yield Cause(
@@ -35,6 +29,23 @@ def wrong_requests(scene: Scene, _: Stores) -> Found:
             "had answered it before: no allocator takes that",
             "mend the device's firmware: its first request has the flag first_part_of_unique_id",
         )
+
+
+def _wrong(scene: Scene, has_source: bool) -> Found:
+    kinds: Dict[Tuple[int, str], List[Malformed]] = {}
+    for it in scene.malformed:
+        if age(scene, it.moment) <= 2 * RECENT and bool(it.source) == has_source:
+            kinds.setdefault((it.source, it.wrong), []).append(it)
+    ends = ". Members that are told their list end with 18 where they hear it: start them after that"
+    for (source, wrong), requests in sorted(kinds.items()):
+        if len(requests) >= MANY_ASKED:
+            who = f"Node {source} asks for a node ID, and its request" if source else "A request of a device"
+            yield Cause(
+                "wrong-request",
+                f"{who} {wrong} ({times(len(requests), 'time')}, bytes {requests[-1].part}): no allocator takes it",
+                "mend the device's firmware: it asks without a source node ID, in single frames, with 6, 6 and 4 bytes "
+                f"(PROTOCOL.md){ends if source else ''}",
+            )
 
 
 def _without_a_first(scene: Scene) -> List[Request]:
@@ -109,10 +120,28 @@ def _is_stuck(it: Asking) -> bool:
     return not it.told and len(it.firsts) > MANY_ASKED and it.answered >= 6 and not it.went_on
 
 
+def _ends_early(scene: Scene, it: Asking) -> bool:
+    """Whether it was answered as to two of its requests, and no device sent a third one."""
+    since = scene.now - 2 * RECENT
+    later = any(one.stage == 2 and one.moment >= since for one in scene.requests)
+    return (
+        not it.told and it.answered == 12 and len(it.firsts) > MANY_ASKED and not later
+        and not any(one.moment >= since for one in scene.malformed)
+    )
+
+
 def unheard(scene: Scene, _: Stores) -> Found:
     for it in recent_askers(scene):
         if it.told and not _starts_as_two(scene) and sum(moment > it.told[0].moment for moment in it.firsts) > 2:
             last = it.told[-1]
+            if _began_anew(scene, it):
+                yield Cause(
+                    "starts-again",
+                    f"The device {last.part} was told {len(it.told)} times that it has node ID {last.node}, a node "
+                    "with this ID came after that and began anew, and it asks on: it starts again and again",
+                    "look at the device: its power supply, its watchdog, its firmware. Its ID stays the same",
+                )
+                continue
             yield Cause(
                 "unheard-answer",
                 f"The device {last.part} was told {len(it.told)} times that it has node ID {last.node}, and asks on: "
@@ -122,8 +151,23 @@ def unheard(scene: Scene, _: Stores) -> Found:
             )
 
 
+def _began_anew(scene: Scene, it: Asking) -> bool:
+    """Whether the node with the ID that the device was told shows itself since, and was switched on since."""
+    node = scene.nodes.get(it.told[-1].node)
+    return node is not None and node.uptime is not None and node.last - node.uptime > it.told[0].moment + TO_BEGIN
+
+
 def stuck(scene: Scene, _: Stores) -> Found:
-    for it in filter(_is_stuck, recent_askers(scene)):
+    recent = recent_askers(scene)
+    if len(recent) == 1 and _ends_early(scene, recent[0]):
+        yield Cause(
+            "never-goes-on",
+            f"A device whose unique ID begins with {recent[0].part} asked {len(recent[0].firsts)} times, was answered "
+            f"up to {recent[0].answered} of 16 bytes, and never sent its third request",
+            "look at this device: the answer that it does not take is the first one of two frames, with a CRC and a "
+            "toggle bit",
+        )
+    for it in filter(_is_stuck, recent):
         went = "never sent its second request"
         if it.late is not None:
             went = (

@@ -59,7 +59,10 @@ def _unknown(scene: Scene) -> Dict[int, Node]:
 
 def doubles(scene: Scene, _: Stores) -> Found:
     """Two devices with one node ID, or with one unique ID."""
+    mute = {number for number, node in scene.nodes.items() if node.asked and not node.told}
     for number, node in sorted(scene.nodes.items()):
+        if number in mute and len(mute) >= MANY_UNKNOWN:
+            continue  # (one node has all of these IDs)
         recent = [it for it in node.told if it.unique_id != wire.NO_UNIQUE_ID]
         if node.doubled is not None:
             yield Cause(

@@ -123,8 +123,10 @@ def warnings(scene: Scene, stores: Stores) -> Found:
 def run_out(scene: Scene, stores: Stores) -> Found:
     """Node IDs that are being used up: many new pairs within a minute."""
     recent = [it for it in scene.grown if age(scene, it.moment) <= LATELY]
-    kept_back = [it for it in recent if it.entry.unique_id == wire.NO_UNIQUE_ID]
-    unused = [it for it in recent if it not in kept_back and _is_unused(scene, it)]
+    reserved = [it for it in recent if it.entry.unique_id == wire.NO_UNIQUE_ID]
+    answered = {number for number, node in scene.nodes.items() if node.told}  # (while the log took another pair)
+    kept_back = [it for it in reserved if it.entry.node not in answered]
+    unused = [it for it in recent if it not in reserved and _is_unused(scene, it)]
     wasted = len(kept_back) + len(unused)
     if wasted < UNUSED and len(recent) < MANY_PAIRS:
         return
