@@ -253,10 +253,12 @@ int nanosleep(UNUSED const void *a, UNUSED void *b) { return 0; }
 long __sysv_signal(UNUSED int a, UNUSED long b) { return 0; }
 long lseek(UNUSED int a, UNUSED long b, UNUSED int c) { return fails(CANNOT_SEEK); }
 ssize_t pwrite(UNUSED int a, UNUSED const void *b, UNUSED size_t c, UNUSED long d) { return fails(READ_ONLY); }
+unsigned geteuid(void) { return 0; } // (the only user)
 int flock(UNUSED int a, UNUSED int b) { return 0; }
 int fsync(UNUSED int a) { return fails(READ_ONLY); }
 int fdatasync(UNUSED int a) { return fails(READ_ONLY); }
 int fchmod(UNUSED int a, UNUSED unsigned b) { return fails(READ_ONLY); }
+int chmod(UNUSED const char *a, UNUSED unsigned b) { return fails(READ_ONLY); }
 int ftruncate(UNUSED int a, UNUSED long b) { return fails(READ_ONLY); }
 int unlink(UNUSED const char *a) { return fails(READ_ONLY); }
 int __xpg_strerror_r(UNUSED int a, char *to, size_t n) {
