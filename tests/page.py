@@ -42,7 +42,9 @@ ANSWERS = """
 
 
 def examples() -> Dict[str, pathlib.Path]:
-    return {path.parent.relative_to(EXAMPLES).as_posix(): path.parent for path in sorted(EXAMPLES.rglob("words"))}
+    found = {path.parent.relative_to(EXAMPLES).as_posix(): path.parent for path in sorted(EXAMPLES.rglob("words"))}
+    # (The page cannot write, as `replace` does.)
+    return {name: folder for name, folder in found.items() if not name.startswith("replace/")}
 
 
 @functools.lru_cache(maxsize=None)
