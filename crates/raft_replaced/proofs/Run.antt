@@ -2,9 +2,11 @@
 use Rattle.std.proofs.Common.{◌≡◌, ℕ, ◌<◌, ◌≤◌, Bool, true, false, List, [], ◌∷◌, length, refl, arith, sym, ◌∙◌, ap, subst, inl, inr, ◌⊎◌, take}
 use Rattle.std.specs.Prelude.{if◌then◌else◌}
 use Rattle.std.proofs.lemmas.List.{take_all}
-use Rattle.raft_model.specs.History.{Candidacy, KeptVote}
+use Rattle.raft_model.specs.History.{Candidacy, History, KeptVote}
 use Rattle.raft_model.specs.Invariants.{Invariants}
 use Rattle.raft_model.specs.Lists.{In, at_here}
+use Rattle.raft_model.specs.Messages.{Message}
+use Rattle.raft_model.specs.Messages.Message.{Answers, Pairs, Requests}
 use Rattle.raft_model.specs.Runs.{World, Event, Lawful, after, run as run_events}
 use Rattle.raft_model.specs.Safety.{IsSafe, Lasts}
 use Rattle.raft_model.specs.Server.{RaftServer, committed, memory_when_down}
@@ -19,11 +21,11 @@ use Rattle.raft_model.proofs.Safe.{safe}
 use Rattle.raft_model.proofs.Shown.{invariants_shown, lasts_shown, safe_shown}
 use Rattle.raft_replaced.specs.Changes.{MayComeInTurn, Change, FromEachThroughReplacements, ThroughReplacements, changed, only_events}
 use Rattle.raft_replaced.specs.Changes.Change.{Copies, Happens}
-use Rattle.raft_replaced.specs.Replacement.{MayBeCopied, history_copied, history_elected, history_remembered, is_remembered, is_remembered_candidacy, is_remembered_vote, stores_of, world_copied}
+use Rattle.raft_replaced.specs.Replacement.{MayBeCopied, history_copied, history_elected, history_remembered, is_of_logs, is_remembered, is_remembered_candidacy, is_remembered_vote, remains, stores_of, world_copied}
 use Rattle.raft_replaced.proofs.Backing.{IsBacking, bounded, is_backing, leads_own, stores_in}
 use Rattle.raft_replaced.proofs.Copied.{copied, copied_later, copied_meets, focus_copied, ledger_in}
 use Rattle.raft_replaced.proofs.Elected.{elected, elected_bounded, elected_later, elected_meets, stood_left, votes_left}
-use Rattle.raft_replaced.proofs.Filters.{in_filter}
+use Rattle.raft_replaced.proofs.Filters.{filter_has, in_filter, or_left}
 use Rattle.raft_replaced.proofs.Remembered.{AreDown, history_of, remembered, remembered_is, remembered_later, remembered_meets}
 use Rattle.raft_replaced.proofs.Further.{Further, further_copied, run_keeps_further, start_has_further}
 
@@ -231,3 +233,15 @@ copy_has_all members changes a lost leader may =
     let may2 : MayBeCopied (world_of r.state r.steps) lost leader = subst (λ (w : World). MayBeCopied w lost leader) r.same may in
     subst (λ (w : World). committed (stores_of (world_copied w lost leader) lost) ≡ w.ledger.entries) (sym r.same)
     (ap committed (copy_is_store (world_of r.state r.steps) lost leader) ∙ all_committed r.state r.steps lost leader r.facts r.further may2)
+
+of_logs_remains : (history : History) (top : ℕ) (message : Message) → is_of_logs message ≡ true → remains history top message ≡ true
+of_logs_remains history top (Requests request) e = or_left request.append (is_remembered history top request.from request.term) e
+of_logs_remains history top (Answers answer) e =
+    or_left answer.request.append (is_remembered history top answer.request.from answer.request.term) e
+of_logs_remains history top (Pairs pair) e = refl
+
+pub logs_stay : (world : World) (lost leader : ℕ) (message : Message) → In message world.bag → is_of_logs message ≡ true →
+    In message (world_copied world lost leader).bag
+logs_stay world lost leader message i e =
+    filter_has (remains world.history (stores_of world leader).term) world.bag message i
+    (of_logs_remains world.history (stores_of world leader).term message e)

@@ -31,13 +31,20 @@ abbrev pub is_remembered_candidacy : History → ℕ → Candidacy → Bool
 is_remembered_candidacy history top candidacy = is_remembered history top candidacy.candidate candidacy.term
 
 -- Of the messages all append requests, answers to them and pairs may still come, and the vote requests and answers
--- that are remembered. No other vote request or answer comes any more: all members stand still at a replacement, and
--- what was said of votes before it reached somebody then, or is lost.
+-- that are remembered. No other vote request or answer comes any more: all members stand still at a replacement, those
+-- that ran before rest for 5.5 s when they start (`REST` of `allocator_app`), and a frame comes within 3.5 s of its
+-- making or never (README, premise A6).
 abbrev pub remains : History → ℕ → Message → Bool
 remains history top (Requests request) = request.append || is_remembered history top request.from request.term
 remains history top (Answers answer) =
     answer.request.append || is_remembered history top answer.request.from answer.request.term
 remains history top (Pairs pair) = true
+
+-- The message is no vote request and no answer to one.
+abbrev pub is_of_logs : Message → Bool
+is_of_logs (Requests request) = request.append
+is_of_logs (Answers answer) = answer.request.append
+is_of_logs (Pairs pair) = true
 
 -- the history with what is remembered alone
 abbrev pub history_remembered : History → ℕ → History

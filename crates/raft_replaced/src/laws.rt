@@ -5,13 +5,14 @@
 
 ghost use Rattle.std.specs.Prelude.{ℕ, true, false, List, [], ◌∷◌, ◌≡◌, ◌≤◌, ◌==◌, ◌&&◌, length};
 ghost use Rattle.raft_model.specs.Invariants.{Invariants};
-ghost use Rattle.raft_model.specs.Lists.{how_many};
+ghost use Rattle.raft_model.specs.Lists.{In, how_many};
+ghost use Rattle.raft_model.specs.Messages.{Message};
 ghost use Rattle.raft_model.specs.Runs.{Event, Lawful, World, initial_world, run};
 ghost use Rattle.raft_model.specs.Safety.{IsSafe, Lasts};
 ghost use Rattle.raft_model.specs.Server.{committed, quorum};
 ghost use Rattle.raft_replaced.specs.Changes.{MayComeInTurn, FromEachThroughReplacements, ThroughReplacements};
 ghost use Rattle.raft_replaced.specs.Changes.{changed, only_events};
-ghost use Rattle.raft_replaced.specs.Replacement.{MayBeCopied, is_vote_for, stores_of, world_copied};
+ghost use Rattle.raft_replaced.specs.Replacement.{MayBeCopied, is_of_logs, is_vote_for, stores_of, world_copied};
 ghost use Rattle.raft_replaced.specs.Worlds.{world_with_stale_vote};
 
 /// Every run with replacements keeps the nine invariants and is safe, at each moment; and what lasts from one moment of
@@ -31,12 +32,15 @@ pub fn law_plain_runs()
         MayComeInTurn world (only_events events) }
 {}
 
-/// After a replacement the lost member has the leader's store, and all that is committed.
+/// After a replacement the lost member has the leader's store, and all that is committed. Each append request, answer
+/// to one and pair of before may still come.
 pub fn law_copy()
     ensures store { (world : World) (lost leader : ℕ) →
         stores_of (world_copied world lost leader) lost ≡ stores_of world leader }
     ensures all { ThroughReplacements (λ world. (lost leader : ℕ) → MayBeCopied world lost leader →
         committed (stores_of (world_copied world lost leader) lost) ≡ world.ledger.entries) }
+    ensures bag { (world : World) (lost leader : ℕ) (message : Message) → In message world.bag →
+        is_of_logs message ≡ true → In message (world_copied world lost leader).bag }
 {}
 
 /// Replacements come: of three members one is lost, where the leader led its term, and where it only stood in it. Both
