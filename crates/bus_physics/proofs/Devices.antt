@@ -47,12 +47,13 @@ module _ (limits : Limits) (all : List Timed) where
     pub is : is_of device.setting key h.arrival ≡ true
     pub timely : IsTimely h.arrival h.at
 
-  -- so far apart are the frames of a session at most, by a clock that may be so much wrong
-  abbrev pub width : ℕ → ℕ
-  width wrong = 2000 + wrong
+  -- a frame of a session comes no sooner than the one before it; and where it comes lately, no more than so much later,
+  -- by a clock that may be so much wrong
+  abbrev pub IsClose : ℕ → ℕ → ℕ → Type 0
+  IsClose wrong first second = (first ≤ second) × (limits.since ≤ second → second ≤ first + (2000 + wrong))
 
   abbrev pub AllInTime : List Queued → List Reading → List Session → Type 0
-  AllInTime frames past sessions = (s : Session) → In s sessions → IsInTime (IsKnown frames) (width limits.drift) past s
+  AllInTime frames past sessions = (s : Session) → In s sessions → IsInTime (IsKnown frames) (IsClose limits.drift) past s
 
   -- for allocatee a
   abbrev pub Inv : ℕ → List Queued → List Reading → (ℕ → Option Device) → Type 0
@@ -75,28 +76,28 @@ module _ (limits : Limits) (all : List Timed) where
   pub all_more : (frames more : List Queued) (past later : List Reading) → ((p : Reading) → In p past → In p later) → (sessions : List Session) → AllInTime frames past sessions
       → AllInTime (frames ++ more) later sessions
   all_more frames more past later grows sessions each s i =
-      still (IsKnown frames) (IsKnown (frames ++ more)) (more_frames frames more) (width limits.drift) past later grows s (each s i)
+      still (IsKnown frames) (IsKnown (frames ++ more)) (more_frames frames more) (IsClose limits.drift) past later grows s (each s i)
 
   all_later : (frames : List Queued) (past later : List Reading) → ((p : Reading) → In p past → In p later) → (sessions : List Session) → AllInTime frames past sessions
       → AllInTime frames later sessions
-  all_later frames past later grows sessions each s i = still (IsKnown frames) (IsKnown frames) (λ key h is. is) (width limits.drift) past later grows s (each s i)
+  all_later frames past later grows sessions each s i = still (IsKnown frames) (IsKnown frames) (λ key h is. is) (IsClose limits.drift) past later grows s (each s i)
 
   -- ---- a frame that the allocatee receives
 
-  module _ (wrong : ℕ) (sane : wrong < 58000) (past : List Reading) (came now : ℕ) (goes : GoesOn wrong past came now) where
+  module _ (wrong : ℕ) (sane : wrong < 58000) (past : List Reading) (came now : ℕ) (goes : GoesOn limits wrong past came now) where
     -- since a reading that is no older than a session may be, not more time has passed
-    pub soon : (p : Reading) → In p past → now - p.now ≤ 2000 → (p.at ≤ came) × (came ≤ p.at + width wrong)
-    soon p i young = let g = goes p i in (g.0, omega (arith, g.0, g.1, young, sane))
+    pub soon : (p : Reading) → In p past → now - p.now ≤ 2000 → IsClose wrong p.at came
+    soon p i young = let g = goes p i in (g.0, λ recent. omega (arith, g.0, g.1 recent, young, sane))
 
   module _ (laws : SessionLaws) (of_its_key : (key : Key) (b : Arrival) → is_of device.setting key b ≡ true → IsOfKey device.setting key b)
       (sane : limits.drift < 58000) (a : ℕ) (w : Cluster) (past : List Reading) (came : ℕ) where
     received : (d : Device) (number k ms word : ℕ) → AllInTime w.frames past d.sessions → In (frame_at w.frames k) w.frames
-        → GoesOn limits.drift past came (max d.asking.moment ms) → ComesInTime limits all came (frame_at w.frames k)
+        → GoesOn limits limits.drift past came (max d.asking.moment ms) → ComesInTime limits all came (frame_at w.frames k)
         → AllInTime w.frames (record { at = came; now = max d.asking.moment ms; opens = false } ∷ past) (step d number (receipt_at w k ms word)).device.sessions
     received d number k ms word each there goes timely =
         subst (λ (l : List Session). AllInTime w.frames (record { at = came; now = max d.asking.moment ms; opens = false } ∷ past) l)
         (sym (laws.frame d number word (arrival_at (frame_at w.frames k) ms)))
-        (stepped (IsKnown w.frames) (IsKnown w.frames) (λ key h is. is) (width limits.drift) past (record { at = came; now = max d.asking.moment ms; opens = false } ∷ past) (λ p i. inr i)
+        (stepped (IsKnown w.frames) (IsKnown w.frames) (λ key h is. is) (IsClose limits.drift) past (record { at = came; now = max d.asking.moment ms; opens = false } ∷ past) (λ p i. inr i)
         device.setting d.sessions each (at_step d (arrival_at (frame_at w.frames k) ms)) came (inl refl) (soon limits.drift sane past came (max d.asking.moment ms) goes)
         (λ key is. record {
           came = record { frame = frame_at w.frames k; there = there; id = refl; bytes = refl; mark = refl };
@@ -112,7 +113,7 @@ module _ (limits : Limits) (all : List Timed) where
 
     module _ (inv : Inv a w.frames past w.allocatee) where
       rx_by : (b k ms word : ℕ) (same : Bool) → (a == b) ≡ same → In (frame_at w.frames k) w.frames
-          → WhereIts same (GoesOn limits.drift past came (now_of (w.allocatee b) ms) × ComesInTime limits all came (frame_at w.frames k)) → (x : Device)
+          → WhereIts same (GoesOn limits limits.drift past came (now_of (w.allocatee b) ms) × ComesInTime limits all came (frame_at w.frames k)) → (x : Device)
           → (if same then device_after_step (w.rows + 1) (receipt_at w k ms word) (w.allocatee b) else w.allocatee a) ≡ Some x
           → AllInTime w.frames (if same then record { at = came; now = now_of (w.allocatee b) ms; opens = false } ∷ past else past) x.sessions
       rx_by b k ms word false e there phys x is = inv x is
@@ -120,7 +121,7 @@ module _ (limits : Limits) (all : List Timed) where
         a_is : a ≡ b
         a_is = elim (eqb_tells a b) [ inl s ↦ s.1 | inr n ↦ absurd (cc (sym n.0 ∙ e)) ]
 
-        by : (o : Option Device) → w.allocatee b ≡ o → GoesOn limits.drift past came (now_of o ms) × ComesInTime limits all came (frame_at w.frames k)
+        by : (o : Option Device) → w.allocatee b ≡ o → GoesOn limits limits.drift past came (now_of o ms) × ComesInTime limits all came (frame_at w.frames k)
             → device_after_step (w.rows + 1) (receipt_at w k ms word) o ≡ Some x → AllInTime w.frames (record { at = came; now = now_of o ms; opens = false } ∷ past) x.sessions
         by None o phys is = absurd (cc (is))
         by (Some d) o phys is = subst (λ (y : Device). AllInTime w.frames (record { at = came; now = max d.asking.moment ms; opens = false } ∷ past) y.sessions)

@@ -30,11 +30,11 @@ pub record Heard : Type 0 where
   pub arrival : Arrival
   pub at : ℕ
 
--- each came no sooner than the one before it, and no more than so much later
-abbrev pub AreClose : ℕ → List Heard → Type 0
-AreClose width [] = ⊤
-AreClose width (h ∷ []) = ⊤
-AreClose width (h ∷ k ∷ rest) = (h.at ≤ k.at) × (k.at ≤ h.at + width) × AreClose width (k ∷ rest)
+-- each came so close behind the one before it
+abbrev pub AreClose : (ℕ → ℕ → Type 0) → List Heard → Type 0
+AreClose Close [] = ⊤
+AreClose Close (h ∷ []) = ⊤
+AreClose Close (h ∷ k ∷ rest) = Close h.at k.at × AreClose Close (k ∷ rest)
 
 -- the last one came at this reading
 abbrev pub LastCameAt : List Reading → ℕ → List Heard → Type 0
@@ -42,12 +42,12 @@ LastCameAt past moment [] = ⊤
 LastCameAt past moment (h ∷ []) = In (record { at = h.at; now = moment; opens = false }) past
 LastCameAt past moment (h ∷ k ∷ rest) = LastCameAt past moment (k ∷ rest)
 
-pub record IsInTime (P : Key → Heard → Type 0) (width : ℕ) (past : List Reading) (session : Session) : Type 0 where
+pub record IsInTime (P : Key → Heard → Type 0) (Close : ℕ → ℕ → Type 0) (past : List Reading) (session : Session) : Type 0 where
   pub heard : List Heard
   pub each : (h : Heard) → In h heard → P session.key h
   pub taken : session.taken ≡ map (λ (h : Heard). piece_in h.arrival) heard
   pub marks : session.marks ≡ map (λ (h : Heard). h.arrival.mark) heard
-  pub close : AreClose width heard
+  pub close : AreClose Close heard
   pub ends : LastCameAt past session.moment heard
 
 -- ---- lists
@@ -74,13 +74,13 @@ found key (first ∷ rest) session e = by (same_key key first.key) e (found key 
 
 -- ---- one frame more
 
-module _ (width : ℕ) (past : List Reading) (at now : ℕ)
-    (soon : (p : Reading) → In p past → now - p.now ≤ 2000 → (p.at ≤ at) × (at ≤ p.at + width)) (arrival : Arrival) where
-  pub close_more : (heard : List Heard) (moment : ℕ) → now - moment ≤ 2000 → AreClose width heard → LastCameAt past moment heard
-      → AreClose width (heard ++ record { arrival = arrival; at = at } ∷ [])
+module _ (Close : ℕ → ℕ → Type 0) (past : List Reading) (at now : ℕ)
+    (soon : (p : Reading) → In p past → now - p.now ≤ 2000 → Close p.at at) (arrival : Arrival) where
+  pub close_more : (heard : List Heard) (moment : ℕ) → now - moment ≤ 2000 → AreClose Close heard → LastCameAt past moment heard
+      → AreClose Close (heard ++ record { arrival = arrival; at = at } ∷ [])
   close_more [] moment recent close ends = tt
-  close_more (h ∷ []) moment recent close ends = let s = soon (record { at = h.at; now = moment; opens = false }) ends recent in (s.0, s.1, tt)
-  close_more (h ∷ k ∷ rest) moment recent close ends = (close.0, close.1, close_more (k ∷ rest) moment recent close.2 ends)
+  close_more (h ∷ []) moment recent close ends = (soon (record { at = h.at; now = moment; opens = false }) ends recent, tt)
+  close_more (h ∷ k ∷ rest) moment recent close ends = (close.0, close_more (k ∷ rest) moment recent close.1 ends)
 
 module _ (later : List Reading) (at now : ℕ) (last : In (record { at = at; now = now; opens = false }) later) (arrival : Arrival) where
   ends_more : (heard : List Heard) → LastCameAt later now (heard ++ record { arrival = arrival; at = at } ∷ [])
@@ -93,10 +93,10 @@ module _ (later : List Reading) (at now : ℕ) (last : In (record { at = at; now
 abbrev pub IsIdle : Session → Type 0
 IsIdle session = (session.taken ≡ []) × (session.marks ≡ [])
 
-module _ (P : Key → Heard → Type 0) (width : ℕ) (past : List Reading) (sessions : List Session)
-    (before : (session : Session) → In session sessions → IsInTime P width past session) (now : ℕ) where
+module _ (P : Key → Heard → Type 0) (Close : ℕ → ℕ → Type 0) (past : List Reading) (sessions : List Session)
+    (before : (session : Session) → In session sessions → IsInTime P Close past session) (now : ℕ) where
   abbrev pub IsYoung : Session → Type 0
-  IsYoung session = IsInTime P width past session × (now - session.moment ≤ 2000)
+  IsYoung session = IsInTime P Close past session × (now - session.moment ≤ 2000)
 
   pub comes : (key : Key) (session : Session) → IsIdleOrOf key (recent_sessions now sessions) session → IsIdle session ⊎ IsYoung session
   comes key session is = by is.idle_or_there where
@@ -113,9 +113,9 @@ ends_later past later more moment (h ∷ []) ends = more (record { at = h.at; no
 ends_later past later more moment (h ∷ k ∷ rest) ends = ends_later past later more moment (k ∷ rest) ends
 
 -- what is known of frames, and which readings there were, may grow
-pub still : (P Q : Key → Heard → Type 0) → ((key : Key) (h : Heard) → P key h → Q key h) → (width : ℕ) (past later : List Reading)
-    → ((p : Reading) → In p past → In p later) → (session : Session) → IsInTime P width past session → IsInTime Q width later session
-still P Q known width past later more session is = record {
+pub still : (P Q : Key → Heard → Type 0) → ((key : Key) (h : Heard) → P key h → Q key h) → (Close : ℕ → ℕ → Type 0) (past later : List Reading)
+    → ((p : Reading) → In p past → In p later) → (session : Session) → IsInTime P Close past session → IsInTime Q Close later session
+still P Q known Close past later more session is = record {
   heard = is.heard;
   each = λ h i. known session.key h (is.each h i);
   taken = is.taken;
@@ -124,28 +124,28 @@ still P Q known width past later more session is = record {
   ends = ends_later past later more session.moment is.heard is.ends;
 }
 
-idle : (Q : Key → Heard → Type 0) (width : ℕ) (later : List Reading) (session : Session) → session.taken ≡ [] → session.marks ≡ [] → IsInTime Q width later session
-idle Q width later session taken marks = record { heard = []; each = λ h i. absurd i; taken = taken; marks = marks; close = tt; ends = tt }
+idle : (Q : Key → Heard → Type 0) (Close : ℕ → ℕ → Type 0) (later : List Reading) (session : Session) → session.taken ≡ [] → session.marks ≡ [] → IsInTime Q Close later session
+idle Q Close later session taken marks = record { heard = []; each = λ h i. absurd i; taken = taken; marks = marks; close = tt; ends = tt }
 
 -- ---- a step
 
-module _ (P Q : Key → Heard → Type 0) (known : (key : Key) (h : Heard) → P key h → Q key h) (width : ℕ) (past later : List Reading)
+module _ (P Q : Key → Heard → Type 0) (known : (key : Key) (h : Heard) → P key h → Q key h) (Close : ℕ → ℕ → Type 0) (past later : List Reading)
     (more : (p : Reading) → In p past → In p later) (setting : Setting) (sessions : List Session)
-    (before : (session : Session) → In session sessions → IsInTime P width past session) (arrival : Arrival) (at : ℕ)
+    (before : (session : Session) → In session sessions → IsInTime P Close past session) (arrival : Arrival) (at : ℕ)
     (last : In (record { at = at; now = arrival.moment; opens = false }) later)
-    (soon : (p : Reading) → In p past → arrival.moment - p.now ≤ 2000 → (p.at ≤ at) × (at ≤ p.at + width))
+    (soon : (p : Reading) → In p past → arrival.moment - p.now ≤ 2000 → Close p.at at)
     (own : (key : Key) → is_of setting key arrival ≡ true → Q key (record { arrival = arrival; at = at })) where
   abbrev Then : Session → Type 0
-  Then session = IsInTime Q width later session
+  Then session = IsInTime Q Close later session
 
   stays : (session : Session) → In session sessions → Then session
-  stays session i = still P Q known width past later more session (before session i)
+  stays session i = still P Q known Close past later more session (before session i)
 
   recent_stays : (session : Session) → In session (recent_sessions arrival.moment sessions) → Then session
   recent_stays session i = stays session (filtered (is_recent arrival.moment) sessions session i).0
 
   grown_from : (session : Session) → is_of setting session.key arrival ≡ true
-      → IsIdle session ⊎ IsYoung P width past sessions before arrival.moment session
+      → IsIdle session ⊎ IsYoung P Close past sessions before arrival.moment session
       → Then (session_after (piece_in arrival) arrival.mark arrival.moment session Grows)
   grown_from session of_it (inl none) = record {
     heard = record { arrival = arrival; at = at } ∷ [];
@@ -166,7 +166,7 @@ module _ (P Q : Key → Heard → Type 0) (known : (key : Key) (h : Heard) → P
         ∙ sym (map-append (λ (h : Heard). piece_in h.arrival) is.0.heard (record { arrival = arrival; at = at } ∷ []));
     marks = ap (λ (l : List Mark). l ++ arrival.mark ∷ []) is.0.marks
         ∙ sym (map-append (λ (h : Heard). h.arrival.mark) is.0.heard (record { arrival = arrival; at = at } ∷ []));
-    close = close_more width past at arrival.moment soon arrival is.0.heard session.moment is.1 is.0.close is.0.ends;
+    close = close_more Close past at arrival.moment soon arrival is.0.heard session.moment is.1 is.0.close is.0.ends;
     ends = ends_more later at arrival.moment last arrival is.0.heard;
   }
     where
@@ -177,16 +177,16 @@ module _ (P Q : Key → Heard → Type 0) (known : (key : Key) (h : Heard) → P
       all_of (g ∷ hs) each h (inr i) = all_of hs (λ f j. each f (inr j)) h i
 
   after : (session : Session) (result : Outcome) → is_of setting session.key arrival ≡ true
-      → IsIdle session ⊎ IsYoung P width past sessions before arrival.moment session
+      → IsIdle session ⊎ IsYoung P Close past sessions before arrival.moment session
       → Then (session_after (piece_in arrival) arrival.mark arrival.moment session result)
-  after session (Delivers payload) of_it was = idle Q width later _ refl refl
+  after session (Delivers payload) of_it was = idle Q Close later _ refl refl
   after session Grows of_it was = grown_from session of_it was
-  after session (Spoils why) of_it was = idle Q width later _ refl refl
+  after session (Spoils why) of_it was = idle Q Close later _ refl refl
 
   unchanged : (session : Session)
-      → IsIdle session ⊎ IsYoung P width past sessions before arrival.moment session → Then session
-  unchanged session (inl none) = idle Q width later session none.0 none.1
-  unchanged session (inr is) = still P Q known width past later more session is.0
+      → IsIdle session ⊎ IsYoung P Close past sessions before arrival.moment session → Then session
+  unchanged session (inl none) = idle Q Close later session none.0 none.1
+  unchanged session (inr is) = still P Q known Close past later more session is.0
 
   module _ (w : Wanted) (e : wanted setting.rows setting.me arrival.id ≡ Ok w) (of_one : is_anonymous w.ident.kind ≡ false) where
     abbrev rest : List Session
@@ -199,9 +199,9 @@ module _ (P Q : Key → Heard → Type 0) (known : (key : Key) (h : Heard) → P
         → In s (in_turn setting.blocks w (piece_in arrival) arrival.mark arrival.moment rest session o).sessions → Then s
     turned session None finds s (inl is) = subst Then (sym is)
         (after session (outcome setting.blocks w.signature (piece_in arrival) session.taken rest)
-        (subst (λ (k : Key). is_of setting k arrival ≡ true) (sym finds.own) (is_own setting w arrival e of_one)) (comes P width past sessions before arrival.moment (key_of w.ident) session finds))
+        (subst (λ (k : Key). is_of setting k arrival ≡ true) (sym finds.own) (is_own setting w arrival e of_one)) (comes P Close past sessions before arrival.moment (key_of w.ident) session finds))
     turned session None finds s (inr i) = rest_stays s i
-    turned session (Some why) finds s (inl is) = subst Then (sym is) (unchanged session (comes P width past sessions before arrival.moment (key_of w.ident) session finds))
+    turned session (Some why) finds s (inl is) = subst Then (sym is) (unchanged session (comes P Close past sessions before arrival.moment (key_of w.ident) session finds))
     turned session (Some why) finds s (inr i) = rest_stays s i
 
     of_one_stepped : (s : Session)

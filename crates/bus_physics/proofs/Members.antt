@@ -35,7 +35,7 @@ use Rattle.bus_agreement.proofs.OneRow.{stands}
 use Rattle.bus_agreement.proofs.RowsWithoutEvents.{past_first}
 use Rattle.bus_rows.specs.Timed.{Timed, rows_in}
 use Rattle.bus_physics.specs.Physics.{ClockGoesOn, ClockGoesOnAt, ComesInTime, FrameComesInTime, FramesComeInTime, GoesOn, Limits, WhereIts, Reading, member_readings, now_in, time_of, lag}
-use Rattle.bus_physics.proofs.Devices.{IsTimely, soon, width}
+use Rattle.bus_physics.proofs.Devices.{IsTimely, soon, IsClose}
 use Rattle.bus_physics.proofs.InTime.{Heard, IsInTime, still, stepped}
 
 -- what the crates below say of a step
@@ -64,7 +64,7 @@ module _ (limits : Limits) (all : List Timed) where
     pub timely : IsTimely limits all h.arrival h.at
 
   abbrev pub AllInTimeTo : Setting → List Queued → List Reading → List Session → Type 0
-  AllInTimeTo setting frames past sessions = (s : Session) → In s sessions → IsInTime (IsKnownTo setting frames) (width limits all (lag limits)) past s
+  AllInTimeTo setting frames past sessions = (s : Session) → In s sessions → IsInTime (IsKnownTo setting frames) (IsClose limits all (lag limits)) past s
 
   -- a pending call was made at one of the readings
   abbrev pub AreCalledAt : List Reading → AllocatorState → Type 0
@@ -95,7 +95,7 @@ module _ (limits : Limits) (all : List Timed) where
   with_more : (frames more : List Queued) (past : List Reading) (t : AllocatorState) → MemberInv frames past t → MemberInv (frames ++ more) past t
   with_more frames more past t inv = record {
     heard = λ s i. still (IsKnownTo (setting_for t.me) frames) (IsKnownTo (setting_for t.me) (frames ++ more)) (more_frames (setting_for t.me) frames more)
-        (width limits all (lag limits)) past past (λ p j. j) s (inv.heard s i);
+        (IsClose limits all (lag limits)) past past (λ p j. j) s (inv.heard s i);
     called = inv.called;
   }
 
@@ -122,7 +122,7 @@ module _ (limits : Limits) (all : List Timed) where
             ∙ ap (λ (k : ℕ). record { at = came; now = k; opens = false }) (ap (λ (s : Sending). s.moment) same ∙ laws.now t number event))
 
     later_heard : (now : ℕ) (sessions : List Session) → AllInTimeTo (setting_for t.me) frames past sessions → AllInTimeTo (setting_for t.me) frames (read now ∷ past) sessions
-    later_heard now sessions each s i = still (IsKnownTo (setting_for t.me) frames) (IsKnownTo (setting_for t.me) frames) (λ key h is. is) (width limits all (lag limits)) past
+    later_heard now sessions each s i = still (IsKnownTo (setting_for t.me) frames) (IsKnownTo (setting_for t.me) frames) (λ key h is. is) (IsClose limits all (lag limits)) past
         (read now ∷ past) (λ p j. inr j) s (each s i)
 
     for_me : (event : Event) (now : ℕ) → AllInTimeTo (setting_for t.me) frames (read now ∷ past) (step t number event).step_state.allocator.sessions
@@ -137,12 +137,12 @@ module _ (limits : Limits) (all : List Timed) where
       called = called_then (Ticks ms word);
     }
 
-    pub receives : (frame : Queued) → In frame frames → (ms : ℕ) → GoesOn (lag limits) past came (max t.now ms) → ComesInTime limits all came frame
+    pub receives : (frame : Queued) → In frame frames → (ms : ℕ) → GoesOn limits (lag limits) past came (max t.now ms) → ComesInTime limits all came frame
         → MemberInv frames (read (max t.now ms) ∷ past) (step t number (Receives (arrival_at frame ms))).step_state.allocator
     receives frame there ms goes timely = record {
       heard = for_me (Receives (arrival_at frame ms)) (max t.now ms)
           (subst (λ (l : List Session). AllInTimeTo (setting_for t.me) frames (read (max t.now ms) ∷ past) l) (sym (laws.heard t number (arrival_at frame ms)))
-          (stepped (IsKnownTo (setting_for t.me) frames) (IsKnownTo (setting_for t.me) frames) (λ key h is. is) (width limits all (lag limits)) past (read (max t.now ms) ∷ past)
+          (stepped (IsKnownTo (setting_for t.me) frames) (IsKnownTo (setting_for t.me) frames) (λ key h is. is) (IsClose limits all (lag limits)) past (read (max t.now ms) ∷ past)
           (λ p i. inr i) (setting_for t.me) t.sessions inv.heard (arrival_at frame (max t.now ms)) came (inl refl)
           (soon limits all (lag limits) sane past came (max t.now ms) goes)
           (λ key is. record {
@@ -194,13 +194,13 @@ module _ (limits : Limits) (all : List Timed) where
           (up_after (w.rows + 1) t (tick_of ms word) (w.member m) u f)
           (ticks laws of_its_key sane w.frames past came t (inv t (ap (λ (k : ℕ). (w.member k).status) (is_same m e) ∙ runs)) (w.rows + 1) its_time ms word)
 
-    rx_by : (m k ms : ℕ) (same : Bool) → (n == m) ≡ same → In (frame_at w.frames k) w.frames → WhereIts same (GoesOn (lag limits) past came (now_in (w.member m).status ms))
+    rx_by : (m k ms : ℕ) (same : Bool) → (n == m) ≡ same → In (frame_at w.frames k) w.frames → WhereIts same (GoesOn limits (lag limits) past came (now_in (w.member m).status ms))
         → ComesInTime limits all came (frame_at w.frames k) → (u : AllocatorState)
         → (if same then member_after_step (w.rows + 1) (receipt_of w k ms) (w.member m).status (w.member m) else w.member n).status ≡ Up u
         → MemberInv w.frames (if same then record { at = came; now = now_in (w.member m).status ms; opens = false } ∷ past else past) u
     rx_by m k ms false e there goes timely u up = inv u up
     rx_by m k ms true e there goes timely u up = by (w.member m).status refl goes up where
-      by : (status : MemberStatus) → (w.member m).status ≡ status → GoesOn (lag limits) past came (now_in status ms)
+      by : (status : MemberStatus) → (w.member m).status ≡ status → GoesOn limits (lag limits) past came (now_in status ms)
           → (member_after_step (w.rows + 1) (receipt_of w k ms) status (w.member m)).status ≡ Up u
           → MemberInv w.frames (record { at = came; now = now_in status ms; opens = false } ∷ past) u
       by Down runs on f = absurd (cc (sym runs ∙ f))

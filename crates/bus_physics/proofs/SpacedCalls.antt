@@ -343,19 +343,20 @@ module _ (append : Bool) (p width : ℕ) (P : ℕ → ℕ → Memory → Times �
         step_of z new = ap (λ (y : SentTransfer). y.step) new.is
 
         -- so much went by on the member's clock, and so on a true one
-        far : (w : Waits made past t x) → w.moment + width ≤ g.allocator.now → time_of all x.step + 2 * limits.hold < came
-        far w passed = elim (leb_tells came (time_of all x.step + 60000)) [
+        far : (w : Waits made past t x) → w.moment + width ≤ g.allocator.now → limits.since ≤ time_of all x.step → time_of all x.step + 2 * limits.hold < came
+        far w passed recent = elim (leb_tells came (time_of all x.step + 60000)) [
           | inr long ↦ omega (arith, long.1, short.round)
-          | inl soon ↦ omega (arith, slow (record { at = time_of all x.step; now = w.moment; opens = false }) w.reading soon.1, passed, now_is, short.round, wide)
+          | inl soon ↦ omega (arith, slow (record { at = time_of all x.step; now = w.moment; opens = false }) w.reading recent soon.1, passed, now_is, short.round, wide)
         ]
 
         -- it rested before it was opened, and 2,000 ms have passed since
-        far_after_rest : time_of all x.step + limits.rest ≤ runs.opening.at → runs.opening.now + 2000 ≤ g.allocator.now → time_of all x.step + 2 * limits.hold < came
-        far_after_rest rested passed = elim (leb_tells came (runs.opening.at + 60000)) [
+        far_after_rest : time_of all x.step + limits.rest ≤ runs.opening.at → runs.opening.now + 2000 ≤ g.allocator.now → limits.since ≤ time_of all x.step
+            → time_of all x.step + 2 * limits.hold < came
+        far_after_rest rested passed recent = elim (leb_tells came (runs.opening.at + 60000)) [
           | inr long ↦ omega (arith, long.1, rested, short.rested)
           | inl soon ↦ omega (
             arith,
-            slow runs.opening runs.reading soon.1,
+            slow runs.opening runs.reading (omega (arith, recent, rested)) soon.1,
             ap (λ (b : Bool). if b then limits.drift else lag limits) runs.opens,
             passed,
             now_is,
@@ -365,16 +366,20 @@ module _ (append : Bool) (p width : ℕ) (P : ℕ → ℕ → Memory → Times �
           )
         ]
 
-        at_step : IsNew number n g.offers y → time_of all x.step + 2 * limits.hold < came → time_of all x.step + 2 * limits.hold < time_of all y.step
-        at_step new passed = subst (λ (m : ℕ). time_of all x.step + 2 * limits.hold < m) (sym its_time ∙ ap (time_of all) (sym (step_of y new))) passed
+        -- or it is long ago
+        at_step : IsNew number n g.offers y → (limits.since ≤ time_of all x.step → time_of all x.step + 2 * limits.hold < came) → IsSettled more further x y
+        at_step new passed = elim (leb_tells limits.since (time_of all x.step)) [
+          | inl recent ↦ inl (subst (λ (m : ℕ). time_of all x.step + 2 * limits.hold < m) (sym its_time ∙ ap (time_of all) (sym (step_of y new))) (passed recent.1))
+          | inr old ↦ inr (inr (omega (arith, old.1)))
+        ]
 
         old : In x made → IsNew number n g.offers y → IsEnded made heard runs.opening.at x ⊎ Waits made past t x → IsSettled more further x y
         old k new (inl (inl a)) = inr (settled_now_more made more heard further grows hears x a)
-        old k new (inl (inr rested)) = inl (at_step new (far_after_rest rested (called.over new.offer new.offered (new_call y new called_too))))
+        old k new (inl (inr rested)) = at_step new (far_after_rest rested (called.over new.offer new.offered (new_call y new called_too)))
         old k new (inr w) = elim (decided x k call w) [
           | inl a ↦ inr (inl a)
-          | inr silent ↦ inl (at_step new (far w (called.far x.offer.id w.moment w.more (past_of x k call w silent)
-              new.offer new.offered (new_call y new called_too) (ap (λ (z : SentTransfer). z.offer.id) (sym new.is) ∙ sym id))))
+          | inr silent ↦ at_step new (far w (called.far x.offer.id w.moment w.more (past_of x k call w silent)
+              new.offer new.offered (new_call y new called_too) (ap (λ (z : SentTransfer). z.offer.id) (sym new.is) ∙ sym id)))
         ]
 
         by : In x made ⊎ IsNew number n g.offers x → In y made ⊎ IsNew number n g.offers y → IsSettled more further x y

@@ -48,8 +48,8 @@ module _ (limits : Limits) (all : List Timed) (sane : lag limits < 58000) (made 
   comes : ComesInTime limits all now.at (frame_at w.frames k)
   comes = subst (λ (r : Row). FrameComesInTime limits all w now.at r) row before.comes
 
-  goes : GoesOn (lag limits) before.past now.at (max s.server.now ms)
-  goes = subst (λ (status : MemberStatus). GoesOn (lag limits) before.past now.at (now_in status ms)) s.runs
+  goes : GoesOn limits (lag limits) before.past now.at (max s.server.now ms)
+  goes = subst (λ (status : MemberStatus). GoesOn limits (lag limits) before.past now.at (now_in status ms)) s.runs
       (of_it n (subst (λ (r : Row). ClockGoesOnAt limits n before.past w now.at r) row before.clock))
 
   re_is : s.response.offer.re ≡ s.first.step

@@ -51,7 +51,7 @@ use Rattle.bus_agreement.proofs.WholeTransfers.{forged_allocation}
 use Rattle.bus_rows.specs.Timed.{Timed}
 use Rattle.bus_physics.specs.Physics.{AllocatesApart, AreApart, ComesInOrderToDevice, ComesInTime, HasKey, IsParted, GoesOn, Limits, WhereIts, Reading, now_of, time_of, IsRecent, window}
 use Rattle.bus_physics.specs.Reuse.{AreOfOne, AreOfTwo, IsFrameOf}
-use Rattle.bus_physics.proofs.Devices.{IsKnown, IsTimely, StandsBefore, soon, width}
+use Rattle.bus_physics.proofs.Devices.{IsKnown, IsTimely, StandsBefore, soon, IsClose}
 use Rattle.bus_physics.proofs.InTime.{AreClose, Heard, IsIdle, IsInTime, IsYoung, close_more, comes, filtered, found}
 use Rattle.bus_physics.proofs.Refusals.{IsRefusedAt, of_torn, marked_at_device, refused_at, torn_at_device}
 use Rattle.bus_physics.proofs.ShortAllocations.{AreShortOf}
@@ -62,35 +62,33 @@ use Rattle.bus_physics.proofs.Torn.{completes, forged_has_source, how, place_of}
 -- ---- neighbours among frames that came soon after each other
 
 -- two neighbours, and when they came
-pub record AreNeighbours (hs : List Heard) (wide : ℕ) (one next : Arrival) : Type 0 where
+pub record AreNeighbours (hs : List Heard) (Close : ℕ → ℕ → Type 0) (one next : Arrival) : Type 0 where
   pub first : Heard
   pub second : Heard
   pub first_in : In first hs
   pub second_in : In second hs
   pub one_is : first.arrival ≡ one
   pub next_is : second.arrival ≡ next
-  pub later : first.at ≤ second.at
-  pub soon : second.at ≤ first.at + wide
+  pub close : Close first.at second.at
 
-pub neighbours : (wide : ℕ) (hs : List Heard) → AreClose wide hs → (front : List Arrival) (one next : Arrival) (back : List Arrival)
-    → map (λ (h : Heard). h.arrival) hs ≡ front ++ (one ∷ (next ∷ back)) → AreNeighbours hs wide one next
-neighbours wide [] close [] one next back e = absurd (cc (e))
-neighbours wide [] close (f ∷ front) one next back e = absurd (cc (e))
-neighbours wide (h ∷ []) close [] one next back e = absurd (cc (e))
-neighbours wide (h ∷ []) close (f ∷ []) one next back e = absurd (cc (e))
-neighbours wide (h ∷ []) close (f ∷ g ∷ front) one next back e = absurd (cc (e))
-neighbours wide (h ∷ k ∷ rest) close [] one next back e = record {
+pub neighbours : (Close : ℕ → ℕ → Type 0) (hs : List Heard) → AreClose Close hs → (front : List Arrival) (one next : Arrival) (back : List Arrival)
+    → map (λ (h : Heard). h.arrival) hs ≡ front ++ (one ∷ (next ∷ back)) → AreNeighbours hs Close one next
+neighbours Close [] close [] one next back e = absurd (cc (e))
+neighbours Close [] close (f ∷ front) one next back e = absurd (cc (e))
+neighbours Close (h ∷ []) close [] one next back e = absurd (cc (e))
+neighbours Close (h ∷ []) close (f ∷ []) one next back e = absurd (cc (e))
+neighbours Close (h ∷ []) close (f ∷ g ∷ front) one next back e = absurd (cc (e))
+neighbours Close (h ∷ k ∷ rest) close [] one next back e = record {
   first = h;
   second = k;
   first_in = inl refl;
   second_in = inr (inl refl);
   one_is = cc (e);
   next_is = cc (e);
-  later = close.0;
-  soon = close.1;
+  close = close.0;
 }
-neighbours wide (h ∷ k ∷ rest) close (f ∷ front) one next back e =
-    let r = neighbours wide (k ∷ rest) close.2 front one next back (tails h.arrival f (map (λ (x : Heard). x.arrival) (k ∷ rest)) (front ++ (one ∷ (next ∷ back))) e) in
+neighbours Close (h ∷ k ∷ rest) close (f ∷ front) one next back e =
+    let r = neighbours Close (k ∷ rest) close.1 front one next back (tails h.arrival f (map (λ (x : Heard). x.arrival) (k ∷ rest)) (front ++ (one ∷ (next ∷ back))) e) in
     record {
       first = r.first;
       second = r.second;
@@ -98,8 +96,7 @@ neighbours wide (h ∷ k ∷ rest) close (f ∷ front) one next back e =
       second_in = inr r.second_in;
       one_is = r.one_is;
       next_is = r.next_is;
-      later = r.later;
-      soon = r.soon;
+      close = r.close;
     }
   where
     tails : (a b : Arrival) (xs ys : List Arrival) → a ∷ xs ≡ b ∷ ys → xs ≡ ys
@@ -117,8 +114,8 @@ mapped f (h ∷ hs) = ap (λ (l : List _). f h.arrival ∷ l) (mapped f hs)
 -- ---- what the frame that is torn comes to
 
 module _ (limits : Limits) (all : List Timed) (sane : limits.drift < 58000) (past : List Reading) (came : ℕ) (frames : List Queued) (sessions : List Session)
-    (inv : (s : Session) → In s sessions → IsInTime (IsKnown limits all frames) (width limits all limits.drift) past s) (arrival : Arrival)
-    (goes : GoesOn limits.drift past came arrival.moment) (key : Key) where
+    (inv : (s : Session) → In s sessions → IsInTime (IsKnown limits all frames) (IsClose limits all limits.drift) past s) (arrival : Arrival)
+    (goes : GoesOn limits limits.drift past came arrival.moment) (key : Key) where
   abbrev new : Heard
   new = record { arrival = arrival; at = came }
 
@@ -128,23 +125,23 @@ module _ (limits : Limits) (all : List Timed) (sane : limits.drift < 58000) (pas
     pub each : (h : Heard) → In h heard → IsKnown limits all frames key h
     pub taken : session.taken ≡ map (λ (h : Heard). piece_in h.arrival) heard
     pub marks : session.marks ≡ map (λ (h : Heard). h.arrival.mark) heard
-    pub close : AreClose (width limits all limits.drift) (heard ++ new ∷ [])
+    pub close : AreClose (IsClose limits all limits.drift) (heard ++ new ∷ [])
 
   taken_by : (session : Session) → session.key ≡ key
-      → IsIdle session ⊎ IsYoung (IsKnown limits all frames) (width limits all limits.drift) past sessions inv arrival.moment session → TakenInTime session
+      → IsIdle session ⊎ IsYoung (IsKnown limits all frames) (IsClose limits all limits.drift) past sessions inv arrival.moment session → TakenInTime session
   taken_by session own (inl none) = record { heard = []; each = λ h i. absurd i; taken = none.0; marks = none.1; close = tt }
   taken_by session own (inr is) = record {
     heard = is.0.heard;
     each = λ h i. subst (λ (k : Key). IsKnown limits all frames k h) own (is.0.each h i);
     taken = is.0.taken;
     marks = is.0.marks;
-    close = close_more (width limits all limits.drift) past came arrival.moment (soon limits all limits.drift sane past came arrival.moment goes) arrival
+    close = close_more (IsClose limits all limits.drift) past came arrival.moment (soon limits all limits.drift sane past came arrival.moment goes) arrival
         is.0.heard session.moment is.1 is.0.close is.0.ends;
   }
 
   pub timed_taken : (session : Session) → IsIdleOrOf key (recent_sessions arrival.moment sessions) session → TakenInTime session
   timed_taken session is = taken_by session is.own
-      (comes (IsKnown limits all frames) (width limits all limits.drift) past sessions inv arrival.moment key session is)
+      (comes (IsKnown limits all frames) (IsClose limits all limits.drift) past sessions inv arrival.moment key session is)
 
   pub each_taken : (hs : List Heard) → ((h : Heard) → In h hs → IsKnown limits all frames key h) → (b : Arrival) → In b (map (λ (h : Heard). h.arrival) hs)
       → CameFrom frames b × IsOfKey device.setting key b
@@ -257,11 +254,11 @@ module _ (laws : FrameLaws) (choice : ℕ → Bool) (made : List SentTransfer) (
   abbrev coming : Arrival
   coming = arrival_at (frame_at w.frames k) (max x.asking.moment ms)
 
-  physical : GoesOn limits.drift before.past now.at (now_of (w.allocatee a) ms) × ComesInTime limits all now.at (frame_at w.frames k)
+  physical : GoesOn limits limits.drift before.past now.at (now_of (w.allocatee a) ms) × ComesInTime limits all now.at (frame_at w.frames k)
   physical = of_it a (subst (λ (r : Row). Rattle.bus_physics.specs.Physics.RowIsPhysical limits all a before.past w now.at r) row before.row)
 
-  goes : GoesOn limits.drift before.past now.at (max x.asking.moment ms)
-  goes = subst (λ (o : _). GoesOn limits.drift before.past now.at (now_of o ms)) there physical.0
+  goes : GoesOn limits limits.drift before.past now.at (max x.asking.moment ms)
+  goes = subst (λ (o : _). GoesOn limits limits.drift before.past now.at (now_of o ms)) there physical.0
 
   module _ (d : Delivery) (gives : answer device.setting x.sessions coming ≡ Gives d) (broken : d.whole ≡ false) where
     abbrev its : IsDelivered device.setting x.sessions coming d
@@ -417,8 +414,8 @@ module _ (laws : FrameLaws) (choice : ℕ → Bool) (made : List SentTransfer) (
           lt_trichotomy : (a b : ℕ) → (a < b) ⊎ (b ≤ a)
           lt_trichotomy a b = elim (leb_tells b a) [ inl less ↦ inr less.1 | inr more ↦ inl (omega (arith, more.1)) ]
 
-          pair : AreNeighbours (hs ++ last ∷ []) (width limits all limits.drift) two.one two.next
-          pair = neighbours (width limits all limits.drift) (hs ++ last ∷ []) (taken c.session same_key).close two.front two.one two.next two.back (whole_list ∙ two.split)
+          pair : AreNeighbours (hs ++ last ∷ []) (IsClose limits all limits.drift) two.one two.next
+          pair = neighbours (IsClose limits all limits.drift) (hs ++ last ∷ []) (taken c.session same_key).close two.front two.one two.next two.back (whole_list ∙ two.split)
 
           apart_not : (m n p q : ℕ) → m ≤ p → p ≤ m + limits.hold → n ≤ q → q ≤ n + limits.hold → p ≤ q → q ≤ p + (2000 + limits.drift)
               → AreApart (limits.hold + 2000 + limits.drift) m n → ⊥
@@ -454,21 +451,24 @@ module _ (laws : FrameLaws) (choice : ℕ → Bool) (made : List SentTransfer) (
           second_recent : IsRecent limits all two.second.step
           second_recent = omega (arith, back, made_lately)
 
+          second_came : limits.since ≤ pair.second.at
+          second_came = omega (arith, second_recent, after_two)
+
           first_recent_then : limits.since ≤ pair.first.at
-          first_recent_then = omega (arith, back, made_lately, after_two, pair.soon)
+          first_recent_then = omega (arith, back, made_lately, after_two, pair.close.1 second_came)
 
           soon_one : pair.first.at ≤ time_of all two.first.step + limits.hold
           soon_one = subst (λ (m : ℕ). pair.first.at ≤ time_of all m + limits.hold) step_one (first.soon first_recent_then some_one)
 
           first_recent : IsRecent limits all two.first.step
-          first_recent = omega (arith, back, made_lately, after_two, pair.soon, soon_one)
+          first_recent = omega (arith, back, made_lately, after_two, pair.close.1 second_came, soon_one)
 
           near : AreApart (limits.hold + 2000 + limits.drift) (time_of all two.first.step) (time_of all two.second.step) → ⊥
           near far =
               apart_not (time_of all two.first.step) (time_of all two.second.step) pair.first.at pair.second.at
               (subst (λ (m : ℕ). time_of all m ≤ pair.first.at) step_one (first.after some_one)) soon_one after_two
-              (subst (λ (m : ℕ). pair.second.at ≤ time_of all m + limits.hold) step_two (second.soon (omega (arith, second_recent, after_two)) some_two))
-              pair.later pair.soon far
+              (subst (λ (m : ℕ). pair.second.at ≤ time_of all m + limits.hold) step_two (second.soon second_came some_two))
+              pair.close.0 (pair.close.1 second_came) far
 
       of_one : AreOfOne made d.ident (map (λ (h : Heard). h.arrival) hs ++ coming ∷ []) → ⊥
       of_one one =

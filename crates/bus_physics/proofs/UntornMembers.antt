@@ -45,7 +45,7 @@ use Rattle.bus_agreement.proofs.OneRow.{stands}
 use Rattle.bus_rows.specs.Timed.{Timed}
 use Rattle.bus_physics.specs.Physics.{AreApart, ClockGoesOnAt, ComesInTime, FrameComesInTime, ComesInOrder, GoesOn, HasKeyAt, IsParted, Limits, Reading, UsesIdsApart, may_be_long, now_in, time_of, lag, IsRecent, window}
 use Rattle.bus_physics.specs.Reuse.{AreOfOne, AreOfTwo, IsFrameOf, LacksFrames}
-use Rattle.bus_physics.proofs.Devices.{IsTimely, soon, width}
+use Rattle.bus_physics.proofs.Devices.{IsTimely, soon, IsClose}
 use Rattle.bus_physics.proofs.InTime.{AreClose, Heard, IsIdle, IsInTime, IsYoung, close_more, comes, filtered, found}
 use Rattle.bus_physics.proofs.Following.{KeepsIn}
 use Rattle.bus_physics.proofs.Members.{IsKnownTo, MemberBefore}
@@ -59,8 +59,8 @@ use Rattle.bus_physics.proofs.Untorn.{AreNeighbours, in_its_turn, in_mapped, in_
 -- ---- what the frame that is torn comes to
 
 module _ (limits : Limits) (all : List Timed) (sane : lag limits < 58000) (setting : Setting) (past : List Reading) (came : ℕ) (frames : List Queued) (sessions : List Session)
-    (inv : (s : Session) → In s sessions → IsInTime (IsKnownTo limits all setting frames) (width limits all (lag limits)) past s) (arrival : Arrival)
-    (goes : GoesOn (lag limits) past came arrival.moment) (key : Key) where
+    (inv : (s : Session) → In s sessions → IsInTime (IsKnownTo limits all setting frames) (IsClose limits all (lag limits)) past s) (arrival : Arrival)
+    (goes : GoesOn limits (lag limits) past came arrival.moment) (key : Key) where
   abbrev new : Heard
   new = record { arrival = arrival; at = came }
 
@@ -70,23 +70,23 @@ module _ (limits : Limits) (all : List Timed) (sane : lag limits < 58000) (setti
     pub each : (h : Heard) → In h heard → IsKnownTo limits all setting frames key h
     pub taken : session.taken ≡ map (λ (h : Heard). piece_in h.arrival) heard
     pub marks : session.marks ≡ map (λ (h : Heard). h.arrival.mark) heard
-    pub close : AreClose (width limits all (lag limits)) (heard ++ new ∷ [])
+    pub close : AreClose (IsClose limits all (lag limits)) (heard ++ new ∷ [])
 
   taken_by : (session : Session) → session.key ≡ key
-      → IsIdle session ⊎ IsYoung (IsKnownTo limits all setting frames) (width limits all (lag limits)) past sessions inv arrival.moment session → TakenInTime session
+      → IsIdle session ⊎ IsYoung (IsKnownTo limits all setting frames) (IsClose limits all (lag limits)) past sessions inv arrival.moment session → TakenInTime session
   taken_by session own (inl none) = record { heard = []; each = λ h i. absurd i; taken = none.0; marks = none.1; close = tt }
   taken_by session own (inr is) = record {
     heard = is.0.heard;
     each = λ h i. subst (λ (k : Key). IsKnownTo limits all setting frames k h) own (is.0.each h i);
     taken = is.0.taken;
     marks = is.0.marks;
-    close = close_more (width limits all (lag limits)) past came arrival.moment (soon limits all (lag limits) sane past came arrival.moment goes) arrival
+    close = close_more (IsClose limits all (lag limits)) past came arrival.moment (soon limits all (lag limits) sane past came arrival.moment goes) arrival
         is.0.heard session.moment is.1 is.0.close is.0.ends;
   }
 
   pub timed_taken : (session : Session) → IsIdleOrOf key (recent_sessions arrival.moment sessions) session → TakenInTime session
   timed_taken session is = taken_by session is.own
-      (comes (IsKnownTo limits all setting frames) (width limits all (lag limits)) past sessions inv arrival.moment key session is)
+      (comes (IsKnownTo limits all setting frames) (IsClose limits all (lag limits)) past sessions inv arrival.moment key session is)
 
   pub each_taken : (hs : List Heard) → ((h : Heard) → In h hs → IsKnownTo limits all setting frames key h) → (b : Arrival) → In b (map (λ (h : Heard). h.arrival) hs)
       → CameFrom frames b × IsOfKey setting key b
@@ -133,14 +133,14 @@ module _ (laws : FrameLaws) (choice : ℕ → Bool) (made : List SentTransfer) (
       subst (λ (status : MemberStatus). ShowsMember choice made w.ids w.frames run n status (w.member n).disk) runs (shows.lives n listed) in
       subst (λ (m : ℕ). 1 ≤ m) (sym up.runs.me) (members.nodes n listed).0
 
-  goes : GoesOn (lag limits) before.past now.at (max t.now ms)
-  goes = subst (λ (status : MemberStatus). GoesOn (lag limits) before.past now.at (now_in status ms)) runs
+  goes : GoesOn limits (lag limits) before.past now.at (max t.now ms)
+  goes = subst (λ (status : MemberStatus). GoesOn limits (lag limits) before.past now.at (now_in status ms)) runs
       (of_it n (subst (λ (r : Row). ClockGoesOnAt limits n before.past w now.at r) row before.clock))
 
   timely_frame : ComesInTime limits all now.at (frame_at w.frames k)
   timely_frame = subst (λ (r : Row). FrameComesInTime limits all w now.at r) row before.comes
 
-  abbrev kept_before : (s : Session) → In s t.sessions → IsInTime (IsKnownTo limits all setting w.frames) (width limits all (lag limits)) before.past s
+  abbrev kept_before : (s : Session) → In s t.sessions → IsInTime (IsKnownTo limits all setting w.frames) (IsClose limits all (lag limits)) before.past s
   kept_before s i = (before.inv t runs).heard s i
 
   module _ (d : Delivery) (gives : answer setting t.sessions coming ≡ Gives d) (broken : d.whole ≡ false) where
@@ -340,8 +340,8 @@ module _ (laws : FrameLaws) (choice : ℕ → Bool) (made : List SentTransfer) (
           lt_trichotomy : (a b : ℕ) → (a < b) ⊎ (b ≤ a)
           lt_trichotomy a b = elim (leb_tells b a) [ inl less ↦ inr less.1 | inr more ↦ inl (omega (arith, more.1)) ]
 
-          pair : AreNeighbours (hs ++ last ∷ []) (width limits all (lag limits)) two.one two.next
-          pair = neighbours (width limits all (lag limits)) (hs ++ last ∷ []) (taken c.session same_key).close two.front two.one two.next two.back (whole_list ∙ two.split)
+          pair : AreNeighbours (hs ++ last ∷ []) (IsClose limits all (lag limits)) two.one two.next
+          pair = neighbours (IsClose limits all (lag limits)) (hs ++ last ∷ []) (taken c.session same_key).close two.front two.one two.next two.back (whole_list ∙ two.split)
 
           first : IsTimely limits all pair.first.arrival pair.first.at
           first = timely pair.first pair.first_in
@@ -372,21 +372,24 @@ module _ (laws : FrameLaws) (choice : ℕ → Bool) (made : List SentTransfer) (
           second_recent : IsRecent limits all two.second.step
           second_recent = omega (arith, back, made_lately)
 
+          second_came : limits.since ≤ pair.second.at
+          second_came = omega (arith, second_recent, after_two)
+
           first_recent_then : limits.since ≤ pair.first.at
-          first_recent_then = omega (arith, back, made_lately, after_two, pair.soon)
+          first_recent_then = omega (arith, back, made_lately, after_two, pair.close.1 second_came)
 
           soon_one : pair.first.at ≤ time_of all two.first.step + limits.hold
           soon_one = subst (λ (m : ℕ). pair.first.at ≤ time_of all m + limits.hold) step_one (first.soon first_recent_then some_one)
 
           first_recent : IsRecent limits all two.first.step
-          first_recent = omega (arith, back, made_lately, after_two, pair.soon, soon_one)
+          first_recent = omega (arith, back, made_lately, after_two, pair.close.1 second_came, soon_one)
 
           near : AreApart (limits.hold + 2000 + lag limits) (time_of all two.first.step) (time_of all two.second.step) → ⊥
           near far =
               apart_not limits.hold (lag limits) (time_of all two.first.step) (time_of all two.second.step) pair.first.at pair.second.at
               (subst (λ (m : ℕ). time_of all m ≤ pair.first.at) step_one (first.after some_one)) soon_one after_two
-              (subst (λ (m : ℕ). pair.second.at ≤ time_of all m + limits.hold) step_two (second.soon (omega (arith, second_recent, after_two)) some_two))
-              pair.later pair.soon far
+              (subst (λ (m : ℕ). pair.second.at ≤ time_of all m + limits.hold) step_two (second.soon second_came some_two))
+              pair.close.0 (pair.close.1 second_came) far
 
       of_one : AreOfOne made d.ident (map (λ (h : Heard). h.arrival) hs ++ coming ∷ []) → LacksFrames made coming
       of_one one = record {

@@ -40,9 +40,10 @@ everything = before ++ (at_member ∷ (again ∷ (at_allocatee ∷ [])))
 abbrev pub two_minutes_later : (moment : ℕ) → Timed
 two_minutes_later moment = record { at = 120008; row = Tick 2 moment 0 }
 
--- A bad minute: frame 1 comes to member 2 once more, a minute late. Then member 1 makes frame 4, and sends what waits.
+-- A bad minute: frame 1 comes to member 2 once more, a minute late, in a turn that takes 1,500 ms: the member read its
+-- clock at 59508. Then member 1 makes frame 4, and sends what waits.
 abbrev pub with_bad_minute : List Timed
-with_bad_minute = everything ++ (record { at = 61008; row = Rx 2 1 61500 }
+with_bad_minute = everything ++ (record { at = 61008; row = Rx 2 1 60000 }
     ∷ record { at = 74000; row = Tick 1 73993 0 }
     ∷ record { at = 74001; row = Send 1 }
     ∷ record { at = 74002; row = Send 1 }

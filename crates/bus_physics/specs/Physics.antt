@@ -73,10 +73,10 @@ readings_after a past w at (ARx b k ms word) =
 readings_after a past w at row = past
 
 -- Since each earlier reading the time went on, and the clock did, as much but for so much. Where more than a minute
--- went by, the clock went on by a minute but for that, or more.
-abbrev pub GoesOn : ℕ → List Reading → ℕ → ℕ → Type 0
-GoesOn wrong past at now = (p : Reading) → In p past →
-    (p.at ≤ at) × (p.now + min (at - p.at) 60000 ≤ now + wrong)
+-- went by, the clock went on by a minute but for that, or more. Of the clock this is asked where the reading is recent.
+abbrev pub GoesOn : Limits → ℕ → List Reading → ℕ → ℕ → Type 0
+GoesOn limits wrong past at now = (p : Reading) → In p past →
+    (p.at ≤ at) × (limits.since ≤ at → p.now + min (at - p.at) 60000 ≤ now + wrong)
 
 -- ---- a frame
 
@@ -95,7 +95,7 @@ WhereIts false A = ⊤
 abbrev pub RowIsPhysical : Limits → List Timed → ℕ → List Reading → Cluster → ℕ → Row → Type 0
 RowIsPhysical limits all a past w at (ARx b k ms word) =
     WhereIts (a == b)
-    (GoesOn limits.drift past at (now_of (w.allocatee b) ms) × ComesInTime limits all at (frame_at w.frames k))
+    (GoesOn limits limits.drift past at (now_of (w.allocatee b) ms) × ComesInTime limits all at (frame_at w.frames k))
 RowIsPhysical limits all a past w at row = ⊤
 
 -- each frame that allocatee a takes comes in time, and its clock had gone on by then; of its ticks nothing is asked
@@ -174,18 +174,19 @@ Reads Asked n past w (timed ∷ rest) = ReadsAt Asked n past w timed.at timed.ro
 
 -- the clock of member n goes on
 abbrev pub ClockGoesOnAt : Limits → ℕ → List Reading → Cluster → ℕ → Row → Type 0
-ClockGoesOnAt limits n past w at row = ReadsAt (GoesOn (lag limits)) n past w at row
+ClockGoesOnAt limits n past w at row = ReadsAt (GoesOn limits (lag limits)) n past w at row
 
 abbrev pub ClockGoesOn : Limits → ℕ → List Reading → Cluster → List Timed → Type 0
-ClockGoesOn limits n past w rows = Reads (GoesOn (lag limits)) n past w rows
+ClockGoesOn limits n past w rows = Reads (GoesOn limits (lag limits)) n past w rows
 
 -- but for so much: a row of a turn may stand a turn behind the reading, an opening stands at it
 abbrev pub slack : Limits → Reading → ℕ
 slack limits p = if p.opens then limits.drift else lag limits
 
--- Since each reading of the last minute the clock went on by no more than the time did, but for the drift and a turn.
+-- Since each recent reading of the last minute the clock went on by no more than the time did, but for the drift and a
+-- turn.
 abbrev pub IsNotFast : Limits → List Reading → ℕ → ℕ → Type 0
-IsNotFast limits past at now = (p : Reading) → In p past → at ≤ p.at + 60000 →
+IsNotFast limits past at now = (p : Reading) → In p past → limits.since ≤ p.at → at ≤ p.at + 60000 →
     now ≤ p.now + (at - p.at) + slack limits p
 
 -- the clock of member n does not run fast

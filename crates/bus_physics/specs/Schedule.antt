@@ -37,7 +37,7 @@ pub record DeviceHears (limits : Limits) (ids : List ℕ) (before : List Timed) 
       × ComesInOrderToDevice limits (before ++ now ∷ []) (device_heard_by a (cluster ids) (rows_in before))
       (frame_at (world_of ids (rows_in before)).frames k))
 
--- the same limits, of what happened lately before this time
+-- limits that ask of nothing which happened longer than the window before this time
 abbrev pub lately : Limits → ℕ → Limits
 lately limits at = record limits { since = at - window limits }
 

@@ -195,7 +195,8 @@ pub fn a_member_puts_nothing_together_of_two()
 
 /// The premises can be met: in this cluster a member hears a frame of another one twice, as CAN repeats it, and an
 /// allocatee hears it too. Beyond a minute a clock may lose (`slow`) and gain (`quick`) more than the drift and a turn.
-/// A frame that comes a minute late breaks them (`bad`), and those of a frame that comes 13 s later hold (`healed`).
+/// A frame that comes a minute late breaks them (`bad`), as does the turn of 1,500 ms that takes it (`slow_turn`), and
+/// those of a frame that comes 13 s later hold (`healed`).
 pub fn premises_can_be_met()
     ensures lawful { AreLawful (cluster two) (rows_in first_rows) }
     ensures clock { ClockGoesOn some_limits 2 [] (cluster two) (first_rows ++ at_member ∷ []) }
@@ -219,6 +220,7 @@ pub fn premises_can_be_met()
     ensures bus { HappenOnBus some_limits two [] everything }
     ensures otherwise { LawfulButForBus (cluster two) (rows_in everything) }
     ensures bad { FramesComeInTime some_limits with_bad_minute (cluster two) with_bad_minute → ⊥ }
+    ensures slow_turn { ClockGoesOn some_limits 2 [] (cluster two) with_bad_minute → ⊥ }
     ensures but_lawful { AreLawful (cluster two) (rows_in (with_bad_minute ++ afterwards ∷ [])) }
     ensures healed { HappenOnBus some_limits two with_bad_minute (afterwards ∷ []) }
 {}
@@ -232,15 +234,12 @@ pub fn schedules_on_a_bus_are_lawful()
         HoldsAreShort limits → HappenOnBus limits ids [] all → LawfulButForBus (cluster ids) (rows_in all) →
         AreLawful (cluster ids) (rows_in all) ⊎ LosesFrames ids all }
 {
-    a_device_puts_nothing_together_of_two();
-    a_member_puts_nothing_together_of_two();
-    no_response_outlives_its_transfer_id();
+    a_bad_minute_is_over();
 }
 
 /// It heals: whatever happened before, once the rows since are asked of alone, and come as a bus brings them, and the
 /// rows before were lawful in fact, all that follow are lawful, or a transfer loses frames. What is asked of a row is
-/// asked of what happened lately before it (`window`), but for clocks. So one bad minute takes nothing from what comes
-/// later.
+/// asked of what happened lately before it (`window`). So one bad minute takes nothing from what comes later.
 pub fn a_bad_minute_is_over()
     ensures { (limits : Limits) (ids : List ℕ) (before rest : List Timed) → AreMembers ids → HoldsAreShort limits →
         AreLawful (cluster ids) (rows_in before) → HappenOnBus limits ids before rest →

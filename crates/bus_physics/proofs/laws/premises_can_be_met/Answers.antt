@@ -30,26 +30,26 @@ unfolding step frame_step outcome fits_no_payload all_nodes delivery_phase arriv
 returns-clause-lawful c = (refl, (refl, (refl, (refl, (refl, tt)))))
 
 -- a clock that goes on
-passes : (wrong at now then moment : ℕ) (opens : Bool) → at ≤ then → now + min (then - at) 60000 ≤ moment + wrong
-    → GoesOn wrong (record { at = at; now = now; opens = opens } ∷ []) then moment
-passes wrong at now then moment opens late more p (inl e) = (
+passes : (l : Limits) (wrong at now then moment : ℕ) (opens : Bool) → at ≤ then → (l.since ≤ then → now + min (then - at) 60000 ≤ moment + wrong)
+    → GoesOn l wrong (record { at = at; now = now; opens = opens } ∷ []) then moment
+passes l wrong at now then moment opens late more p (inl e) = (
   omega (arith, late, ap (λ (r : Reading). r.at) e),
-  omega (arith, more, ap (λ (r : Reading). r.at) e, ap (λ (r : Reading). r.now) e),
+  λ recent. omega (arith, more recent, ap (λ (r : Reading). r.at) e, ap (λ (r : Reading). r.now) e),
 )
-passes wrong at now then moment opens late more p (inr i) = absurd i
+passes l wrong at now then moment opens late more p (inr i) = absurd i
 
 pub returns-clause-clock : goal.returns-clause-clock
 unfolding step all_nodes queued_frames next_out left_behind frames_of
-returns-clause-clock c = (tt, (tt, (tt, (tt, (tt, (passes 45 8 500 1050 1505 true (omega arith) (omega arith), tt))))))
+returns-clause-clock c = (tt, (tt, (tt, (tt, (tt, (passes limits 45 8 500 1050 1505 true (omega arith) (λ recent. omega arith), tt))))))
 
 pub returns-clause-slow : goal.returns-clause-slow
 unfolding step all_nodes queued_frames next_out left_behind frames_of
-returns-clause-slow c = (tt, (tt, (tt, (tt, (tt, (passes 45 8 500 120008 120440 true (omega arith) (omega arith), tt))))))
+returns-clause-slow c = (tt, (tt, (tt, (tt, (tt, (passes limits 45 8 500 120008 120440 true (omega arith) (λ recent. omega arith), tt))))))
 
 -- a clock of which nothing is asked any more
 is_long_ago : (at now then moment : ℕ) → at + 60001 ≤ then → IsNotFast limits (record { at = at; now = now; opens = true } ∷ []) then moment
-is_long_ago at now then moment long p (inl e) soon = absurd (omega (arith, long, soon, ap (λ (r : Reading). r.at) e))
-is_long_ago at now then moment long p (inr i) soon = absurd i
+is_long_ago at now then moment long p (inl e) recent soon = absurd (omega (arith, long, soon, ap (λ (r : Reading). r.at) e))
+is_long_ago at now then moment long p (inr i) recent soon = absurd i
 
 pub returns-clause-quick : goal.returns-clause-quick
 unfolding step all_nodes queued_frames next_out left_behind frames_of
@@ -108,7 +108,7 @@ returns-clause-physical c = (
           tt,
           (
             (
-              passes 5 9 40 1050 1080 true (omega arith) (omega arith),
+              passes limits 5 9 40 1050 1080 true (omega arith) (λ recent. omega arith),
               record { after = λ some. omega arith; soon = λ lately_ some. omega arith },
             ),
             tt,
@@ -152,15 +152,15 @@ made_last x (inr (inl e)) = ap (λ (y : SentTransfer). y.step) e
 made_last x (inr (inr i)) = absurd i
 
 -- of two readings
-passes_both : (first second : Reading) (then moment : ℕ) → GoesOn 45 (first ∷ []) then moment → GoesOn 45 (second ∷ []) then moment
-    → GoesOn 45 (second ∷ (first ∷ [])) then moment
+passes_both : (first second : Reading) (then moment : ℕ) → GoesOn limits 45 (first ∷ []) then moment → GoesOn limits 45 (second ∷ []) then moment
+    → GoesOn limits 45 (second ∷ (first ∷ [])) then moment
 passes_both first second then moment a b p (inl e) = b p (inl e)
 passes_both first second then moment a b p (inr i) = a p i
 
 not_fast : (at now then moment : ℕ) → moment ≤ now + (then - at) + 5 → IsNotFast limits (record { at = at; now = now; opens = true } ∷ []) then moment
-not_fast at now then moment less p (inl e) soon =
+not_fast at now then moment less p (inl e) recent soon =
     omega (arith, less, ap (λ (r : Reading). r.at) e, ap (λ (r : Reading). r.now) e, ap (λ (r : Reading). slack limits r) e)
-not_fast at now then moment less p (inr i) soon = absurd i
+not_fast at now then moment less p (inr i) recent soon = absurd i
 
 hears_again : MemberHears limits two (before ++ at_member ∷ []) again 2 1
 unfolding step frame_step outcome fits_no_payload all_nodes delivery_phase session_for session_step wanted queued_frames next_out left_behind frames_of identifier_of payload_of rows
@@ -195,10 +195,10 @@ hears_again = record {
           (
             tt,
             (
-              passes 45 8 500 1050 1505 true (omega arith) (omega arith),
+              passes limits 45 8 500 1050 1505 true (omega arith) (λ recent. omega arith),
               (
                 passes_both (record { at = 8; now = 500; opens = true }) (record { at = 1050; now = 1505; opens = false }) 1050 1541
-                    (passes 45 8 500 1050 1541 true (omega arith) (omega arith)) (passes 45 1050 1505 1050 1541 false (omega arith) (omega arith)),
+                    (passes limits 45 8 500 1050 1541 true (omega arith) (λ recent. omega arith)) (passes limits 45 1050 1505 1050 1541 false (omega arith) (λ recent. omega arith)),
                 tt,
               ),
             ),
@@ -232,7 +232,7 @@ device_hears = record {
               (
                 tt,
                 (
-                  (passes 5 9 40 1050 1080 true (omega arith) (omega arith), record { after = λ some. omega arith; soon = λ lately_ some. omega arith }),
+                  (passes limits 5 9 40 1050 1080 true (omega arith) (λ recent. omega arith), record { after = λ some. omega arith; soon = λ lately_ some. omega arith }),
                   tt,
                 ),
               ),
@@ -284,6 +284,10 @@ bad_lawful = (refl, (refl, (refl, (refl, (refl, (refl, (refl, (refl, (refl, (ref
 pub returns-clause-but_lawful : goal.returns-clause-but_lawful
 returns-clause-but_lawful c = bad_lawful
 
+pub returns-clause-slow_turn : goal.returns-clause-slow_turn
+unfolding step frame_step outcome fits_no_payload all_nodes delivery_phase session_for session_step wanted queued_frames next_out left_behind frames_of identifier_of payload_of rows
+returns-clause-slow_turn c = λ clock. absurd (omega (arith, (clock.1.1.1.1.1.1.1.1.0 (record { at = 1050; now = 1541; opens = false }) (inl refl)).1 (omega arith)))
+
 pub returns-clause-bad : goal.returns-clause-bad
 unfolding step frame_step outcome fits_no_payload all_nodes delivery_phase session_for session_step wanted queued_frames next_out left_behind frames_of identifier_of payload_of rows
 returns-clause-bad c = λ comes. absurd (omega (arith, comes.1.1.1.1.1.1.1.1.0.soon (omega arith) (omega arith)))
@@ -296,20 +300,10 @@ made_in_all x (inr (inr (inl e))) = (ap (λ (y : SentTransfer). y.by) e, ap (λ 
 made_in_all x (inr (inr (inr (inl e)))) = (ap (λ (y : SentTransfer). y.by) e, ap (λ (y : SentTransfer). y.offer.to) e)
 made_in_all x (inr (inr (inr (inr i)))) = absurd i
 
-passes_more : (wrong : ℕ) (first : Reading) (past : List Reading) (then moment : ℕ) → GoesOn wrong (first ∷ []) then moment → GoesOn wrong past then moment
-    → GoesOn wrong (first ∷ past) then moment
-passes_more wrong first past then moment a b p (inl e) = a p (inl e)
-passes_more wrong first past then moment a b p (inr i) = b p i
-
-fast_more : (first : Reading) (past : List Reading) (then moment : ℕ) → IsNotFast limits (first ∷ []) then moment → IsNotFast limits past then moment
-    → IsNotFast limits (first ∷ past) then moment
-fast_more first past then moment a b p (inl e) soon = a p (inl e) soon
-fast_more first past then moment a b p (inr i) soon = b p i soon
-
-fast_turn : (at now then moment : ℕ) → moment ≤ now + (then - at) + 45 → IsNotFast limits (record { at = at; now = now; opens = false } ∷ []) then moment
-fast_turn at now then moment less p (inl e) soon =
-    omega (arith, less, ap (λ (r : Reading). r.at) e, ap (λ (r : Reading). r.now) e, ap (λ (r : Reading). slack limits r) e)
-fast_turn at now then moment less p (inr i) soon = absurd i
+passes_more : (l : Limits) (first : Reading) (past : List Reading) (then moment : ℕ) → GoesOn l 45 (first ∷ []) then moment → GoesOn l 45 past then moment
+    → GoesOn l 45 (first ∷ past) then moment
+passes_more l first past then moment a b p (inl e) = a p (inl e)
+passes_more l first past then moment a b p (inr i) = b p i
 
 -- the readings of member 2, the latest first
 abbrev first_readings : List Reading
@@ -328,14 +322,23 @@ abbrev third_readings : List Reading
 third_readings = third_reading ∷ second_readings
 
 abbrev fourth_reading : Reading
-fourth_reading = record { at = 61008; now = 61500; opens = false }
-
-later_fast : IsNotFast limits second_readings 1050 1541
-later_fast = fast_more second_reading first_readings 1050 1541
-    (fast_turn 1050 1505 1050 1541 (omega arith)) (not_fast 8 500 1050 1541 (omega arith))
+fourth_reading = record { at = 61008; now = 60000; opens = false }
 
 abbrev lately_limits : Limits
 lately_limits = lately limits 74050
+
+-- a clock of which nothing is asked, since the reading is not recent
+old_passes : (at now then moment : ℕ) (opens : Bool) → at ≤ then → then ≤ 71804 → GoesOn lately_limits 45 (record { at = at; now = now; opens = opens } ∷ []) then moment
+old_passes at now then moment opens late old = passes lately_limits 45 at now then moment opens late (λ recent. absurd (omega (arith, old, recent)))
+
+old_fast : (at now then moment : ℕ) (opens : Bool) → at ≤ 71804 → IsNotFast lately_limits (record { at = at; now = now; opens = opens } ∷ []) then moment
+old_fast at now then moment opens old p (inl e) recent soon = absurd (omega (arith, old, recent, ap (λ (r : Reading). r.at) e))
+old_fast at now then moment opens old p (inr i) recent soon = absurd i
+
+fast_more : (first : Reading) (past : List Reading) (then moment : ℕ) → IsNotFast lately_limits (first ∷ []) then moment → IsNotFast lately_limits past then moment
+    → IsNotFast lately_limits (first ∷ past) then moment
+fast_more first past then moment a b p (inl e) recent soon = a p (inl e) recent soon
+fast_more first past then moment a b p (inr i) recent soon = b p i recent soon
 
 old_comes : (frame : Queued) (at : ℕ) → at ≤ 71804 → (1 ≤ frame.mark.step → time_of (with_bad_minute ++ afterwards ∷ []) frame.mark.step ≤ at)
     → ComesInTime lately_limits (with_bad_minute ++ afterwards ∷ []) at frame
@@ -356,7 +359,7 @@ healed_hears : MemberHears lately_limits two with_bad_minute afterwards 2 4
 unfolding step frame_step outcome fits_no_payload all_nodes delivery_phase session_for session_step wanted queued_frames next_out left_behind frames_of identifier_of payload_of rows
 healed_hears = record {
   comes = (tt, (tt, (tt, (tt, (tt, (old_comes _ 1050 (omega arith) (λ some. omega arith), (old_comes _ 1050 (omega arith) (λ some. omega arith), (tt, (old_comes _ 61008 (omega arith) (λ some. omega arith), (tt, (tt, (tt, (tt, (record { after = λ some. omega arith; soon = λ recent some. omega arith }, tt))))))))))))));
-  clock = (tt, (tt, (tt, (tt, (tt, (passes 45 8 500 1050 1505 true (omega arith) (omega arith), (passes_more 45 second_reading first_readings 1050 1541 (passes 45 1050 1505 1050 1541 false (omega arith) (omega arith)) (passes 45 8 500 1050 1541 true (omega arith) (omega arith)), (tt, (passes_more 45 third_reading second_readings 61008 61500 (passes 45 1050 1541 61008 61500 false (omega arith) (omega arith)) (passes_more 45 second_reading first_readings 61008 61500 (passes 45 1050 1505 61008 61500 false (omega arith) (omega arith)) (passes 45 8 500 61008 61500 true (omega arith) (omega arith))), (tt, (tt, (tt, (tt, (passes_more 45 fourth_reading third_readings 74050 74542 (passes 45 61008 61500 74050 74542 false (omega arith) (omega arith)) (passes_more 45 third_reading second_readings 74050 74542 (passes 45 1050 1541 74050 74542 false (omega arith) (omega arith)) (passes_more 45 second_reading first_readings 74050 74542 (passes 45 1050 1505 74050 74542 false (omega arith) (omega arith)) (passes 45 8 500 74050 74542 true (omega arith) (omega arith)))), tt))))))))))))));
+  clock = (tt, (tt, (tt, (tt, (tt, (old_passes 8 500 1050 1505 true (omega arith) (omega arith), (passes_more lately_limits second_reading first_readings 1050 1541 (old_passes 1050 1505 1050 1541 false (omega arith) (omega arith)) (old_passes 8 500 1050 1541 true (omega arith) (omega arith)), (tt, (passes_more lately_limits third_reading second_readings 61008 60000 (old_passes 1050 1541 61008 60000 false (omega arith) (omega arith)) (passes_more lately_limits second_reading first_readings 61008 60000 (old_passes 1050 1505 61008 60000 false (omega arith) (omega arith)) (old_passes 8 500 61008 60000 true (omega arith) (omega arith))), (tt, (tt, (tt, (tt, (passes_more lately_limits fourth_reading third_readings 74050 74542 (passes lately_limits 45 61008 60000 74050 74542 false (omega arith) (λ recent. omega arith)) (passes_more lately_limits third_reading second_readings 74050 74542 (passes lately_limits 45 1050 1541 74050 74542 false (omega arith) (λ recent. omega arith)) (passes_more lately_limits second_reading first_readings 74050 74542 (passes lately_limits 45 1050 1505 74050 74542 false (omega arith) (λ recent. omega arith)) (passes lately_limits 45 8 500 74050 74542 true (omega arith) (λ recent. omega arith)))), tt))))))))))))));
   orders = λ m i. elim i [
     | inl e ↦ subst InOrder (sym e) to_one
     | inr (inl e) ↦ subst InOrder (sym e) to_two
@@ -368,7 +371,7 @@ healed_hears = record {
     | inr (inr (inl e)) ↦ omega (arith, ap (λ (f : Queued). f.mark.step) e)
     | inr (inr (inr j)) ↦ absurd j
   ];
-  fast = (tt, (tt, (tt, (tt, (tt, (not_fast 8 500 1050 1505 (omega arith), (later_fast, (tt, (fast_more third_reading second_readings 61008 61500 (fast_turn 1050 1541 61008 61500 (omega arith)) (fast_more second_reading first_readings 61008 61500 (fast_turn 1050 1505 61008 61500 (omega arith)) (is_long_ago 8 500 61008 61500 (omega arith))), (tt, (tt, (tt, (tt, tt)))))))))))));
+  fast = (tt, (tt, (tt, (tt, (tt, (old_fast 8 500 1050 1505 true (omega arith), (fast_more second_reading first_readings 1050 1541 (old_fast 1050 1505 1050 1541 false (omega arith)) (old_fast 8 500 1050 1541 true (omega arith)), (tt, (fast_more third_reading second_readings 61008 60000 (old_fast 1050 1541 61008 60000 false (omega arith)) (fast_more second_reading first_readings 61008 60000 (old_fast 1050 1505 61008 60000 false (omega arith)) (old_fast 8 500 61008 60000 true (omega arith))), (tt, (tt, (tt, (tt, tt)))))))))))));
   rests = λ x number told moment word i mine recent less opened. absurd (omega (arith, (made_in_all x i).0, mine));
   apart = λ x y i j by what to to_too id less long recent recent_too. absurd (omega (arith, (made_in_all x i).1, to));
 }

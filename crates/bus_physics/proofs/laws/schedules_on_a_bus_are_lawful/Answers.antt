@@ -1,20 +1,5 @@
-use Rattle.std.proofs.Common.{◌<◌, ◌≤◌, arith, refl}
-use Rattle.std.specs.Prelude.{[], ◌∷◌, ◌++◌}
-use Rattle.bus_spec.specs.Cluster.{cluster}
-use Rattle.bus_physics.specs.Physics.{lag}
-use Rattle.bus_physics.specs.Schedule.{lately}
-use Rattle.bus_physics.proofs.Scheduled.{DeviceLaw, StaleLaw, TornLaw, heard_in_order, short_lately, scheduled}
+use Rattle.std.specs.Prelude.{[]}
 use Rattle.bus_physics.proofs.laws.schedules_on_a_bus_are_lawful.Goals as goal
 
 pub returns : goal.returns
-returns c = λ limits ids all members enough happen but.
-    let sane : lag limits < 58000 = omega (arith, enough.clock) in
-    let sane_too : limits.drift < 58000 = omega (arith, enough.clock) in
-    let device : DeviceLaw limits ids = λ before now a k ms word row lawful hears e.
-    c.a_device_puts_nothing_together_of_two.ensures (lately limits now.at) ids before now a k ms word members sane_too (omega arith) row lawful hears.comes hears.slow e in
-    let torn : TornLaw limits ids = λ before now n k ms row lawful hears e.
-    c.a_member_puts_nothing_together_of_two.ensures (lately limits now.at) ids before now n k ms members sane (omega arith) row lawful hears.comes hears.clock (heard_in_order (lately limits now.at) ids (before ++ now ∷ []) before n k ms hears.orders e) hears.order hears.apart e in
-    let stale : StaleLaw limits ids = λ before now n k ms row lawful hears e.
-    c.no_response_outlives_its_transfer_id.ensures (lately limits now.at) ids before now n k ms members (short_lately limits now.at enough) (omega arith) row lawful hears.comes hears.clock
-    hears.fast hears.orders hears.order hears.rests e in
-    scheduled limits ids device torn stale all [] (cluster ids) refl tt happen but
+returns c = λ limits ids all members enough happen but. c.a_bad_minute_is_over.ensures limits ids [] all members enough tt happen but
