@@ -17,7 +17,7 @@ import images
 from acts import ONE, Act
 from support import EXAMPLES, ROOT, TESTS, Ended, run_tool, write_lines
 
-from caldrouz import causes, logs, machine, stores, timing, waits, wire
+from caldrouz import causes, logs, machine, stores, timing, wire
 
 MOUNTS = r"""21 1 254:0 / / rw,relatime - ext4 /dev/vda rw
 22 21 0:21 / /proc rw - proc proc rw
@@ -168,16 +168,7 @@ class Lists(unittest.TestCase):
         self.assertRegex(said.written, r"A3 +not tested: +the list of .*4, who called nobody")
 
 
-class Waits(unittest.TestCase):
-    def test_waits_that_end_together(self) -> None:
-        """Members 15, 50 and 65 apart often wait as long as each other."""
-        self.assertEqual([waits.first_wait(node) for node in (1, 2, 3, 8, 23)], [2584, 3294, 3562, 2670, 2668])
-        said = check("--members", "8,23,1")
-        broken = "NOT SO:" in said.written  # of the machine of this test
-        self.assertEqual(said.status, 1 if broken else 5)
-        self.assertRegex(said.written, r"calm warning: +the first waits of members 8 and 23 end within 2 ms")
-        self.assertRegex(check("--members", "1,2,3").written, r"calm ok: +no first waits of two members end together")
-
+class BeginningAnew(unittest.TestCase):
     def test_beginning_anew_is_left_to_a_person(self) -> None:
         self.assertRegex(check().written, r"A8 +that where all stores are made anew nobody starts before .* for 6 s")
 

@@ -49,7 +49,6 @@ class Words(Case):
             "CLUSTER names 6 members": {"CLUSTER": "1,2,3,4,5,6"},
             "CLUSTER names 2 twice": {"CLUSTER": "1,2,2"},
             "CLUSTER names 118": {"CLUSTER": "1,2,118"},
-            "which are 15 apart": {"CLUSTER": "1,16,30"},
             "BASE is a port, 1024 to 65410, and not '500'": {"BASE": "500"},
             "MEMBERS are node IDs with spaces between them": {"MEMBERS": "1,2,3"},
             "MEMBERS names 4, which is none of CLUSTER=1,2,3": {"MEMBERS": '"1 4"'},

@@ -16,8 +16,7 @@ matters, the program is the judge.
     scene     what is heard on a bus, and the events of it; causes: why devices get no node ID; health: how a cluster
               is, for people, programs and alarms; asking: asks for an ID
     vehicle   the settings of the units: the members of a cluster, and what of it runs on this machine
-    timing    how late frames of a log are; machine: what a machine tells of its disks, processes and interfaces;
-              waits: which members stand for election together
+    timing    how late frames of a log are; machine: what a machine tells of its disks, processes and interfaces
     notify    what a service tells systemd; journal: entries of its journal, with fields
     words     the command lines of the tools: their parser, their exit codes, how they end, and the buses, logs and
               stores that they are given

@@ -25,7 +25,6 @@ FOLDER = "/etc/caldrouz"
 STATE = "/var/lib/caldrouz"
 NAMES = "CLUSTER", "BASE", "MEMBERS", "BITRATE", "ADAPTER"
 HIGHEST_MEMBER = 117  # a node ID above it has the port of a tool or of the bridge
-APART = 15, 50, 65  # by so much the node IDs of two members may not differ, or their first waits end together
 RATES = range(10_000, 1_000_001)  # bits a second of classic CAN
 PORTS = 126  # ports from a base on that one cluster uses
 
@@ -132,10 +131,6 @@ def _cluster(it: Vehicle) -> Iterator[str]:
     yield from (f"CLUSTER names {one} twice" for one in sorted(set(told)) if told.count(one) > 1)
     wrong = [one for one in told if not 1 <= one <= HIGHEST_MEMBER]
     yield from (f"CLUSTER names {one}: the node ID of a member is 1 to {HIGHEST_MEMBER}" for one in wrong)
-    for one in told:
-        for other in told:
-            if other - one in APART:
-                yield f"CLUSTER names {one} and {other}, which are {other - one} apart: their elections would fail"
 
 
 def _base(it: Vehicle) -> Iterator[str]:

@@ -6,7 +6,7 @@ use Rattle.outside.specs.declared.received.Received.{Received}
 use Rattle.outside.specs.declared.received.Received.TheVariants.{Frame as Item, Junk, Nothing}
 use Rattle.outside.specs.Readings.{next_reading}
 use Rattle.outside.specs.Traffic.{next_item}
-use Rattle.cmd_io.specs.Draws.{next_state, word_at}
+use Rattle.cmd_node.specs.Words.{next_words, word_of}
 use Rattle.raft_model.specs.Members.{HasNoneTwice}
 use Rattle.bus_rows.specs.declared.row.Row.{Row}
 use Rattle.bus_rows.specs.declared.row.Row.TheVariants.{Ext, Rx, Tick}
@@ -148,7 +148,7 @@ module _ (laws : Laws) (ids mine : List ℕ) (rules : Rules) (given : RunInput) 
   moment = next_reading all.readings
 
   abbrev word : ℕ
-  word = word_at (next_state t.running.draws)
+  word = word_of (next_words t.running.words)
 
   abbrev n : ℕ
   n = t.running.id

@@ -1,10 +1,9 @@
 -- A turn of the worked trace, in which a frame comes.
 use Rattle.std.proofs.Common.{◌≡◌, false, [], ◌∷◌, ◌++◌, refl, sym, subst}
-use Rattle.cmd_io.specs.Draws.{next_state, word_at}
 use Rattle.outside.specs.Traffic.{next_item}
 use Rattle.alloc_spec.specs.Rules.{rules_by}
 use Rattle.bus_spec.specs.Cluster.{Cluster, after_rows, cluster}
-use Rattle.cmd_node_laws.specs.Example.{first_events, given_then, later_events, two, world_by_then}
+use Rattle.cmd_node_laws.specs.Example.{first_events, first_word, given_then, later_events, two, word_at_opening, world_by_then}
 use Rattle.cmd_node_laws.specs.Mirrored.{Carries}
 use Rattle.cmd_node_laws.specs.Processes.{Turning, together_at}
 use Rattle.cmd_node_laws.specs.Stands.{IsRunIn, world_after}
@@ -13,10 +12,10 @@ use Rattle.another_log_laws.specs.LawfulTurn.{IsLawfulTurn}
 use Rattle.another_log_laws.proofs.InTurn.{first_may, joined, rest_may}
 
 abbrev opened : Event
-opened = Opens 2 false 9100 (word_at (next_state 2))
+opened = Opens 2 false 9100 (word_at_opening 2)
 
 abbrev turned : Event
-turned = Turns 2 9200 (word_at (next_state (next_state 2))) (WasSent 2)
+turned = Turns 2 9200 (first_word 2) (WasSent 2)
 
 pub lawful_turn : IsRunIn two first_events later_events (rules_by 2 []) (2 ∷ []) given_then (Turning 1 0) → IsLawfulTurn two (rules_by 2 []) (2 ∷ []) given_then 0 0
 lawful_turn run = record {

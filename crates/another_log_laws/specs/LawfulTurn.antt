@@ -2,10 +2,10 @@
 use Rattle.std.specs.Prelude.{ℕ, List, ◌++◌}
 use Rattle.outside.specs.Readings.{next_reading}
 use Rattle.outside.specs.Traffic.{next_item}
-use Rattle.cmd_io.specs.Draws.{next_state, word_at}
 use Rattle.alloc_spec.specs.Rules.{Rules}
 use Rattle.cmd_node.specs.Opening.{RunInput}
 use Rattle.cmd_node.specs.Turns.{Together}
+use Rattle.cmd_node.specs.Words.{next_words, word_of}
 use Rattle.cmd_node_laws.specs.Traces.{Came, Event, MayHappen, Turns}
 use Rattle.cmd_node_laws.specs.Mirrored.{Carries}
 use Rattle.cmd_node_laws.specs.Processes.{Turning, together_at}
@@ -14,7 +14,7 @@ use Rattle.cmd_node_laws.specs.Stands.{IsRunIn, world_after}
 -- the turn of the member at a place as an event of a trace, when all stand like this and this comes on its link
 abbrev pub turn_of : Together → ℕ → Came → Event
 turn_of all place came = let r = all.running place in
-    Turns r.id (next_reading all.readings) (word_at (next_state r.draws)) came
+    Turns r.id (next_reading all.readings) (word_of (next_words r.words)) came
 
 -- A run of these members stands in a trace of a cluster, to where all have taken so many turns and those before a place
 -- one more. The premises hold of the turn that comes next too, with what its link has for it.

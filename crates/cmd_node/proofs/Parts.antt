@@ -5,7 +5,7 @@ use Rattle.disk_model.specs.declared.disk.Disk.{Ghosts}
 use Rattle.disk_model.specs.Contents.{MayLeave}
 use Rattle.outside.specs.declared.received.RawFrame.{RawFrame}
 use Rattle.outside.specs.declared.received.Received.{Received}
-use Rattle.cmd_io.specs.Draws.{next_state, word_at}
+use Rattle.cmd_node.specs.Words.{next_words, word_of}
 use Rattle.raft_core.specs.StoredPuts.{PutWithOrigin, stored_put, stored_puts}
 use Rattle.raft_log.specs.DurableViews.{durable_state}
 use Rattle.raft_log.specs.Rules.{AlwaysStandsForState, StandsForState}
@@ -18,6 +18,7 @@ use Rattle.cmd_node.specs.Stands.{IsTurning}
 use Rattle.cmd_node.specs.Turn.{Turning, turn_after_tick}
 use Rattle.cmd_node.specs.declared.runner.Runner.{Runner}
 use Rattle.cmd_node.specs.declared.steps.LastSteps.{LastSteps}
+use Rattle.cmd_node.specs.declared.words.Words.{Words}
 
 -- after none of them
 at_once : (fact : Stored → Type 0) (puts : List Put) (s : Stored) → fact s → AfterSome fact puts s
@@ -46,7 +47,7 @@ module _ {D F : Type 0} {disk : Ghosts D} (old : Server D F disk) where
   leaves_of_disk mid new puts same leaves = λ told image left. leaves told image (subst (λ d. MayLeave (disk.contents d) image) same left)
 
   -- a turn whose first step was put, and whose second one was made as far as it came
-  pub turn_leaves : (mid new : Server D F disk) (moment word : ℕ) (t : Turning) → word ≡ word_at (next_state t.running.draws) → HasPut old mid (step_puts (Tick moment word) t) →
+  pub turn_leaves : (mid new : Server D F disk) (moment word : ℕ) (t : Turning) → word ≡ word_of (next_words t.running.words) → HasPut old mid (step_puts (Tick moment word) t) →
       disk.tells (disk_of mid) ≡ disk.tells (disk_of old) → LeavesSome mid new (heard_puts moment (turn_after_tick moment t)) → LeavesSome old new (turn_puts moment t)
   unfolding turn_puts
   turn_leaves mid new moment word t is put tells leaves =
@@ -56,7 +57,7 @@ module _ {D F : Type 0} {disk : Ghosts D} (old : Server D F disk) where
 
 module _ {D F : Type 0} {disk : Ghosts D} (old mid new : Server D F disk) (moment : ℕ) (t : Turning) (left : Option (List Received)) where
   -- the first step was put, and the second one was made as far as it came
-  pub turn_cut : (word : ℕ) → word ≡ word_at (next_state t.running.draws) → HasPut old mid (step_puts (Tick moment word) t) → disk.tells (disk_of mid) ≡ disk.tells (disk_of old) →
+  pub turn_cut : (word : ℕ) → word ≡ word_of (next_words t.running.words) → HasPut old mid (step_puts (Tick moment word) t) → disk.tells (disk_of mid) ≡ disk.tells (disk_of old) →
       IsHeardIn moment (turn_after_tick moment t) left (LeavesSome mid new) → IsCutIn moment t left (LeavesSome old new)
   turn_cut word is put tells heard = elim heard [
     | inl h ↦ inl (
@@ -80,14 +81,14 @@ cut_as A B f moment t left cut = elim cut [ inl h ↦ inl (h.0, f (tick_puts mom
 
 -- the one whose turn it is takes its next word
 pub next_word : {D F : Type 0} {disk : Ghosts D} {runner : Runner D F disk} {coming : Option (List Received)} {sent : Option (List RawFrame)} {steps : LastSteps}
-    {t : Turning} {draws : ℕ} → IsTurning runner coming sent steps t → draws ≡ next_state runner.draws →
-    IsTurning (record runner { draws = draws }) coming sent steps (record t { running = record t.running { draws = next_state t.running.draws } })
+    {t : Turning} {words : Words} → IsTurning runner coming sent steps t → words ≡ next_words runner.words →
+    IsTurning (record runner { words = words }) coming sent steps (record t { running = record t.running { words = next_words t.running.words } })
 next_word is next = record {
   running = record {
     id = is.running.id;
     server = is.running.server;
     stored = is.running.stored;
-    draws = next ∙ ap next_state is.running.draws;
+    words = next ∙ ap next_words is.running.words;
     coming_is = is.running.coming_is;
     sent_is = is.running.sent_is;
   };

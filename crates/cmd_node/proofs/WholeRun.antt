@@ -6,7 +6,7 @@ use Rattle.disk_model.specs.declared.disk.Disk.{Ghosts}
 use Rattle.outside.specs.Readings.{next_reading}
 use Rattle.outside.specs.declared.received.RawFrame.{RawFrame}
 use Rattle.outside.specs.declared.received.Received.{Received}
-use Rattle.cmd_io.specs.Draws.{next_state, word_at}
+use Rattle.cmd_node.specs.Words.{next_words, own_words, word_of}
 use Rattle.raft_core.specs.StoredPuts.{store_of, vote_of}
 use Rattle.raft_log.specs.declared.durable.Durable.{Durable}
 use Rattle.raft_log.specs.DurableViews.{durable_disk, durable_fault, durable_state}
@@ -71,15 +71,16 @@ module _ {D : Type 0} {disk : Ghosts D} (one_state : (image : List ℕ) (a b : S
           let id = (slice_index_or runners i r).id in
           let node = slice_index ids i in
           let moment = next_reading (readings_after i given.readings) in
+          let words = (at i r low).words ∙ ap (λ n. next_words (own_words rules.told n)) one.id_is in
           let store = opened_store taken.0 (durable_of server) (given.stored i) (one.opens taken.0 taken.1) (tell.stored_is i taken.0 taken.1) in
           let within : i < length links = omega (arith, count, each, low) in
           record {
             id = one.id_is;
-            server = subst (λ n. StandsFor server (opening_by n rules (store_of (given.stored i)) moment (word_at (next_state node)))) one.id_is
-                (subst (λ s. StandsFor server (opening_by id rules s moment (word_at (next_state node)))) store
-                (subst (λ w. StandsFor server (opening_by id rules (store_of (durable_state (durable_of server))) moment (word_at w))) one.draws (at i r low)));
+            server = subst (λ n. StandsFor server (opening_by n rules (store_of (given.stored i)) moment (word_of (next_words (own_words rules.told node))))) one.id_is
+                (subst (λ s. StandsFor server (opening_by id rules s moment (word_of (next_words (own_words rules.told node))))) store
+                (subst (λ w. StandsFor server (opening_by id rules (store_of (durable_state (durable_of server))) moment (word_of w))) words (at i r low).server));
             stored = opened_state one_state taken.0 (durable_of server) (given.stored i) (one.opens taken.0 taken.1) (tell.stored_is i taken.0 taken.1);
-            draws = one.draws;
+            words = words;
             coming_is = tell.coming_is i l within;
             sent_is = tell.sent_is i l within;
           };

@@ -18,3 +18,4 @@ pub mod Taking
 pub mod Turn
 pub mod Turns
 pub mod WholeRun
+pub mod Words

@@ -3,7 +3,7 @@ use Rattle.std.specs.Prelude.{ℕ, zero, suc, List, [], length, slice_index}
 use Rattle.outside.specs.declared.received.RawFrame.{RawFrame}
 use Rattle.outside.specs.declared.received.Received.{Received}
 use Rattle.outside.specs.Readings.{next_reading, readings_behind}
-use Rattle.cmd_io.specs.Draws.{next_state, word_at}
+use Rattle.cmd_node.specs.Words.{next_words, own_words, word_of}
 use Rattle.raft_core.specs.StoredPuts.{store_of}
 use Rattle.raft_log.specs.Stored.{Stored, after_puts, opening_puts}
 use Rattle.alloc_spec.specs.Rules.{Rules, opening_by}
@@ -23,15 +23,15 @@ abbrev pub readings_after : ℕ → List ℕ → List ℕ
 readings_after zero readings = readings
 readings_after (suc count) readings = readings_behind (readings_after count readings)
 
--- the generator of an allocator's words stands at its node ID before the first
+-- with the first word of its own
 abbrev pub opened_at : Rules → List ℕ → RunInput → ℕ → Running
-opened_at rules ids given place = let id = slice_index ids place in let state = next_state id in
+opened_at rules ids given place = let id = slice_index ids place in let words = next_words (own_words rules.told id) in
     let found = given.stored place in record {
       id = id;
       allocator = opening_by id rules (store_of found)
-          (next_reading (readings_after place given.readings)) (word_at state);
+          (next_reading (readings_after place given.readings)) (word_of words);
       stored = after_puts (opening_puts found) found;
-      draws = state;
+      words = words;
       coming = given.coming place;
       sent = given.sent place;
     }

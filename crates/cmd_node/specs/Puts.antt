@@ -2,7 +2,7 @@
 use Rattle.std.specs.Prelude.{◌≡◌, ◌⊎◌, ℕ, suc, List, [], ◌++◌, length, Option, Some, None}
 use Rattle.outside.specs.declared.received.Received.{Received}
 use Rattle.outside.specs.Traffic.{items_behind, next_item}
-use Rattle.cmd_io.specs.Draws.{next_state, word_at}
+use Rattle.cmd_node.specs.Words.{next_words, word_of}
 use Rattle.raft_core.specs.StoredPuts.{PutWithOrigin}
 use Rattle.alloc_spec.specs.Step.{Event, Tick, step}
 use Rattle.cmd_node.specs.Frames.{event_in}
@@ -14,7 +14,7 @@ step_puts event t = (step t.running.allocator (suc (length t.lines)) event).step
 
 -- the step at its clock
 abbrev pub tick_puts : ℕ → Turning → List PutWithOrigin
-tick_puts moment t = step_puts (Tick moment (word_at (next_state t.running.draws))) t
+tick_puts moment t = step_puts (Tick moment (word_of (next_words t.running.words))) t
 
 abbrev pub taken_puts : Option Event → Turning → List PutWithOrigin
 taken_puts None t = []

@@ -5,7 +5,7 @@ use Rattle.disk_model.specs.declared.disk.Disk.{Ghosts}
 use Rattle.outside.specs.declared.received.RawFrame.{RawFrame}
 use Rattle.outside.specs.declared.received.Received.{Received}
 use Rattle.outside.specs.Readings.{next_reading}
-use Rattle.cmd_io.specs.Draws.{next_state, word_at}
+use Rattle.cmd_node.specs.Words.{next_words, own_words, word_of}
 use Rattle.raft_core.specs.StoredPuts.{store_of}
 use Rattle.raft_log.specs.DurableViews.{durable_state}
 use Rattle.raft_log.specs.Opening.{OpensTo}
@@ -41,7 +41,6 @@ module _ {D F : Type 0} {disk : Ghosts D} where
   -- a disk was taken and opened, for a node ID
   pub record IsOpened (runner : Runner D F disk) (before : Option D) (id : ℕ) : Type 0 where
     pub id_is : runner.id ≡ id
-    pub draws : runner.draws ≡ next_state id
     pub opens : (taken : D) → before ≡ Some taken → OpensTo taken (durable_of runner.server)
     pub later : (taken : D) → before ≡ Some taken → disk.faults taken ≤ disk.faults (runner_disk runner)
     pub tells : (taken : D) → before ≡ Some taken → disk.tells (runner_disk runner) ≡ disk.tells taken
@@ -49,10 +48,10 @@ module _ {D F : Type 0} {disk : Ghosts D} where
     pub standing : IsStanding runner
 
   -- at this moment, with its first word and with what it has stored
-  abbrev pub IsOpenedAt : Rules → Runner D F disk → ℕ → Type 0
-  IsOpenedAt rules runner moment = StandsFor runner.server
-      (opening_by runner.id rules (store_of (durable_state (durable_of runner.server)))
-      moment (word_at runner.draws))
+  pub record IsOpenedAt (rules : Rules) (runner : Runner D F disk) (moment : ℕ) : Type 0 where
+    pub words : runner.words ≡ next_words (own_words rules.told runner.id)
+    pub server : StandsFor runner.server (opening_by runner.id rules
+        (store_of (durable_state (durable_of runner.server))) moment (word_of runner.words))
 
   -- the first of these nodes were opened, each on the disk at its place
   abbrev pub AreOpened : List (Runner D F disk) → List (Option D) → List ℕ → Type 0
@@ -70,7 +69,7 @@ module _ {D F : Type 0} {disk : Ghosts D} where
     pub id : runner.id ≡ r.id
     pub server : StandsFor runner.server r.allocator
     pub stored : durable_state (durable_of runner.server) ≡ r.stored
-    pub draws : runner.draws ≡ r.draws
+    pub words : runner.words ≡ r.words
     pub coming_is : coming ≡ Some r.coming
     pub sent_is : sent ≡ Some r.sent
 

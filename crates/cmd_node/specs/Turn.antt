@@ -4,7 +4,7 @@ use Rattle.std.specs.Prelude.{ℕ, suc, List, [], ◌∷◌, ◌++◌, length, O
 use Rattle.outside.specs.declared.received.RawFrame.{RawFrame}
 use Rattle.outside.specs.declared.received.Received.{Received}
 use Rattle.outside.specs.Traffic.{items_behind, next_item}
-use Rattle.cmd_io.specs.Draws.{next_state, word_at}
+use Rattle.cmd_node.specs.Words.{next_words, word_of}
 use Rattle.raft_core.specs.StoredPuts.{stored_puts}
 use Rattle.raft_log.specs.Stored.{Stored, after_puts}
 use Rattle.alloc_spec.specs.Delivered.{StepResult}
@@ -14,14 +14,15 @@ use Rattle.transfer_tx.specs.Queue.{Queued, next_out}
 use Rattle.bus_spec.specs.Report.{line_of_view}
 use Rattle.replay_text.specs.ReportText.{text_of_line}
 use Rattle.cmd_node.specs.Frames.{event_in, raw_of}
+use Rattle.cmd_node.specs.declared.words.Words.{Words}
 
--- an allocator that runs: its server, what its disk has stored, where the generator of its words stands, the items that
--- its link still has for it, and the frames that were sent there
+-- an allocator that runs: its server, what its disk has stored, its words, the items that its link still has for it, and
+-- the frames that were sent there
 pub record Running : Type 0 where
   pub id : ℕ
   pub allocator : AllocatorState
   pub stored : Stored
-  pub draws : ℕ
+  pub words : Words
   pub coming : List Received
   pub sent : List RawFrame
 
@@ -52,8 +53,8 @@ turn_after_step event t =
 
 -- the allocator reads its clock, with the next word
 abbrev pub turn_after_tick : ℕ → Turning → Turning
-turn_after_tick moment t = let state = next_state t.running.draws in
-    turn_after_step (Tick moment (word_at state)) (record t { running = record t.running { draws = state } })
+turn_after_tick moment t = let words = next_words t.running.words in
+    turn_after_step (Tick moment (word_of words)) (record t { running = record t.running { words = words } })
 
 abbrev pub turn_after_taking : Option Event → Turning → Turning
 turn_after_taking None t = t

@@ -16,5 +16,6 @@ mod runners;
 mod step;
 mod steps;
 mod turns;
+mod words;
 
 pub use run::node;

@@ -11,7 +11,7 @@ ghost use Rattle.outside.specs.declared.received.Received.{Received};
 ghost use Rattle.kv_store.specs.Image.{open_calls};
 ghost use Rattle.kv_store.specs.declared.fault.Fault.{Fault as StoreFault};
 ghost use Rattle.kv_store.specs.declared.fault.OpenFault.TheVariants.{Fault as DiskFault, Damaged};
-ghost use Rattle.cmd_io.specs.Draws.{next_state, word_at};
+ghost use Rattle.cmd_node.specs.Words.{next_words, own_words, word_of};
 ghost use Rattle.raft_core.specs.StoredPuts.{store_of};
 ghost use Rattle.raft_log.specs.DurableViews.{durable_state};
 ghost use Rattle.raft_log.specs.Opening.{FailsToOpen, OpensTo};
@@ -30,22 +30,22 @@ ghost use Rattle.cmd_node.specs.declared.fault.Fault.TheVariants.{AnotherLog as 
 use crate::fault::Fault;
 use crate::frames::{event_in, to_raw};
 use crate::steps::LastSteps;
+use crate::words::Words;
 use alloc_server::{Event, Server, accept_rows};
 use bus_spec::told_of_step;
 use can_frame::Kind;
-use cmd_io::Draws;
 use disk_model::Disk;
 use disk_model::laws::calls_that_succeed_count_no_fault;
 use kv_store::OpenRefused;
 use outside::{Failed, Link};
 use raft_log::laws::a_state_is_durable;
 
-/// A running allocator, with its generator of random words. It is let go by [`Runner::stop`] alone, so
+/// A running allocator, with the words for its waits. It is let go by [`Runner::stop`] alone, so
 /// that no disk is lost.
 pub(crate) struct Runner<D: Disk, F> {
     pub(crate) id: u8,
     pub(crate) server: Server<D, F>,
-    pub(crate) draws: Draws,
+    pub(crate) words: Words,
 }
 
 impl<D: Disk, F: Fn(Kind, u16) -> Option<u64> + Copy> Runner<D, F> {
@@ -71,9 +71,10 @@ impl<D: Disk, F: Fn(Kind, u16) -> Option<u64> + Copy> Runner<D, F> {
         requires few { length told.now ≤ most_members }
         requires receives { MemberReceives F.row F.IsAlwaysCallable F.post accept }
         ensures stands { IfOk result (λ runner. StandsFor runner.server (opening_by id (rules_by size told.now)
-            (store_of (durable_state (durable_of runner.server))) now (word_at (next_state id)))) }
+            (store_of (durable_state (durable_of runner.server))) now
+            (word_of (next_words (own_words told.now id))))) }
         ensures id { IfOk result (λ runner. runner.id ≡ id) }
-        ensures draws { IfOk result (λ runner. runner.draws ≡ next_state id) }
+        ensures words { IfOk result (λ runner. runner.words ≡ next_words (own_words told.now id)) }
         ensures accepts { IfOk result (λ runner. closure_of runner ≡ accept) }
         ensures opens { IfOk result (λ runner. OpensTo disk (durable_of runner.server)) }
         ensures works { IfOk result (λ runner. Works runner) }
@@ -93,12 +94,12 @@ impl<D: Disk, F: Fn(Kind, u16) -> Option<u64> + Copy> Runner<D, F> {
         ensures refused_tells { IfErr result (λ refused. D.tells refused.disk ≡ D.tells disk) }
         ensures refused_later { IfErr result (λ refused. D.faults disk ≤ D.faults refused.disk) }
     {
-        let mut draws = Draws::new(u64::from(id));
-        let word = draws.word();
+        let mut words = Words::new(told, id);
+        let word = words.next();
         match Server::open(id, size, disk, accept_rows(), accept, now, word) {
             Ok(mut server) => {
                 server.learn(told);
-                Ok(Runner { id, server, draws })
+                Ok(Runner { id, server, words })
             }
             Err(refused) => Err(refused),
         }
@@ -147,7 +148,7 @@ impl<D: Disk, F: Fn(Kind, u16) -> Option<u64> + Copy> Runner<D, F> {
         ensures disk_quiet { (result ≡ Err (DiskFailed self.old.id) → ⊥) → IsStanding self.old →
             D.faults (runner_disk self.new) ≡ D.faults (runner_disk self.old) }
     {
-        let word = self.draws.word();
+        let word = self.words.next();
         self.step(Event::Tick { now, word }, steps)?;
         self.hear(now, link, steps)?;
         self.send(link)
@@ -307,7 +308,7 @@ impl<D: Disk, F: Fn(Kind, u16) -> Option<u64> + Copy> Runner<D, F> {
         let Runner {
             id: _,
             server,
-            draws: _,
+            words: _,
         } = self;
         server.stop()
     }

@@ -13,7 +13,7 @@ use Rattle.bus_rows.specs.declared.row.Row.{Row}
 use Rattle.alloc_spec.specs.ClusterMembers.{AreMembers}
 use Rattle.bus_spec.specs.Cluster.{Cluster, after_rows, cluster, is_member, rules_of}
 use Rattle.bus_spec.specs.Members.{is_running}
-use Rattle.cmd_io.specs.Draws.{next_state, word_at}
+use Rattle.cmd_node.specs.Words.{next_words, own_words, word_of}
 use Rattle.cmd_node.specs.Opening.{RunInput, opened_at, readings_after}
 use Rattle.cmd_node.specs.CutRun.{IsCutAtOpening, IsCutAtTurn, KeepsOrOpens}
 use Rattle.cmd_node.specs.Puts.{tick_puts, turn_puts}
@@ -289,7 +289,7 @@ module _ (laws : FollowLaws) {L D : Type 0} (coming : L → Option (List Receive
             → (puts : ℕ) × IsFoundStopped likeness image (after_rows v (rows_of (opening_kill_of rules mine given place puts) v)) n
         in_part likeness image state began same after =
             let found = some_found (StandsForState image) (opening_puts state) state after in
-            let ends = opening_killed n (tells rules) (next_reading (readings_after place given.readings)) (word_at (next_state n)) found.0 v (laws.calm ids (before ++ during) is.may) may in (
+            let ends = opening_killed n (tells rules) (next_reading (readings_after place given.readings)) (word_of (next_words (own_words rules.told n))) found.0 v (laws.calm ids (before ++ during) is.may) may in (
               found.0,
               record {
                 down = ends.dead.down;

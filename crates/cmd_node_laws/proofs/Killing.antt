@@ -6,7 +6,7 @@ use Rattle.outside.specs.declared.received.RawFrame.{RawFrame}
 use Rattle.outside.specs.declared.received.Received.{Received}
 use Rattle.outside.specs.declared.received.Received.TheVariants.{Frame as Item, Junk, Nothing}
 use Rattle.outside.specs.Traffic.{next_item}
-use Rattle.cmd_io.specs.Draws.{next_state, word_at}
+use Rattle.cmd_node.specs.Words.{next_words, word_of}
 use Rattle.raft_core.specs.StoredPuts.{PutWithOrigin}
 use Rattle.raft_log.specs.Stored.{Stored}
 use Rattle.bus_rows.specs.declared.row.Row.{Row}
@@ -167,7 +167,7 @@ module _ (marks : MarkLaws)
   ticked_rows puts moment word = Crash n (4 * puts + 1) Old ∷ Tick n moment word ∷ []
 
   pub killed_told : (w : Cluster) (t : Turning) (moment puts : ℕ) (came : Came) (server : AllocatorState) → AreCalm w → Runs n w server → unmarked_server server ≡ unmarked_server t.running.allocator
-      → let word = word_at (next_state t.running.draws) in let ticked = after_rows w (ticked_rows puts moment word) in
+      → let word = word_of (next_words t.running.words) in let ticked = after_rows w (ticked_rows puts moment word) in
       (is_running (ticked.member n).status ≡ true → MayOccur n moment came ticked) → Carries w.frames (next_item t.running.coming) came
       → Finishes n w (rows_of (DiesInTurn n moment word came puts) w) (after_some puts (turn_puts moment t) (stored_at n w))
   unfolding turn_puts
@@ -191,7 +191,7 @@ module _ (marks : MarkLaws)
       ])
     where
       word : ℕ
-      word = word_at (next_state t.running.draws)
+      word = word_of (next_words t.running.words)
 
       w1 : Cluster
       w1 = after_row w (Crash n (4 * puts + 1) Old)

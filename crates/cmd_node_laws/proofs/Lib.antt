@@ -14,3 +14,4 @@ pub mod Others
 pub mod Running
 pub mod Final
 pub mod Capstone
+pub mod Ranks

@@ -6,7 +6,7 @@ use Rattle.std.proofs.lemmas.List.{take_all}
 use Rattle.outside.specs.declared.received.RawFrame.{RawFrame}
 use Rattle.outside.specs.Readings.{next_reading}
 use Rattle.outside.specs.Traffic.{items_behind, next_item}
-use Rattle.cmd_io.specs.Draws.{next_state, word_at}
+use Rattle.cmd_node.specs.Words.{next_words, own_words, word_of}
 use Rattle.raft_core.specs.StoredPuts.{store_of}
 use Rattle.raft_log.specs.KeyDisk.{opening_on}
 use Rattle.raft_log.specs.Stored.{Put, Stored, after_puts, opening_puts}
@@ -191,7 +191,7 @@ module _ (marks : MarkLaws)
     ]
 
     opens_own : (w : Cluster) → AreCalm w → rules ≡ rules_of w.ids (tells rules) → (place : ℕ) → place < count
-        → let id = slice_index mine place in let event = Opens id (tells rules) (next_reading (readings_after place given.readings)) (word_at (next_state id)) in
+        → let id = slice_index mine place in let event = Opens id (tells rules) (next_reading (readings_after place given.readings)) (word_of (next_words (own_words rules.told id))) in
         MayHappen event w → StandAt rules mine given w (at_point.Opening place) → Own w event (at_point.Opening place)
     opens_own w calm by_rules place within may all i low =
         by_number (λ (p : Point). Follows w v (at_point.Opening place) p (sent_then w event) i) (at_point.Turning 0 0) (at_point.Opening (suc place)) (suc place)
@@ -202,7 +202,7 @@ module _ (marks : MarkLaws)
         id = slice_index mine place
 
         event : Event
-        event = Opens id (tells rules) (next_reading (readings_after place given.readings)) (word_at (next_state id))
+        event = Opens id (tells rules) (next_reading (readings_after place given.readings)) (word_of (next_words (own_words rules.told id)))
 
         v : Cluster
         v = after w event
@@ -210,7 +210,7 @@ module _ (marks : MarkLaws)
         here : i ≡ place → IsMirrored v (opened_at rules mine given i)
         here e = subst (λ (j : ℕ). IsMirrored v (opened_at rules mine given j)) (sym e) (record {
           server = (opened_at rules mine given place).allocator;
-          runs = opened_here w calm by_rules place (next_reading (readings_after place given.readings)) (word_at (next_state id)) ((all place within).1 (omega arith));
+          runs = opened_here w calm by_rules place (next_reading (readings_after place given.readings)) (word_of (next_words (own_words rules.told id))) ((all place within).1 (omega arith));
           same = refl;
         })
 
@@ -222,7 +222,7 @@ module _ (marks : MarkLaws)
 
         stored_here : i ≡ place → HasStored w (at_point.Opening place) i → (v.member (slice_index mine i)).disk.store ≡ (opened_at rules mine given i).stored
         stored_here e is = subst (λ (j : ℕ). (v.member (slice_index mine j)).disk.store ≡ (opened_at rules mine given j).stored) (sym e)
-            (opened_as w calm place (next_reading (readings_after place given.readings)) (word_at (next_state id)) ((subst (HasStored w (at_point.Opening place)) e is).1 (omega arith)))
+            (opened_as w calm place (next_reading (readings_after place given.readings)) (word_of (next_words (own_words rules.told id))) ((subst (HasStored w (at_point.Opening place)) e is).1 (omega arith)))
 
         stored_later : HasStored w (at_point.Opening place) i → HasStored v (at_point.Opening (suc place)) i
         stored_later is = elim (eqb_tells i place) [
@@ -238,7 +238,7 @@ module _ (marks : MarkLaws)
         ]
 
     turns_own : (w : Cluster) → AreCalm w → (taken place : ℕ) (came : Came) → place < count
-        → let id = slice_index mine place in let all = together_at rules mine given taken place in let event = Turns id (next_reading all.readings) (word_at (next_state (all.running place).draws)) came in
+        → let id = slice_index mine place in let all = together_at rules mine given taken place in let event = Turns id (next_reading all.readings) (word_of (next_words (all.running place).words)) came in
         MayHappen event w → Carries w.frames (next_item (all.running place).coming) came
         → StandAt rules mine given w (at_point.Turning taken place) → Own w event (at_point.Turning taken place)
     turns_own w calm taken place came within may carries stand i low =
@@ -256,7 +256,7 @@ module _ (marks : MarkLaws)
         all = first_turns place base
 
         event : Event
-        event = Turns id (next_reading all.readings) (word_at (next_state (all.running place).draws)) came
+        event = Turns id (next_reading all.readings) (word_of (next_words (all.running place).words)) came
 
         v : Cluster
         v = after w event
@@ -308,10 +308,10 @@ module _ (marks : MarkLaws)
     next_own w calm by_rules (Opens n told moment word) (at_point.Opening place) within may after_row stand =
         subst (λ (h : Event). Own w h (at_point.Opening place)) (sym same) (opens_own w calm by_rules place within (subst (λ (h : Event). MayHappen h w) same may) stand)
       where
-        word_is : word ≡ word_at (next_state (slice_index mine place))
-        word_is = after_row.3 ∙ ap (λ (m : ℕ). word_at (next_state m)) after_row.0
+        word_is : word ≡ word_of (next_words (own_words rules.told (slice_index mine place)))
+        word_is = after_row.3 ∙ ap (λ (m : ℕ). word_of (next_words (own_words rules.told m))) after_row.0
 
-        same : Opens n told moment word ≡ Opens (slice_index mine place) (tells rules) (next_reading (readings_after place given.readings)) (word_at (next_state (slice_index mine place)))
+        same : Opens n told moment word ≡ Opens (slice_index mine place) (tells rules) (next_reading (readings_after place given.readings)) (word_of (next_words (own_words rules.told (slice_index mine place))))
         same = λ i. Opens (after_row.0 i) (after_row.1 i) (after_row.2 i) (word_is i)
     next_own w calm by_rules (Turns n moment word came) (at_point.Turning taken place) within may after_row stand =
         subst (λ (h : Event). Own w h (at_point.Turning taken place)) (sym same)
@@ -320,7 +320,7 @@ module _ (marks : MarkLaws)
         all : Together
         all = together_at rules mine given taken place
 
-        same : Turns n moment word came ≡ Turns (slice_index mine place) (next_reading all.readings) (word_at (next_state (all.running place).draws)) came
+        same : Turns n moment word came ≡ Turns (slice_index mine place) (next_reading all.readings) (word_of (next_words (all.running place).words)) came
         same = λ i. Turns (after_row.0 i) (after_row.1.moment_is i) (after_row.1.word_is i) came
     next_own w calm by_rules (Opens n told moment word) (at_point.Turning taken place) within may after_row stand = absurd after_row
     next_own w calm by_rules (Turns n moment word came) (at_point.Opening place) within may after_row stand = absurd after_row

@@ -7,7 +7,7 @@ use Rattle.outside.specs.declared.received.RawFrame.{RawFrame}
 use Rattle.outside.specs.declared.received.Received.{Received}
 use Rattle.outside.specs.declared.received.Received.TheVariants.{Frame as Item, Junk, Nothing}
 use Rattle.outside.specs.Traffic.{items_behind, next_item}
-use Rattle.cmd_io.specs.Draws.{next_state, word_at}
+use Rattle.cmd_node.specs.Words.{next_words, word_of}
 use Rattle.raft_log.specs.Stored.{Stored}
 use Rattle.bus_rows.specs.declared.row.Row.{Row}
 use Rattle.bus_rows.specs.declared.row.Row.TheVariants.{Ext, Send, Tick}
@@ -78,16 +78,16 @@ module _ (marks : MarkLaws)
       step_stored w n server e calm runs ∙ (λ i. after_noted (puts_as server allocator (w.rows + 1) number e f same events i) (is i))
 
   tick_told : (w : Cluster) (t : Turning) (moment : ℕ) (server : AllocatorState) → AreCalm w → Runs n w server → unmarked_server server ≡ unmarked_server t.running.allocator
-      → Tells n w (Tick n moment (word_at (next_state t.running.draws)) ∷ []) t.running (turn_after_tick moment t).running
+      → Tells n w (Tick n moment (word_of (next_words t.running.words)) ∷ []) t.running (turn_after_tick moment t).running
   tick_told w t moment server calm runs same = record {
-    goes = tick_goes deliveries n w moment (word_at (next_state t.running.draws)) server calm runs;
+    goes = tick_goes deliveries n w moment (word_of (next_words t.running.words)) server calm runs;
     same = step_as server t.running.allocator (w.rows + 1) (suc (length t.lines)) (tick_of moment word) (tick_of moment word) same refl;
     sent = sym (append-nil t.running.sent);
     stored = stored_as w server t.running.allocator (suc (length t.lines)) (tick_of moment word) (tick_of moment word) t.running.stored calm runs same refl;
   }
     where
       word : ℕ
-      word = word_at (next_state t.running.draws)
+      word = word_of (next_words t.running.words)
 
   -- the frame as it comes
   pub same_event : (raw : RawFrame) (frame : Queued) (moment : ℕ) → IsOnLink raw frame.id frame.bytes → unmarked_event (Comes (arrival_at frame moment)) ≡ unmarked_event (receipt moment raw)
@@ -191,7 +191,7 @@ module _ (marks : MarkLaws)
   -- ---- the whole turn
 
   pub turn_told : (w : Cluster) (t : Turning) (moment : ℕ) (came : Came) (server : AllocatorState) → AreCalm w → Runs n w server → unmarked_server server ≡ unmarked_server t.running.allocator
-      → let word = word_at (next_state t.running.draws) in
+      → let word = word_of (next_words t.running.words) in
       MayOccur n moment came (after_row w (Tick n moment word)) → Carries w.frames (next_item t.running.coming) came
       → Tells n w (rows_of (Turns n moment word came) w) t.running (turn moment t).running
   unfolding turn
@@ -200,7 +200,7 @@ module _ (marks : MarkLaws)
       (tells_on n w1 (came_rows n moment came) (out_rows n) (turn_after_tick moment t).running (turn_after_hearing moment (turn_after_tick moment t)).running (turn_after_sending (turn_after_hearing moment (turn_after_tick moment t))).running b c)
     where
       word : ℕ
-      word = word_at (next_state t.running.draws)
+      word = word_of (next_words t.running.words)
 
       w1 : Cluster
       w1 = after_row w (Tick n moment word)

@@ -2,7 +2,7 @@
 -- and is opened again by a process that gets what the kill left.
 use Rattle.std.specs.Prelude.{ℕ, false, List, [], ◌∷◌}
 use Rattle.outside.specs.declared.received.Received.TheVariants.{Frame}
-use Rattle.cmd_io.specs.Draws.{next_state, word_at}
+use Rattle.cmd_node.specs.Words.{next_words, own_words, word_of}
 use Rattle.cmd_node.specs.Frames.{raw_of}
 use Rattle.cmd_node.specs.Opening.{RunInput}
 use Rattle.cmd_node_laws.specs.Stands.{world_after}
@@ -12,19 +12,29 @@ use Rattle.bus_spec.specs.Cluster.{Cluster, frame_at}
 abbrev pub two : List ℕ
 two = 1 ∷ 2 ∷ []
 
+-- the words that a member is given which is told a number: at its opening, and in its first two turns
+abbrev pub word_at_opening : ℕ → ℕ
+word_at_opening member = word_of (next_words (own_words [] member))
+
+abbrev pub first_word : ℕ → ℕ
+first_word member = word_of (next_words (next_words (own_words [] member)))
+
+abbrev pub second_word : ℕ → ℕ
+second_word member = word_of (next_words (next_words (next_words (own_words [] member))))
+
 -- Member 1 sends two frames. Member 2 takes the second one, from which it knows both members; its election is due when
 -- it is killed.
 abbrev pub first_events : List Event
-first_events = Opens 1 false 0 (word_at (next_state 1)) ∷ Opens 2 false 0 (word_at (next_state 2))
-    ∷ Turns 1 1000 (word_at (next_state (next_state 1))) Silence
-    ∷ Turns 1 1010 (word_at (next_state (next_state (next_state 1)))) Silence
-    ∷ Turns 2 1020 (word_at (next_state (next_state 2))) (WasSent 2)
-    ∷ DiesInTurn 2 9000 (word_at (next_state (next_state (next_state 2)))) Silence 1 ∷ []
+first_events = Opens 1 false 0 (word_at_opening 1) ∷ Opens 2 false 0 (word_at_opening 2)
+    ∷ Turns 1 1000 (first_word 1) Silence
+    ∷ Turns 1 1010 (second_word 1) Silence
+    ∷ Turns 2 1020 (first_word 2) (WasSent 2)
+    ∷ DiesInTurn 2 9000 (second_word 2) Silence 1 ∷ []
 
 -- a new process opens it, and it takes a turn in which that frame comes once more
 abbrev pub later_events : List Event
 later_events =
-    Opens 2 false 9100 (word_at (next_state 2)) ∷ Turns 2 9200 (word_at (next_state (next_state 2))) (WasSent 2) ∷ []
+    Opens 2 false 9100 (word_at_opening 2) ∷ Turns 2 9200 (first_word 2) (WasSent 2) ∷ []
 
 abbrev pub world_by_then : Cluster
 world_by_then = world_after two first_events

@@ -3,7 +3,7 @@
 use Rattle.std.specs.Prelude.{◌≡◌, ℕ, suc, ◌<◌, ◌≤◌, ◌==◌, Bool, true, false, List, [], ◌∷◌, length, Option, None, Some, slice_index, if◌then◌else◌}
 use Rattle.outside.specs.Readings.{next_reading}
 use Rattle.outside.specs.Traffic.{next_item}
-use Rattle.cmd_io.specs.Draws.{next_state, word_at}
+use Rattle.cmd_node.specs.Words.{next_words, own_words, word_of}
 use Rattle.raft_core.specs.StoredPuts.{store_of}
 use Rattle.alloc_spec.specs.Rules.{Rules, tells}
 use Rattle.bus_spec.specs.Cluster.{Cluster, after_rows, is_member}
@@ -50,7 +50,7 @@ OneOf false A B = B
 -- this is the turn that the member at a place takes next, when all stand like this
 pub record TakesTurn (w : Cluster) (n moment word : ℕ) (came : Came) (all : Together) (place : ℕ) : Type 0 where
   pub moment_is : moment ≡ next_reading all.readings
-  pub word_is : word ≡ word_at (next_state (all.running place).draws)
+  pub word_is : word ≡ word_of (next_words (all.running place).words)
   pub carries : Carries w.frames (next_item (all.running place).coming) came
 
 -- of a process that opens these members by these rules, with what was handed in
@@ -66,7 +66,7 @@ module _ (rules : Rules) (mine : List ℕ) (given : RunInput) where
   -- the event is what it does next
   abbrev pub ComesNext : Cluster → Event → Point → Type 0
   ComesNext w (Opens n told moment word) (Opening place) = (n ≡ slice_index mine place) × (told ≡ tells rules)
-      × (moment ≡ next_reading (readings_after place given.readings)) × (word ≡ word_at (next_state n))
+      × (moment ≡ next_reading (readings_after place given.readings)) × (word ≡ word_of (next_words (own_words rules.told n)))
   ComesNext w (Turns n moment word came) (Turning taken place) =
       (n ≡ slice_index mine place) × TakesTurn w n moment word came (together_at taken place) place
   ComesNext w event point = ⊥

@@ -6,7 +6,7 @@ use Rattle.outside.specs.declared.received.RawFrame.{RawFrame}
 use Rattle.outside.specs.declared.received.Received.{Received}
 use Rattle.outside.specs.Readings.{next_reading}
 use Rattle.outside.specs.Traffic.{items_behind, next_item}
-use Rattle.cmd_io.specs.Draws.{next_state, word_at}
+use Rattle.cmd_node.specs.Words.{next_words, own_words, word_of}
 use Rattle.raft_log.specs.Rules.{StandsForState}
 use Rattle.raft_log.specs.Stored.{Stored}
 use Rattle.raft_model.specs.Lists.{In}
@@ -77,7 +77,7 @@ pub record LeavesAsInWorld {L D : Type 0} (sent : L → Option (List RawFrame)) 
 
 -- the event of its next turn, in which it is killed after so many puts
 abbrev pub kill_of : Running → ℕ → Came → ℕ → Event
-kill_of r moment came puts = DiesInTurn r.id moment (word_at (next_state r.draws)) came puts
+kill_of r moment came puts = DiesInTurn r.id moment (word_of (next_words r.words)) came puts
 
 -- for some number of puts it leaves the member with what the image stands for
 abbrev pub IsFoundKilled : Likeness → List ℕ → Cluster → Running → ℕ → Came → Type 0
@@ -112,7 +112,7 @@ pub record IsCutAsInWorld {L D : Type 0} (coming : L → Option (List Received))
 abbrev pub opening_kill_of : Rules → List ℕ → RunInput → ℕ → ℕ → Event
 opening_kill_of rules mine given place puts = let id = slice_index mine place in
     DiesAtOpening id (tells rules) (next_reading (readings_after place given.readings))
-    (word_at (next_state id)) puts
+    (word_of (next_words (own_words rules.told id))) puts
 
 -- A run was cut off at the opening of the member at a place, before which its members in the world had sent nothing.
 -- Each disk before its own holds what its member has stored; its member and those behind it wait as they did. Whatever

@@ -1,10 +1,12 @@
 //! Laws of the definitions, each the contract of a function that does nothing.
 
-ghost use Rattle.std.specs.Prelude.{◌≡◌, ◌<◌, ◌++◌, ◌∷◌, [], ℕ, List, Option, length};
+ghost use Rattle.std.specs.Prelude.{◌≡◌, ◌<◌, ◌≤◌, ◌+◌, ◌++◌, ◌∷◌, [], ℕ, List, Option, length};
 ghost use Rattle.outside.specs.Traffic.{next_item};
 ghost use Rattle.raft_core.specs.StoredPuts.{store_of, stored_puts};
 ghost use Rattle.raft_log.specs.Rules.{StandsForState};
 ghost use Rattle.raft_log.specs.Stored.{AfterSome, Stored};
+ghost use Rattle.can_frame.specs.Sizes.{most_members};
+ghost use Rattle.can_frame.specs.Timing.{election_spread, election_wait};
 ghost use Rattle.raft_model.specs.Lists.{In};
 ghost use Rattle.raft_model.specs.Members.{HasNoneTwice};
 ghost use Rattle.bus_agreement.specs.Allocatees.{HasAllocatees};
@@ -19,6 +21,7 @@ ghost use Rattle.cmd_node.specs.Opening.{RunInput};
 ghost use Rattle.cmd_node.specs.Puts.{turn_puts};
 ghost use Rattle.cmd_node.specs.Turn.{Running, Turning as Turn};
 ghost use Rattle.cmd_node.specs.WholeRun.{LeavesAll, Tell, after_turns};
+ghost use Rattle.cmd_node.specs.Words.{next_words, own_words, rank, word_by_rank, word_of};
 ghost use Rattle.cmd_node_laws.specs.Traces.{Came, Event, MayAllHappen, all_rows};
 ghost use Rattle.cmd_node_laws.specs.Alike.{Alike, Likeness};
 ghost use Rattle.cmd_node_laws.specs.Example.{first_events, given_then, later_events, two, world_by_then};
@@ -35,6 +38,21 @@ use outside::Link;
 use raft_core::laws::an_opening_keeps_the_store;
 use raft_log::laws::an_image_stands_for_one_state;
 use transfer_rx::laws::deliveries_are_whole_transfers;
+
+/// Members that are told their list have the same word in each turn. The words of two differ by 375 or more, and are
+/// within the spread of waits: so their waits for an election differ by 375 ms or more. The longest is less than twice
+/// the shortest, so the member that has it stands before another one stands twice.
+pub fn members_wait_apart()
+    ensures same { (members : List ℕ) (id : ℕ) → 0 < length members →
+        next_words (own_words members id) ≡ own_words members id }
+    ensures spread { (members : List ℕ) (id : ℕ) → In id members → length members ≤ most_members →
+        word_of (own_words members id) < election_spread }
+    ensures apart { (members : List ℕ) (low high : ℕ) → In low members → In high members → low < high →
+        length members ≤ most_members →
+        word_of (own_words members low) + 375 ≤ word_of (own_words members high) }
+    ensures shorter { (members : List ℕ) (id : ℕ) → In id members → length members ≤ most_members →
+        word_of (own_words members id) + 500 ≤ election_wait }
+{}
 
 /// Every trace of a cluster of processes that meets the premises stands for a list of rows that do no harm. So along
 /// these rows the headline holds, what an allocatee holds is a pair of the list, and the run of the Raft

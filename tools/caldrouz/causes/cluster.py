@@ -5,7 +5,7 @@ import re
 from typing import Dict, List, Mapping, Optional, Sequence, Set
 
 from .. import scene as scenes
-from .. import texts, waits
+from .. import texts
 from ..scene import Lead, Listing, Scene
 from .common import ELECTED_BY, LATELY, RECENT, Cause, Found, Stores, age, enumeration, ids, seconds, times, verb
 
@@ -360,7 +360,7 @@ def _no_leader(scene: Scene) -> Found:
             "no-leader",
             f"Nobody leads: {ids({stood.node for _, stood in elections})} stood in {text}, and {answers}",
             "frames between the members are lost, or come late: look at the counts of the bridges and the load of the "
-            f"machines{''.join(f'; {it}: take other node IDs' for it in waits.together(sorted(members)))}",
+            "machines",
         )
     elif scene.heard_for >= ELECTED_BY and not _nobody_stands(scene) and not scene.wild:
         yield Cause(

@@ -14,7 +14,7 @@ use Rattle.transfer_rx.specs.Reassembly.{session_step, step as frame_step}
 use Rattle.transfer_rx.specs.Sessions.{session_for}
 use Rattle.transfer_tx.specs.Queue.{left_behind, next_out, queued_frames}
 use Rattle.outside.specs.declared.received.Received.TheVariants.{Frame}
-use Rattle.cmd_io.specs.Draws.{next_state, word_at}
+use Rattle.cmd_node.specs.Words.{next_words, own_words, word_of}
 use Rattle.cmd_node.specs.Frames.{is_frame, raw_of}
 use Rattle.alloc_spec.specs.ClusterMembers.{AreMembers}
 use Rattle.bus_spec.specs.Cluster.{Cluster, after_rows, cluster, frame_at}
@@ -66,7 +66,7 @@ front [] ys = refl
 front (x ∷ xs) ys = ap (λ (l : List ℕ). x ∷ l) (front xs ys)
 
 carried : (w : Cluster) → is_frame (raw_of (frame_at w.frames 2)) ≡ true
-    → Carries (after_rows w (rows_of (Opens 2 false 9100 (word_at (next_state 2))) w)).frames (Frame (raw_of (frame_at w.frames 2))) (WasSent 2)
+    → Carries (after_rows w (rows_of (Opens 2 false 9100 (word_of (next_words (own_words [] 2)))) w)).frames (Frame (raw_of (frame_at w.frames 2))) (WasSent 2)
 carried w e = record { frame = e; id_is = refl; bytes_are = front (frame_at w.frames 2).bytes (replicate (8 - length (frame_at w.frames 2).bytes) 0) }
 
 is_one : is_frame (raw_of (frame_at world_by_then.frames 2)) ≡ true

@@ -26,7 +26,7 @@ returns-in-Some-clause-heard g c = on_ok c.take.result (λ stepped t is.
         id = is.running.id;
         server = is.running.server;
         stored = is.running.stored;
-        draws = is.running.draws;
+        words = is.running.words;
         coming_is = told.1;
         sent_is = c.in-Ok.ensures.sent ∙ is.running.sent_is;
       };
@@ -47,7 +47,7 @@ returns-in-None-clause-heard g c = λ t is.
         id = is.running.id;
         server = is.running.server;
         stored = is.running.stored;
-        draws = is.running.draws;
+        words = is.running.words;
         coming_is = told.1;
         sent_is = c.in-Ok.ensures.sent ∙ is.running.sent_is;
       };

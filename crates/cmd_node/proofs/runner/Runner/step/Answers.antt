@@ -25,7 +25,7 @@ returns-in-Ok-clause-stepped g c = λ t coming sent is.
         id = is.running.id;
         server = does.stands;
         stored = does.put.state ∙ ap (λ s. after_puts (stored_puts step_result.step_state.puts s) s) is.running.stored;
-        draws = is.running.draws;
+        words = is.running.words;
         coming_is = is.running.coming_is;
         sent_is = is.running.sent_is;
       };

@@ -1,6 +1,6 @@
 use Rattle.std.proofs.Common.{ap, ◌∙◌, subst, inl}
 use Rattle.alloc_server.specs.Server.{LeavesSome}
-use Rattle.cmd_io.specs.Draws.{next_state, word_at}
+use Rattle.cmd_node.specs.Words.{next_words, word_of}
 use Rattle.alloc_spec.specs.Step.{Tick}
 use Rattle.cmd_node.specs.Puts.{step_puts}
 use Rattle.cmd_node.specs.Stands.{IsTurning}
@@ -17,20 +17,20 @@ unfolding turn
 returns-clause-turned g c = on_ok c.send.result (λ sends t is.
     let coming = g.L.Link.coming c.args.link.now in
     let sent = g.L.Link.sent c.args.link.now in
-    let word = c.word-word.ensures.word ∙ ap word_at (c.word-word.ensures.moved ∙ ap next_state is.running.draws) in
-    let before = record t { running = record t.running { draws = next_state t.running.draws } } in
-    let stepped = c.in_ok-step.ensures.stepped before coming sent (next_word is c.word-word.ensures.moved) in
+    let word = c.next-word.ensures.word ∙ ap word_of (c.next-word.ensures.moved ∙ ap next_words is.running.words) in
+    let before = record t { running = record t.running { words = next_words t.running.words } } in
+    let stepped = c.in_ok-step.ensures.stepped before coming sent (next_word is c.next-word.ensures.moved) in
     let ticked = subst (λ w. IsTurning c.step.new.self coming sent c.step.new.steps (turn_after_step (Tick c.args.now w) before)) word stepped in
-    let ticked_to = turn_after_step (Tick c.args.now (word_at (next_state t.running.draws))) before in
+    let ticked_to = turn_after_step (Tick c.args.now (word_of (next_words t.running.words))) before in
     sends (turn_after_hearing c.args.now ticked_to) c.hear.new.steps (c.in_ok-hear.ensures.heard ticked_to ticked)) c.send.ensures.sent
 
 pub returns-clause-uncalled : goal.returns-clause-uncalled
 returns-clause-uncalled g c = on_ok_always c.send.result (λ t is.
     let coming = g.L.Link.coming c.args.link.now in
     let sent = g.L.Link.sent c.args.link.now in
-    let word = c.word-word.ensures.word ∙ ap word_at (c.word-word.ensures.moved ∙ ap next_state is.running.draws) in
-    let before = record t { running = record t.running { draws = next_state t.running.draws } } in
-    let stepped = c.in_ok-step.ensures.stepped before coming sent (next_word is c.word-word.ensures.moved) in
+    let word = c.next-word.ensures.word ∙ ap word_of (c.next-word.ensures.moved ∙ ap next_words is.running.words) in
+    let before = record t { running = record t.running { words = next_words t.running.words } } in
+    let stepped = c.in_ok-step.ensures.stepped before coming sent (next_word is c.next-word.ensures.moved) in
     c.in_ok-hear.ensures.uncalled (turn_after_tick c.args.now t)
     (subst (λ w. IsTurning c.step.new.self coming sent c.step.new.steps (turn_after_step (Tick c.args.now w) before)) word stepped))
 
@@ -42,9 +42,9 @@ returns-in_err-hear-clause-called g c = λ id node e.
       λ t is.
           let coming = g.L.Link.coming c.args.link.now in
           let sent = g.L.Link.sent c.args.link.now in
-          let word = c.word-word.ensures.word ∙ ap word_at (c.word-word.ensures.moved ∙ ap next_state is.running.draws) in
-          let before = record t { running = record t.running { draws = next_state t.running.draws } } in
-          let stepped = c.in_ok-step.ensures.stepped before coming sent (next_word is c.word-word.ensures.moved) in
+          let word = c.next-word.ensures.word ∙ ap word_of (c.next-word.ensures.moved ∙ ap next_words is.running.words) in
+          let before = record t { running = record t.running { words = next_words t.running.words } } in
+          let stepped = c.in_ok-step.ensures.stepped before coming sent (next_word is c.next-word.ensures.moved) in
           called.1 (turn_after_tick c.args.now t)
           (subst (λ w. IsTurning c.step.new.self coming sent c.step.new.steps (turn_after_step (Tick c.args.now w) before)) word stepped),
     )
@@ -71,22 +71,22 @@ pub returns-in_err-step-clause-cut : goal.returns-in_err-step-clause-cut
 returns-in_err-step-clause-cut g c = λ t is.
     let coming = g.L.Link.coming c.args.link.now in
     let sent = g.L.Link.sent c.args.link.now in
-    let word = c.word-word.ensures.word ∙ ap word_at (c.word-word.ensures.moved ∙ ap next_state is.running.draws) in
-    let before = record t { running = record t.running { draws = next_state t.running.draws } } in
+    let word = c.next-word.ensures.word ∙ ap word_of (c.next-word.ensures.moved ∙ ap next_words is.running.words) in
+    let before = record t { running = record t.running { words = next_words t.running.words } } in
     inl (
       is.running.coming_is,
       subst (λ w. LeavesSome c.args.self.now.server c.step.new.self.server (step_puts (Tick c.args.now w) t)) word
-          (c.step.ensures.leaves before coming sent (next_word is c.word-word.ensures.moved)),
+          (c.step.ensures.leaves before coming sent (next_word is c.next-word.ensures.moved)),
     )
 
 pub returns-in_err-hear-clause-cut : goal.returns-in_err-hear-clause-cut
 returns-in_err-hear-clause-cut g c = λ t is.
     let coming = g.L.Link.coming c.args.link.now in
     let sent = g.L.Link.sent c.args.link.now in
-    let word = c.word-word.ensures.word ∙ ap word_at (c.word-word.ensures.moved ∙ ap next_state is.running.draws) in
-    let before = record t { running = record t.running { draws = next_state t.running.draws } } in
-    let begun = next_word is c.word-word.ensures.moved in
-    turn_cut c.args.self.now.server c.step.new.self.server c.hear.new.self.server c.args.now t (g.L.Link.coming c.hear.new.link) c.word-word.result word
+    let word = c.next-word.ensures.word ∙ ap word_of (c.next-word.ensures.moved ∙ ap next_words is.running.words) in
+    let before = record t { running = record t.running { words = next_words t.running.words } } in
+    let begun = next_word is c.next-word.ensures.moved in
+    turn_cut c.args.self.now.server c.step.new.self.server c.hear.new.self.server c.args.now t (g.L.Link.coming c.hear.new.link) c.next-word.result word
     (c.in_ok-step.ensures.put before coming sent begun) c.step.ensures.tells (c.hear.ensures.cut (turn_after_tick c.args.now t)
     (subst (λ w. IsTurning c.step.new.self coming sent c.step.new.steps (turn_after_step (Tick c.args.now w) before)) word (c.in_ok-step.ensures.stepped before coming sent begun)))
 
@@ -94,10 +94,10 @@ pub returns-clause-cut : goal.returns-clause-cut
 returns-clause-cut g c = λ t is.
     let coming = g.L.Link.coming c.args.link.now in
     let sent = g.L.Link.sent c.args.link.now in
-    let word = c.word-word.ensures.word ∙ ap word_at (c.word-word.ensures.moved ∙ ap next_state is.running.draws) in
-    let before = record t { running = record t.running { draws = next_state t.running.draws } } in
-    let begun = next_word is c.word-word.ensures.moved in
-    let cut = turn_cut c.args.self.now.server c.step.new.self.server c.hear.new.self.server c.args.now t (g.L.Link.coming c.hear.new.link) c.word-word.result word
+    let word = c.next-word.ensures.word ∙ ap word_of (c.next-word.ensures.moved ∙ ap next_words is.running.words) in
+    let before = record t { running = record t.running { words = next_words t.running.words } } in
+    let begun = next_word is c.next-word.ensures.moved in
+    let cut = turn_cut c.args.self.now.server c.step.new.self.server c.hear.new.self.server c.args.now t (g.L.Link.coming c.hear.new.link) c.next-word.result word
     (c.in_ok-step.ensures.put before coming sent begun) c.step.ensures.tells (c.hear.ensures.cut (turn_after_tick c.args.now t)
     (subst (λ w. IsTurning c.step.new.self coming sent c.step.new.steps (turn_after_step (Tick c.args.now w) before)) word (c.in_ok-step.ensures.stepped before coming sent begun))) in
     cut_still c.args.self.now.server c.hear.new.self.server c.send.new.self.server c.args.now t (g.L.Link.coming c.hear.new.link) (g.L.Link.coming c.send.new.link)

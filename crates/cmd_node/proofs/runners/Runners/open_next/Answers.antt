@@ -1,5 +1,5 @@
-use Rattle.std.proofs.Common.{◌≡◌, ◌≤◌, sym, ◌∙◌, subst}
-use Rattle.cmd_io.specs.Draws.{next_state, word_at}
+use Rattle.std.proofs.Common.{◌≡◌, ◌≤◌, sym, ap, ◌∙◌, subst}
+use Rattle.cmd_node.specs.Words.{next_words, own_words, word_of}
 use Rattle.raft_core.specs.StoredPuts.{store_of}
 use Rattle.raft_log.specs.DurableViews.{durable_state}
 use Rattle.raft_log.specs.Opening.{OpensTo}
@@ -19,15 +19,17 @@ returns-in-Ok-clause-opened g c =
       c.push.ensures.runners,
       record {
         id_is = c.in-Ok.ensures.id;
-        draws = c.in-Ok.ensures.draws;
         opens = λ taken is. subst (λ d. OpensTo d (durable_of runner.server)) (same taken c.args.place.now c.in-Some.ensures.value is) c.in-Ok.ensures.opens;
         later = λ taken is. subst (λ d. g.D.Disk.faults d ≤ g.D.Disk.faults (runner_disk runner)) (same taken c.args.place.now c.in-Some.ensures.value is) c.in-Ok.ensures.later;
         tells = λ taken is. subst (λ d. g.D.Disk.tells (runner_disk runner) ≡ g.D.Disk.tells d) (same taken c.args.place.now c.in-Some.ensures.value is) c.in-Ok.ensures.tells;
         works = c.in-Ok.ensures.works;
-        standing = (opening_by c.args.id rules store c.args.now (word_at (next_state c.args.id)), c.in-Ok.ensures.stands);
+        standing = (opening_by c.args.id rules store c.args.now (word_of (next_words (own_words c.args.told.now c.args.id))), c.in-Ok.ensures.stands);
       },
-      subst (λ n. StandsFor runner.server (opening_by n rules store c.args.now (word_at runner.draws))) (sym c.in-Ok.ensures.id)
-          (subst (λ s. StandsFor runner.server (opening_by c.args.id rules store c.args.now (word_at s))) (sym c.in-Ok.ensures.draws) c.in-Ok.ensures.stands),
+      record {
+        words = c.in-Ok.ensures.words ∙ ap (λ n. next_words (own_words c.args.told.now n)) (sym c.in-Ok.ensures.id);
+        server = subst (λ n. StandsFor runner.server (opening_by n rules store c.args.now (word_of runner.words))) (sym c.in-Ok.ensures.id)
+            (subst (λ s. StandsFor runner.server (opening_by c.args.id rules store c.args.now (word_of s))) (sym c.in-Ok.ensures.words) c.in-Ok.ensures.stands);
+      },
     )
 
 pub returns-in-Err-clause-refused : goal.returns-in-Err-clause-refused
