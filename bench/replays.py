@@ -8,7 +8,12 @@ ROWS = 1_000_000
 
 
 class Refused(Exception):
-    """`replay` ended before the case did; the text is its last line."""
+    """`replay` ended before the case did; the text is its last line. `told` has the words of the lines before it, of the
+    rows that were handed over with the one that ended it."""
+
+    def __init__(self, text: str, told: Sequence[List[str]] = ()) -> None:
+        super().__init__(text)
+        self.told = told
 
 
 class Replay:
@@ -29,13 +34,13 @@ class Replay:
             self.process.stdin.flush()
         except BrokenPipeError:
             pass
-        told = []
+        told: List[List[str]] = []
         for _ in rows:
             words = self.process.stdout.readline().decode().split()
             self.rows += 1
             if len(words) < 2 or words[0] != str(self.rows):
                 # without a last line the program was ended, as by a signal
-                raise Refused(" ".join(words) or f"ended with status {self.process.wait()}")
+                raise Refused(" ".join(words) or f"ended with status {self.process.wait()}", told)
             told.append(words)
         return told
 
