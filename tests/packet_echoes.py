@@ -153,9 +153,10 @@ def stopped(program: str) -> Tuple[bool, str]:
     try:
         end = time.monotonic() + PATIENCE
         while time.monotonic() < end:
-            packet = members.packet(PATIENCE)
-            if packet is None:
+            came = members.packet(PATIENCE)
+            if came is None:
                 return False, f"it ended with {members.process.poll()}"
+            packet = came
             tail = packets.frame_of(packet)[1][-1]
             if tail & packets.FIRST and not tail & packets.LAST:
                 break
@@ -223,8 +224,8 @@ def main() -> int:
     ]
     if shutil.which("strace"):
         for injected, wanted in FAILURES:
-            one = functools.partial(fails_once, program, injected, wanted)
-            tries.append((f"a call on the socket fails: {injected}", one))
+            fails = functools.partial(fails_once, program, injected, wanted)
+            tries.append((f"a call on the socket fails: {injected}", fails))
     failed = 0
     for text, one in tries:
         is_so, said = one()

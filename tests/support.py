@@ -25,8 +25,8 @@ class Ended:
         if "input" in options:
             del options["stdin"]
         done = subprocess.run(list(map(str, words)), stderr=subprocess.PIPE, **options)
-        self.written = done.stdout.decode("utf-8", "backslashreplace") if done.stdout is not None else ""
-        self.errors = done.stderr.decode("utf-8", "backslashreplace")
+        self.written: str = done.stdout.decode("utf-8", "backslashreplace") if done.stdout is not None else ""
+        self.errors: str = done.stderr.decode("utf-8", "backslashreplace")
         self.status = done.returncode
 
 

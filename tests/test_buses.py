@@ -5,6 +5,7 @@ import errno
 import socket
 import struct
 import unittest
+from typing import Any
 from unittest import mock
 
 import members
@@ -57,8 +58,8 @@ class Down(unittest.TestCase):
         link.recv.side_effect = OSError(errno.ENETDOWN, "down")
         link.recvmsg.side_effect = link.recv.side_effect
         for kind in (buses.CanBus, buses.Stamped):
-            bus = object.__new__(kind)
-            bus.link, bus.is_udp = link, False  # type: ignore[union-attr]
+            bus: Any = object.__new__(kind)
+            bus.link, bus.is_udp = link, False
             self.assertIsNone(bus.receive(0.1))
         link.recv.side_effect = OSError(errno.ENODEV, "gone")
         with self.assertRaises(OSError):

@@ -153,7 +153,7 @@ class Units(unittest.TestCase):
         self.assertIn("caldrouz-bridge@can0.service", conflicts[0].split("=")[1].split())
 
 
-class Units(unittest.TestCase):
+class Enabled(unittest.TestCase):
     def test_which_start_with_the_machine(self) -> None:
         with tempfile.TemporaryDirectory() as folder:
             for target, unit in (("multi-user", "caldrouz-node@1"), ("other", "caldrouz-node@1"), ("other", "ssh")):

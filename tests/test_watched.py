@@ -119,7 +119,8 @@ class OnAnInterface(unittest.TestCase):
     def test_what_this_machine_sends_counts_alone(self) -> None:
         class Link:
             def __init__(self, source: int, flags: int) -> None:
-                self.packet = wire.to_can(wire.Frame(0x1E015500 | source, bytes(8))), [], flags, ("can0",)
+                data = wire.to_can(wire.Frame(0x1E015500 | source, bytes(8)))
+                self.packet: Tuple[bytes, List[object], int, Tuple[str]] = data, [], flags, ("can0",)
 
             def recvmsg(self, _: int) -> object:
                 return self.packet

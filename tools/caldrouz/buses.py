@@ -160,7 +160,8 @@ class Stamped:
         try:
             packet, ancillary, _, _ = self.link.recvmsg(64, socket.CMSG_SPACE(TIMESPEC.size))
         except OSError as error:
-            return _nothing(error)
+            _raise_but_nothing(error)
+            return None
         frame = wire.from_datagram(packet) if self.is_udp else wire.from_can(packet)
         moment = time.time()
         for level, kind, value in ancillary:
@@ -193,7 +194,8 @@ class Sender:
         try:
             data, _, flags, sender = self.link.recvmsg(64)
         except OSError as error:
-            return _nothing(error)
+            _raise_but_nothing(error)
+            return None
         frame = wire.from_datagram(data) if self.port is not None else wire.from_can(data)
         is_from_here = sender == self.port if self.port is not None else bool(flags & socket.MSG_DONTROUTE)
         return frame is not None and is_from_here and frame.heading.source == self.member
@@ -222,10 +224,11 @@ def _receive(link: socket.socket, seconds: float) -> Optional[bytes]:
     try:
         return link.recv(64)
     except OSError as error:
-        return _nothing(error)
+        _raise_but_nothing(error)
+        return None
 
 
-def _nothing(error: OSError) -> None:
+def _raise_but_nothing(error: OSError) -> None:
     """Nothing came: none was there, an earlier datagram was refused, or the interface is down, and may come up again.
     Else it is raised."""
     if not isinstance(error, (BlockingIOError, ConnectionRefusedError, socket.timeout)):
