@@ -1,0 +1,11 @@
+pub mod Masks
+pub mod VeiledRows
+pub mod Copies
+pub mod Settled
+pub mod Reached
+pub mod Moments
+pub mod Along
+pub mod Agreeing
+pub mod RowsAlone
+pub mod Tested
+pub mod WorkedComputed

@@ -1,0 +1,4 @@
+pub mod Traces
+pub mod Promises
+pub mod LawsBelow
+pub mod Worked
