@@ -15,7 +15,7 @@ const FIRST_ROW = 122; // its leader stops
 const TRIES = [
   ["crash 1 0 old", "", "the leader is not stopped", "Member 1 goes on as leader of term 1 while member 2 leads term 2: two leaders at one moment, and still one story. Nobody hears member 1 any more, so it commits nothing more."],
   ["aopen 1 000102030405060708090a0b0c0d0e0f 0 2100 0", "aopen 1 000102030405060708090a0b0c0d0e0f 42 2100 0", "the first device would like node ID 42", "It is told 42, and so the second device gets 125."],
-  ["aopen 2 f0e0d0c0b0a090807060504030201000 0 6100 0", "aopen 2 f0e0d0c0b0a090807060504030201000 125 6100 0", "the second device would like 125, which is taken", "Member 2 has the entry of the leader before it. The device is told 124."],
+  ["aopen 2 f0e0d0c0b0a090807060504030201000 0 6100 0", "aopen 2 f0e0d0c0b0a090807060504030201000 125 6100 0", "the second device would like 125 too", "Member 2 has the entry of the leader before it. The device is told 124."],
   ["rx 3 52 6004", "", "a frame of the vote request is lost", "Member 3 never has the request whole, and answers nothing: the row in which it would send its vote is refused."],
 ];
 
