@@ -84,7 +84,8 @@ function draw(whole) {
     }
     for (const [i, pause] of breaks) { const at = x(places_of[i] - 500); if (see(at, at)) out.push(`<text class="small" x="${at}" y="${TOP - 4}" text-anchor="middle">≀ ${(pause / 1000).toLocaleString("en")} s ≀</text>`); }
   }
-  // the bars and the logs
+  // the bars and the logs; their labels stand over the arrows
+  const names = [];
   const peak = Math.max(1, ...lanes.flatMap(l => l.logs.map(g => g[1])));
   const begun = new Set(facts.marks.filter(m => ["open", "stop", "fault"].includes(m[2])).map(m => `${m[0]} ${m[1]}`));
   for (const i of shown_lanes()) {
@@ -100,7 +101,7 @@ function draw(whole) {
         [{stopped: "stopped", failed: "failed", wait: "waits", never: lane.kind === "member" ? "not opened" : "not there", gone: ""}[what]];
       const beside = what === "hold" ? 40 : begun.has(`${r} ${i}`) ? 12 : 4; // what a mark at its start leaves free
       const label = labels.find(one => b - a > 7 * one.length + beside);
-      if (label) out.push(`<text class="${what === "stopped" || what === "failed" ? "dark" : "in"}" x="${a + beside}" y="${y[i] + (tall === 15 ? 13 : 17)}">${label}</text>`);
+      if (label) names.push(`<text class="${what === "stopped" || what === "failed" ? "dark" : "in"}" x="${a + beside}" y="${y[i] + (tall === 15 ? 13 : 17)}">${label}</text>`);
     });
     if (lane.kind !== "member") continue;
     const base = y[i] + BAR + GRAPH - 3, value = v => base - (GRAPH - 6) * v / peak;
@@ -131,6 +132,7 @@ function draw(whole) {
     const ya = rim(from, middle(to)), end = ya + (middle(to) > ya ? 11 : -11);
     out.push(`<g class="lost"><line class="lost" x1="${at}" y1="${ya}" x2="${at + 3}" y2="${end}"/><circle class="lost" cx="${at + 3}" cy="${end}" r="2.6"><title>${esc(`frame ${k} of row ${r} was never given to ${lanes[to].name}: ${frame_words(k)}`)}</title></circle></g>`);
   }
+  out.push(...names);
   // the marks
   for (const [r, i, what, text] of facts.marks) {
     if (y[i] === undefined) continue;
