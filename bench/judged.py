@@ -233,5 +233,17 @@ class Judge:
 
 def do_differ(logs: Sequence[List[Tuple[int, str]]]) -> bool:
     """Whether one of these committed logs is not the beginning of another one."""
-    longest = max(logs, key=len, default=[])
+    longest: List[Tuple[int, str]] = max(logs, key=len, default=[])
     return any(log != longest[: len(log)] for log in logs)
+
+
+def of(rows: Sequence[str], lines: Sequence[str], pace: int = 1) -> Judge:
+    """The judgement of a schedule by its report, where the time of a row is the latest moment so far, times `pace`."""
+    judge, time = Judge(), 0
+    for row, line in zip(rows, lines):
+        time = max(time, report.read_row(row).moment or 0)
+        judge.asks(pace * time, row.split())
+        if line.startswith("unlawful "):
+            break
+        judge.hears(pace * time, row.split(), line.split())
+    return judge
