@@ -4,17 +4,21 @@ words that are true, whether or not the members are known beforehand, from what 
 What is on the bus in each case is written here by the standard (acts.py), and what is to be said by a person."""
 from __future__ import annotations
 
+import json
+import os
 import pathlib
 import random
 import tempfile
+import time
 import unittest
 from typing import Callable, Dict, List, NamedTuple, Sequence, Tuple
+from unittest import mock
 
 import images
 from acts import ONE, TWO, Act
 from support import run_tool, write_lines
 
-from caldrouz import causes, scene, stores, table, vehicle, wire, words
+from caldrouz import causes, machine, scene, stores, table, vehicle, wire, words
 
 THREE, OTHERS = [1, 2, 3], [4, 5, 6]
 END = 12.0
@@ -136,6 +140,21 @@ def votes_that_do_not_help(act: Act) -> None:
         act.node(member, member / 10, END)
     for at in range(4):
         act.stands(1, [2, 3], 1 + 2.5 * at, 5 + at, [2, 3])
+
+
+def a_candidate_that_hears_nobody(act: Act) -> None:
+    """Member 3 sends and does not receive: it stands again and again, and ends each leader's term."""
+    for member in THREE:
+        act.node(member, member / 10, END)
+    for at in range(4):
+        act.calls(1, [2, 3], 0.3 + 3 * at, 0.8 + 3 * at, 5 + 2 * at, heard=lambda _, peer: peer == 2)
+        act.stands(3, [1, 2], 1 + 3 * at, 6 + 2 * at, [1, 2])
+
+
+def one_that_hangs(act: Act) -> None:
+    """Member 3 is heard for 4 s."""
+    act.cluster(THREE, 0, END, away=[3])
+    act.node(3, 0.1, 4)
 
 
 def one_of_five_away(act: Act) -> None:
@@ -349,6 +368,41 @@ def does_not_hear(act: Act) -> None:
         act.device(ONE, 2 + at, 1, 125)
 
 
+def told_and_gone(act: Act) -> None:
+    act.cluster(THREE, 0, END)
+    act.device(ONE, 2, 1, 125)
+
+
+def begins_again_at_once(act: Act) -> None:
+    """It asks each 100 ms, and another one waits."""
+    act.cluster(THREE, 0, END)
+    for at in range(80):
+        act.device(TWO, 2 + at / 10, 1, stages=1)
+    for at in range(8):
+        act.device(ONE, 2.05 + at, 1, stages=1)
+
+
+def the_flag_in_each_part(act: Act) -> None:
+    act.cluster(THREE, 0, END)
+    for at in range(8):
+        act.device(ONE, 2 + at, 1, stages=1)
+        act.asks(2.07 + at, bytes.fromhex(ONE)[6:12])
+        act.answers(2.09 + at, 1, bytes.fromhex(ONE)[6:12])
+
+
+def by_cyphal(act: Act) -> None:
+    """A node that shows itself by Cyphal, and a device that asks: Heartbeat is subject 7509, the request 8166."""
+    act.cluster(THREE, 0, END)
+    for at in range(10):
+        act.put(1 + at, wire.Frame(4 << 26 | 3 << 21 | 7509 << 8 | 44, bytes(7) + bytes([0xE0 + at])))
+        act.put(1.5 + at, wire.Frame(6 << 26 | 1 << 24 | 3 << 21 | 8166 << 8 | 99 + at, bytes(7) + bytes([0xE0 + at])))
+
+
+def a_node_of_cyphal(act: Act) -> None:
+    by_cyphal(act)
+    act.lone = [(moment, frame) for moment, frame in act.lone if not frame.identifier >> 24 & 1]
+
+
 def cross_each_other(act: Act) -> None:
     act.cluster(THREE, 0, END)
     for at in range(40):
@@ -440,9 +494,13 @@ ROWS: Dict[str, Row] = {
         tells_an_id_of_the_list, "another-list", (THREE,), ("Member 1 told node ID 3", "3 is a member")
     ),
     "a leader that hears nobody": Row(a_leader_that_hears_nobody, "?deaf-member", says=("hears no answer",)),
-    "votes that do not help": Row(votes_that_do_not_help, "no-leader", never=("apart", "end within")),
+    "votes that do not help": Row(votes_that_do_not_help, "?deaf-member", says=("Member 1 stood in terms 5 to 8",)),
+    "a candidate that hears nobody": Row(
+        a_candidate_that_hears_nobody, "?deaf-member", says=("Member 3 stood", "hear nothing", "stop member 3")
+    ),
+    "one hangs": Row(one_that_hangs, "!deaf-member", says=("3 was last heard 9 s ago", "hangs, or ended")),
     "one of five is away": Row(one_of_five_away, "!deaf-member", ([1, 2, 3, 4, 5],), ("the loss of 1 more",)),
-    "a node has its ID": Row(a_node_in_place_of_a_member, "!deaf-member", says=("another node may have its ID",)),
+    "a node has its ID": Row(a_node_in_place_of_a_member, "!deaf-member", says=("another node has its node ID", "18")),
     "IDs are full": Row(ids_are_full, "?ids-full", says=("122 entries", "122 node IDs"), never=("crossed",)),
     "IDs are full, nobody asks": Row(ids_are_full_and_nobody_asks, "?ids-full"),
     "the log is full": Row(the_log_is_full, "log-full", never=("crossed", "unplug all but one")),
@@ -472,6 +530,13 @@ ROWS: Dict[str, Row] = {
     ),
     "starts again": Row(starts_again, "starts-again", says=("again and again",), never=("does not hear",)),
     "does not hear": Row(does_not_hear, "unheard-answer"),
+    "told and gone": Row(told_and_gone, "!unheard-answer", says=("no node 125 shows itself",)),
+    "begins again at once": Row(begins_again_at_once, "never-goes-on", says=(TWO[:12], "every 0.1 s", "0.6 s")),
+    "the flag in each part": Row(
+        the_flag_in_each_part, "?wrong-request", says=(ONE[:12], ONE[12:24]), never=("crossed", "never sent")
+    ),
+    "by Cyphal": Row(by_cyphal, "other-protocol", says=("Cyphal", "10 times")),
+    "a node of Cyphal": Row(a_node_of_cyphal, "!other-protocol", says=("come from 44",)),
     "cross each other": Row(cross_each_other, "?crossed-requests"),
     "a server beside": Row(a_server_beside, "second-server", says=("Node 10 answers devices",)),
     "a mute node": Row(a_mute_node, "unidentified-node", says=("Node 50",), never=("crossed",)),
@@ -585,7 +650,7 @@ class EndedMembers(unittest.TestCase):
     def test_an_exit_code_is_said_by_the_table(self) -> None:
         act = Act()
         act.cluster(THREE, 0, END, away=[3])
-        found = causes.find(act.scene(THREE), [], {3: 11})
+        found = causes.find(act.scene(THREE), [], {3: machine.End(11)})
         self.assertEqual(sign(found[0]), "!ended-member")
         self.assertIn("Member 3 ended with 11: the store of the member", found[0].text)
         self.assertIn("replace the store", found[0].remedy)
@@ -593,7 +658,46 @@ class EndedMembers(unittest.TestCase):
     def test_one_that_ends_as_it_should_is_none(self) -> None:
         act = Act()
         act.cluster(THREE, 0, END)
-        self.assertEqual(causes.find(act.scene(THREE), [], {1: 0}), [])
+        self.assertEqual(causes.find(act.scene(THREE), [], {1: machine.End(0)}), [])
+
+    def test_one_that_ends_again_and_again_is_told_while_it_runs(self) -> None:
+        act = Act()
+        act.cluster(THREE, 0, END)
+        for times, is_told in ((1, False), (3, True)):
+            found = causes.find(act.scene(THREE), [], {3: machine.End(17, times)})
+            self.assertEqual([sign(it) for it in found], ["!ended-member"] * is_told)
+        self.assertIn("Member 3 ended with 17, 3 times within a minute", found[0].text)
+
+
+JOURNAL = {"UNIT": "caldrouz-can-node@2.service", "EXIT_CODE": "exited", "EXIT_STATUS": "17", "COMMAND": "ExecStart"}
+AWAY = "Id=caldrouz-can-node@1.service\nActiveState=failed\nExecMainCode=1\nExecMainStatus=18\n"
+WELL = "Id=caldrouz-node@1.service\nActiveState=inactive\nExecMainCode=0\nExecMainStatus=0\n"
+
+
+class WhatTheSystemTells(unittest.TestCase):
+    """By commands that stand in for those of systemd."""
+
+    def ends(self, **commands: str) -> Dict[int, machine.End]:
+        with tempfile.TemporaryDirectory() as folder:
+            for name, does in commands.items():
+                path = pathlib.Path(folder) / name
+                path.write_text(f"#!/bin/sh\n{does}\n", encoding="ascii")
+                path.chmod(0o755)
+            with mock.patch.dict(os.environ, PATH=f"{folder}:/bin:/usr/bin"):
+                return machine.member_ends([1, 2])
+
+    def test_how_members_ended(self) -> None:
+        lines = "".join(json.dumps({**JOURNAL, **it}) + "\n" for it in (
+            {}, {}, {"UNIT": "ssh.service"}, {"COMMAND": "ExecStopPost"}, {"EXIT_CODE": "killed", "EXIT_STATUS": "9"}
+        ))
+        told = self.ends(systemctl=f"cat <<'END'\n{AWAY}\n{WELL}END", journalctl=f"cat <<'END'\n{lines}null\n[\nEND")
+        self.assertEqual(told, {1: machine.End(18), 2: machine.End(17, 2)})
+
+    def test_commands_that_hang_tell_nothing(self) -> None:
+        with mock.patch.object(machine, "TELLS_WITHIN", 0.3):
+            begin = time.monotonic()
+            self.assertEqual(self.ends(systemctl="exec sleep 60", journalctl="exec sleep 60"), {})
+            self.assertLess(time.monotonic() - begin, 20)
 
 
 class OfOneMachine(unittest.TestCase):

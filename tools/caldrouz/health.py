@@ -49,7 +49,7 @@ def status_of(found: Iterable[causes.Cause]) -> str:
 def of(
     scene: Scene,
     stores: Stores = (),
-    ends: Optional[Mapping[int, int]] = None,
+    ends: Optional[Mapping[int, machine.End]] = None,
     here: Sequence[causes.Cause] = (),
 ) -> Health:
     found, members, lead = causes.find(scene, stores, ends, here), scene.members(), scene.leader()

@@ -9,13 +9,14 @@
 """
 from __future__ import annotations
 
+import contextlib
 import glob
 import json
 import os
 import re
 import subprocess
 import time
-from typing import Dict, List, NamedTuple, Optional, Tuple
+from typing import Dict, List, NamedTuple, Optional, Sequence, Tuple
 
 from . import buses
 
@@ -25,8 +26,11 @@ OF_NETWORK = {"nfs", "nfs4", "cifs", "smb3", "9p", "ceph", "afs", "fuse.sshfs", 
 LAYERS = {"overlay", "aufs", "squashfs", "iso9660", "erofs"}
 UNSAFE_OPTIONS = {"nobarrier", "barrier=0"}
 ANY_DISK = "CALDROUZ_ANY_DISK"  # in the environment: whoever tries something says that its stores need not last
+TELLS_WITHIN = 10.0  # seconds that a command of the system has to tell what it is asked
 LONGEST_QUEUE = 10  # frames that an interface may keep
 BEFORE_IDS = {"node": 5, "can": 4}  # words before the node IDs, by mode
+MEMBER_UNITS = "caldrouz-can-node@{}.service", "caldrouz-serial@{}.service", "caldrouz-node@{}.service"
+PROCESS_ENDED = "98e322203f7a4ed290d09fe03c09fe15"  # what systemd's messages say that tell how a process ended
 SETTING = re.compile(r"\s*([A-Z_]+)=(.*)")
 
 
@@ -130,7 +134,7 @@ class Interface(NamedTuple):
 def _said(*words: str) -> Optional[str]:
     """What a command of the system wrote; None where it is not there, or cannot tell."""
     try:
-        done = subprocess.run(words, capture_output=True, text=True, errors="replace", timeout=30)
+        done = subprocess.run(words, capture_output=True, text=True, errors="replace", timeout=TELLS_WITHIN)
     except (OSError, subprocess.TimeoutExpired):
         return None
     return done.stdout if done.returncode == 0 and done.stdout.strip() else None
@@ -148,6 +152,7 @@ def interface(name: str) -> Optional[Interface]:
     if not isinstance(flags, list):
         return None
     kind = str(info.get("info_kind", told.get("link_type", "")))
+    counted = _part(info, "info_xstats")
     return Interface(
         "UP" in flags,
         "ECHO" in flags or kind in buses.WITHOUT_A_WIRE,
@@ -157,7 +162,9 @@ def interface(name: str) -> Optional[Interface]:
         _number(_part(data, "bittiming").get("bitrate")),
         str(data["state"]) if "state" in data else None,
         max(counters, default=None),
-        *(_number(_part(info, "info_xstats").get(name)) for name in ("bus_off", "restarts", "error_passive")),
+        _number(counted.get("bus_off")),
+        _number(counted.get("restarts")),
+        _number(counted.get("error_passive")),
         _number(_part(_part(told, "stats64"), "tx").get("dropped")),
     )
 
@@ -219,12 +226,30 @@ def units_enabled(folder: str = "/etc/systemd/system") -> List[str]:
     return sorted({os.path.basename(path)[: -len(".service")] for path in links})
 
 
-def member_end(member: int) -> Optional[int]:
-    """The exit code of a member that a unit of this machine has started and that does not run now, or None."""
-    for unit in (f"caldrouz-node@{member}", f"caldrouz-can-node@{member}"):
-        told = _said("systemctl", "show", "-p", "ActiveState,ExecMainCode,ExecMainStatus", unit) or ""
-        values = dict(line.split("=", 1) for line in told.splitlines() if "=" in line)
+class End(NamedTuple):
+    """How a member ended: its exit code, and how often within the last minute; 0 where that is longer ago."""
+
+    status: int
+    times: int = 0
+
+
+def member_ends(members: Sequence[int]) -> Dict[int, End]:
+    """How members ended that a unit of this machine has started: those that do not run now, and those that were started
+    again since."""
+    units = {unit.format(member): member for member in members for unit in MEMBER_UNITS}
+    found: Dict[int, End] = {}
+    told = _said("systemctl", "show", "-p", "Id,ActiveState,ExecMainCode,ExecMainStatus", *units) if units else None
+    for part in (told or "").split("\n\n"):
+        values = dict(line.split("=", 1) for line in part.splitlines() if "=" in line)
         is_away = values.get("ActiveState") in ("failed", "activating")
-        if is_away and values.get("ExecMainCode") == "1" and values.get("ExecMainStatus", "").isdigit():
-            return int(values["ExecMainStatus"])
-    return None
+        status = values.get("ExecMainStatus", "")
+        if is_away and values.get("ExecMainCode") == "1" and status.isdigit() and values.get("Id") in units:
+            found[units[values["Id"]]] = End(int(status))
+    recent = _said("journalctl", "-q", "-o", "json", "--no-pager", "--since=-60s", f"MESSAGE_ID={PROCESS_ENDED}")
+    for line in (recent or "").splitlines():
+        with contextlib.suppress(ValueError, KeyError, TypeError):
+            entry = json.loads(line)
+            member, status = units[entry["UNIT"]], int(entry["EXIT_STATUS"])
+            if entry["EXIT_CODE"] == "exited" and entry.get("COMMAND", "ExecStart") == "ExecStart" and status:
+                found[member] = End(status, found.get(member, End(0)).times + 1)
+    return found

@@ -219,6 +219,16 @@ class Wild(NamedTuple):
     term: int
 
 
+class Vote(NamedTuple):
+    """An answer to a request for a vote: of which member, to which candidate, in which term, and whether it is one."""
+
+    moment: float
+    by: int
+    to: int
+    term: int
+    granted: bool
+
+
 class Request(NamedTuple):
     """A request of a device: its stage, 0 to 2, and the bytes of the unique ID that it tells."""
 
@@ -261,7 +271,7 @@ class Scene:
         self.calls: Dict[Tuple[int, int], Call] = {}
         self.lead: Optional[Lead] = None
         self.elections: Deque[Tuple[float, Stood]] = deque(maxlen=KEPT)
-        self.votes: Deque[Tuple[float, bool]] = deque(maxlen=KEPT)  # when, and whether it was granted
+        self.votes: Deque[Vote] = deque(maxlen=KEPT)
         self.requests: Deque[Request] = deque(maxlen=KEPT)
         self.answers: Deque[Answer] = deque(maxlen=KEPT)
         self.log: Dict[int, wire.Entry] = {}  # by place, as leaders handed it on
@@ -271,6 +281,7 @@ class Scene:
         self.wild: Deque[Wild] = deque(maxlen=FEW)
         self.malformed: Deque[Malformed] = deque(maxlen=KEPT)
         self.gaps: Deque[float] = deque(maxlen=KEPT)  # when a member answered that had left out an answer
+        self.others: Dict[int, Deque[float]] = {}  # by source (0: none): when frames of Cyphal came
         self.exchanges: Dict[Tuple[int, int, str], Exchange] = {}
         self._transfers = wire.Transfers()
         self._anchor: Optional[int] = None  # who was heard leading last
@@ -364,6 +375,10 @@ class Scene:
         self.frames += 1
         heading = frame.heading
         self._count(frame)
+        if wire.is_of_cyphal(frame):
+            source = 0 if wire.asks_by_cyphal(frame) else heading.source
+            self.others.setdefault(source, deque(maxlen=FEW)).append(moment)
+            return events
         if heading.kind == "alloc" and not heading.source and self._is_malformed(frame):
             return events
         if heading.kind != wire.OTHER:
@@ -511,7 +526,8 @@ class Scene:
         return events
 
     def _vote(self, heading: wire.Heading, payload: bytes, transfer_id: int) -> List[Event]:
-        self.votes.append((self.now, bool(payload[4] & 0x80)))
+        granted = bool(payload[4] & 0x80)
+        self.votes.append(Vote(self.now, heading.source, heading.destination, wire.number(payload), granted))
         self._answered(heading, True, transfer_id)
         return []
 

@@ -55,7 +55,10 @@ CAUSES: Dict[str, str] = {
         "an interface of this machine is down, or left the bus (BUS-OFF): \"Bring-up of a bus\". A warning "
         "where its controller saw errors, or its queue is long"
     ),
-    "ended-member": "a member of this machine ended: its exit code, in words. A warning where the others go on",
+    "ended-member": (
+        "a member of this machine ended, or did again and again: its exit code, in words. A warning where the "
+        "others go on"
+    ),
     "terms-used-up": (
         "a store has the highest term, or a frame one that is far ahead; or, as a guess, members are there "
         "and none stands for election: \"Terms are used up\", below"
@@ -80,7 +83,7 @@ CAUSES: Dict[str, str] = {
     "ids-full": "no node ID is left: the same. Without --store a guess, since blanks use none",
     "ids-run-out": (
         "many new pairs within a minute, of nodes that are not there or do not answer. A warning where they "
-        "are there"
+        "are there, a guess where few were heard"
     ),
     "lossy-bus": "members leave out answers, and answer again: mend the bus first",
     "no-majority": "most members are away, and which; or they do not answer the leader",
@@ -102,17 +105,24 @@ CAUSES: Dict[str, str] = {
         "member: it is started twice. Audit the stores"
     ),
     "one-unique-id": "two nodes tell one unique ID: to the allocators clones are one device, with one ID",
-    "wrong-address": "a node has an ID that the log gives to another unique ID (often needs --store and --ask)",
-    "wrong-request": (
-        "a request that no allocator takes: it has a source, several frames, a toggle bit, another length, or "
-        "no flag of the first part"
+    "wrong-address": (
+        "a node has an ID that the log gives to another unique ID (often needs --store and --ask). A warning "
+        "where it has another one than it was told"
     ),
+    "wrong-request": (
+        "a request that no allocator takes: it has a source, several frames, a toggle bit, another length, no "
+        "flag of the first part, or one in each"
+    ),
+    "other-protocol": "a device asks by Cyphal (UAVCAN v1). A warning where a node of that is there",
     "zero-unique-id": "a device asks with a unique ID of zeros, and is given nothing",
     "never-goes-on": (
         "a device asks, is answered, and sends its second request never, or later than 500 ms, or no third "
-        "one: it does not hear, or is broken"
+        "one: it does not hear, or is broken. Or it begins anew far too often"
     ),
-    "unheard-answer": "a device was told its ID again and again, and asks on",
+    "unheard-answer": (
+        "a device was told its ID again and again, and asks on. A warning where it neither shows itself nor "
+        "asks"
+    ),
     "starts-again": "the same, and its node begins anew each time",
     "crossed-requests": (
         "a guess, where nothing else is found: several devices ask, and begin each other's exchange anew. "
@@ -121,7 +131,8 @@ CAUSES: Dict[str, str] = {
     "unanswered": "a guess: a device asks, and nobody answers, though all looks well",
     "deaf-member": (
         "a warning: a member is away, or shows itself and does not answer; and how many more losses the "
-        "cluster bears. No warning, but a guess, of a leader that goes on as if nobody answered"
+        "cluster bears. No warning, but a guess, of one that leads as if nobody answered, or wins elections "
+        "and never leads"
     ),
     "two-unique-ids": (
         "a warning, as a guess: two nodes are there in turn, and never both: a boot loader and its "
@@ -206,6 +217,10 @@ MEMBER_EXITS: Dict[int, Tuple[str, str]] = {
             "another vehicle, ran with another list, or was away when all was begun anew? Replace that one; else "
             "begin anew. Switch devices off and on"
         ),
+    ),
+    127: (
+        "the program, or what starts it, is not there",
+        "install the package again",
     ),
 }
 

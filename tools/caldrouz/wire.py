@@ -103,6 +103,25 @@ def identifier_of(source: int, name: str, destination: int = 0) -> int:
     return PRIORITY << 24 | data_type.number << 16 | request | destination << 8 | SERVICE | source
 
 
+# --- frames of Cyphal (UAVCAN v1), whose bits its specification has in "Cyphal/CAN"
+
+_CYPHAL_FIXED, _CYPHAL_MESSAGE = 1 << 25 | 1 << 23 | 3 << 21 | 1 << 7, 3 << 21
+_ANONYMOUS = 1 << 24
+_SUBJECTS_OF_IDS = 8165, 8166  # uavcan.pnp.NodeIDAllocationData, of both versions
+
+
+def is_of_cyphal(frame: Frame) -> bool:
+    """Whether it begins a message of Cyphal: there the toggle bit of a first frame is set, and here it never is."""
+    tail = frame.tail
+    return tail.starts and tail.toggle and frame.identifier & _CYPHAL_FIXED == _CYPHAL_MESSAGE
+
+
+def asks_by_cyphal(frame: Frame) -> bool:
+    """Whether such a frame asks for a node ID."""
+    subject = frame.identifier >> 8 & 0x1FFF
+    return bool(frame.identifier & _ANONYMOUS) and subject in _SUBJECTS_OF_IDS
+
+
 # --- how frames come
 
 

@@ -11,6 +11,7 @@ from __future__ import annotations
 
 from typing import Iterator, List, Mapping, Optional, Sequence
 
+from ..machine import End
 from ..scene import Scene
 from . import cluster, devices, nodes, room
 from .interface import interface, lists_here
@@ -23,11 +24,13 @@ __all__ = ["COMES_OFTEN", "Cause", "NamedStore", "find", "interface", "lists_her
 FACTS = (
     room.lost_stores, cluster.terms, cluster.twice, cluster.lists, cluster.second_server, devices.with_a_source,
     room.full, room.run_out, cluster.lossy, cluster.majority, cluster.refused, nodes.unidentified, nodes.doubles,
-    nodes.addresses, devices.wrong_requests, devices.zeros, devices.stuck, devices.unheard, room.warnings,
+    nodes.addresses, devices.wrong_requests, devices.of_cyphal, devices.zeros, devices.stuck, devices.unheard,
+    devices.unseen, room.warnings,
 )
 # What follows from another cause, and is not said beside it.
 FOLLOWS = {
-    "frames-twice": {"one-id-twice", "lossy-bus", "another-log"},
+    "frames-twice": {"one-id-twice", "lossy-bus", "another-log", "never-goes-on", "deaf-member"},
+    "ids-run-out": {"unheard-answer"},
     "lossy-bus": {"strange-member", "no-leader", "not-committed", "deaf-member"},
 }
 BESIDE_CROSSED = {"never-goes-on", "unheard-answer", "one-id-twice", "one-unique-id", "wrong-address"}
@@ -36,11 +39,11 @@ BESIDE_CROSSED = {"never-goes-on", "unheard-answer", "one-id-twice", "one-unique
 def find(
     scene: Scene,
     stores: Sequence[NamedStore] = (),
-    ends: Optional[Mapping[int, int]] = None,
+    ends: Optional[Mapping[int, End]] = None,
     here: Sequence[Cause] = (),
 ) -> List[Cause]:
-    """The causes that can be seen: facts that stop everybody, guesses, and warnings. `ends` has the exit codes of
-    members of this machine that do not run; `here` are causes that the machine tells of itself."""
+    """The causes that can be seen: facts that stop everybody, guesses, and warnings. `ends` says how
+    members of this machine ended; `here` are causes that the machine tells of itself."""
     known = [*here, *cluster.ended(scene, ends or {})]
     if not scene.frames:
         return [*known, cluster.silence()]

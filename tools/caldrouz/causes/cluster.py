@@ -2,19 +2,21 @@
 from __future__ import annotations
 
 import re
-from typing import Dict, List, Mapping, Optional, Sequence, Set
+from typing import Collection, Dict, Iterable, List, Mapping, Optional, Sequence, Set
 
 from .. import scene as scenes
 from .. import texts
+from ..machine import End
 from ..scene import Lead, Listing, Scene
 from .common import ELECTED_BY, LATELY, RECENT, Cause, Found, Stores, age, enumeration, ids, seconds, times, verb
 
 SEARCHES = 2.5  # seconds after which a member that still searched would have told so again
 UNHEARD_ANSWERS = 5  # so many answers in a row that a leader seems not to have heard are told
 UNANSWERED_CALLS = 3  # so many calls in a row without an answer are told
-STANDS_BY = 10.0  # seconds within which a member that hears no leader stands for election, its rest included
+STANDS_BY = 12.0  # seconds within which a member that hears no leader stands for election, its rest included
 MANY_ROUNDS = 8  # calls to one member, after which one that was never called is in no list
-GAPS = 4  # so often a member that answers does not, where frames are lost
+MANY_WON = 2  # so many elections that were won, and never used, are of one that does not hear
+GAPS = 4  # so often within 20 s a member that answers does not, where frames are lost
 REFUSALS = 200  # more in a row than a log has places
 OF_ONE_LIST = (
     "end the member whose CLUSTER is another (`check_settings` compares them), and audit the stores before it runs "
@@ -45,16 +47,18 @@ def members_of(scene: Scene, stores: Stores) -> Set[int]:
 # --- who is a member
 
 
-def ended(scene: Scene, ends: Mapping[int, int]) -> Found:
-    """Members of this machine that ended: why, by the exit code."""
+def ended(scene: Scene, ends: Mapping[int, End]) -> Found:
+    """Members of this machine that ended: why, by the exit code. One that was started again, and goes on, is told where
+    it ended more than once."""
     size = scene.size() or len(scene.members())
     goes_on = scene.leader() is not None or size == 1 and not ends
-    for member, status in sorted(ends.items()):
-        if status == 0:
+    for member, (status, count) in sorted(ends.items()):
+        if status == 0 or count == 1 and scene.is_online(member):
             continue
         unknown = "the table of exit codes does not have it", "see its journal"
         meaning, remedy = texts.MEMBER_EXITS.get(status, unknown)
-        yield Cause("ended-member", f"Member {member} ended with {status}: {meaning}", remedy, stops=not goes_on)
+        often = f", {times(count, 'time')} within a minute" if count > 1 else ""
+        yield Cause("ended-member", f"Member {member} ended with {status}{often}: {meaning}", remedy, stops=not goes_on)
 
 
 def lists(scene: Scene, stores: Stores) -> Found:
@@ -83,13 +87,15 @@ def lists(scene: Scene, stores: Stores) -> Found:
     yield from _strange_members(scene, members, size or 0)
 
 
-def _no_members(scene: Scene) -> Cause:
+def _no_members(scene: Scene, members: Collection[int] = ()) -> Cause:
+    what = f"none of members {ids(members)}" if members else "none shows a member"
+    alone = ". One that is alone in its cluster shows none until a device asks (`--members 1,` names it)"
     return Cause(
         "no-members",
-        f"{times(scene.frames, 'frame')} came, and none shows a member. One that is alone in its cluster shows none "
-        "until a device asks (`--members 1,` names it)",
-        "start the members (`systemctl status 'caldrouz-node@*'`); where they run, start the bridge, and see that both "
-        "have one base port. Where they run and nobody leads, are their terms used up (--store)?",
+        f"{times(scene.frames, 'frame')} came, and {what}{'' if members else alone}",
+        "start the members (`systemctl status 'caldrouz-*'`); of those that ended, the journals say by which exit "
+        "code, and OPERATING.md has what to do. Where they run over UDP, start the bridge, and see that both have one "
+        "base port. Where they run and nobody leads, are their terms used up (--store)?",
     )
 
 
@@ -271,7 +277,7 @@ def _nobody_stands(scene: Scene) -> bool:
     """Whether most members are there, told their list, for longer than one waits before it stands, and none does."""
     size, members = scene.size(), scene.members()
     there = [scene.nodes[node] for node in members if scene.is_online(node)]
-    rested = all((node.uptime or 0) > 2 * STANDS_BY for node in there)
+    rested = all((node.uptime or 0) > STANDS_BY for node in there)
     return (
         bool(size and size > 1 and len(there) > size // 2)
         and rested
@@ -298,14 +304,15 @@ def twice(scene: Scene, _: Stores) -> Found:
 
 def lossy(scene: Scene, _: Stores) -> Found:
     gaps = [moment for moment in scene.gaps if age(scene, moment) <= 2 * RECENT]
-    if len(gaps) >= GAPS:
-        lasts = seconds(min(scene.heard_for, 2 * RECENT))
-        terms_of = {stood.term for moment, stood in scene.elections if age(scene, moment) <= 2 * RECENT}
+    terms_of = {stood.term for moment, stood in scene.elections if age(scene, moment) <= 2 * RECENT}
+    lasts = min(scene.heard_for, 2 * RECENT)
+    few = max(2, round(GAPS * lasts / (2 * RECENT)))  # of a short time that has elections as well
+    if len(gaps) >= (few if terms_of else GAPS):
         elections = f", and there were {times(len(terms_of), 'election')}" if terms_of else ""
         yield Cause(
             "lossy-bus",
-            f"Members leave out answers and answer again, {len(gaps)} times in {lasts}{elections}: frames are lost on "
-            "their way, or come late",
+            f"Members leave out answers and answer again, {len(gaps)} times in {seconds(lasts)}{elections}: frames are "
+            "lost on their way, or come late",
             "mend the bus first: termination, bit rate, load, errors (`ip -details -statistics link show`), the counts "
             "of the bridges, and the load of the machines. Other names beside this one may follow from it",
         )
@@ -321,17 +328,30 @@ def majority(scene: Scene, stores: Stores) -> Found:
         return
     quorum = size // 2 + 1
     there = set(filter(scene.is_online, members))
+    if not there and not any(scene.nodes[node].came for node in members if node in scene.nodes):
+        if not scene.callers and not scene.answers and not scene.listings:
+            yield _no_members(scene, members)
+            return
     if len(there) < quorum:
-        yield _no_majority(there, members, size)
+        yield _no_majority(scene, there, members, size)
     elif size == 1:
         return
+    elif (deaf := _deaf_candidate(scene, quorum)) is not None:
+        yield deaf
     elif lead is None and not searching(scene):
         yield from _no_leader(scene)
     elif lead is not None:
         yield from _unanswered(scene, lead, size)
 
 
-def _no_majority(there: Set[int], members: Set[int], size: int) -> Cause:
+def _gone(scene: Scene, away: Iterable[int]) -> str:
+    """When members that are away were last heard, where they were: they hang, or ended."""
+    heard = [(node, scene.nodes[node]) for node in sorted(away) if node in scene.nodes and scene.nodes[node].came]
+    told = [f"{node} was last heard {seconds(age(scene, it.last))} ago" for node, it in heard]
+    return f". {'; '.join(told)}: it hangs, or ended" if len(told) == 1 else f". {'; '.join(told)}" if told else ""
+
+
+def _no_majority(scene: Scene, there: Set[int], members: Set[int], size: int) -> Cause:
     away = sorted(members - there)
     unheard = size - len(members)
     missing = [f"{ids(away)} {verb(away, 'is', 'are')} away"] if away else []
@@ -340,7 +360,7 @@ def _no_majority(there: Set[int], members: Set[int], size: int) -> Cause:
     return Cause(
         "no-majority",
         f"Of {times(size, 'member')} {here}, {', '.join(missing)}, and {size // 2 + 1} "
-        f"{'is' if size == 1 else 'are'} needed",
+        f"{'is' if size == 1 else 'are'} needed{_gone(scene, away)}",
         LOOK_HOW_IT_ENDED,
     )
 
@@ -351,7 +371,7 @@ def _no_leader(scene: Scene) -> Found:
     elections = [it for it in scene.elections if it[0] >= since and it[1].node in members]
     if elections:
         terms = sorted({stood.term for _, stood in elections})
-        votes = [granted for moment, granted in scene.votes if moment >= since]
+        votes = [vote.granted for vote in scene.votes if vote.moment >= since]
         answers = f"of the {len(votes)} answers {sum(votes)} were votes" if votes else "no answer was heard"
         text = f"terms {terms[0]} to {terms[-1]}" if len(terms) > 1 else f"term {terms[0]}"
         if len(elections) == 1 and age(scene, elections[0][0]) < ELECTED_BY:
@@ -366,8 +386,34 @@ def _no_leader(scene: Scene) -> Found:
         yield Cause(
             "no-leader",
             f"Nobody leads, and nobody stood for election in {seconds(scene.heard_for)}",
-            "are all members new (each has to be heard once since power-on)? Do they hear each other?",
+            "wait: members that are told their list stand within 12 s of their start. Those that were told a number "
+            "alone have to hear each other once: do they?",
         )
+
+
+def _deaf_candidate(scene: Scene, quorum: int) -> Optional[Cause]:
+    """A member that was given the votes of most again and again, and never led."""
+    elections = [it for it in scene.elections if age(scene, it[0]) <= 2 * RECENT]
+    for node in sorted({stood.node for _, stood in elections} & scene.members()):
+        stood_in = sorted({stood.term for _, stood in elections if stood.node == node})
+        won = [
+            term
+            for term in stood_in
+            if len({vote.by for vote in scene.votes if (vote.to, vote.term, vote.granted) == (node, term, True)}) + 1
+            >= quorum
+        ]
+        led = scene.callers[node].led if node in scene.callers else None
+        since = min(moment for moment, stood in elections if stood.node == node)
+        if len(won) >= MANY_WON and (led is None or led < since):
+            return Cause(
+                "deaf-member",
+                f"Member {node} stood in terms {stood_in[0]} to {stood_in[-1]}, was given the votes of most in "
+                f"{len(won)} of them, and never led: it seems to hear nothing, and its elections keep the others from "
+                "a leader",
+                f"stop member {node}, so that another one leads; then mend its receiver, interface or bridge",
+                guess=True,
+            )
+    return None
 
 
 def _unanswered(scene: Scene, lead: Lead, size: int) -> Found:
@@ -407,13 +453,26 @@ def _deaf(scene: Scene, lead: Lead, deaf: Sequence[int], size: int) -> Found:
     more = (size - 1) // 2 - len(deaf)
     bears = f"bears the loss of {more} more" if more else "bears no further loss"
     for node in deaf:
-        if scene.is_online(node):
+        if scene.is_online(node) and _never_stands(scene, node):
+            what = (
+                f"shows itself, and neither answers the calls of member {lead.node}, which leads, nor stands for "
+                "election, as a member that hears nothing does: another node has its node ID"
+            )
+            remedy = "give that node another ID before this member is started: it ends with 18 where it hears its own"
+        elif scene.is_online(node):
             what = f"shows itself, and answers none of the calls of member {lead.node}, which leads"
             remedy = "does this member run? Then mend its interface and bridge. Else another node may have its ID"
         else:
-            what = f"is not there: it answers none of the calls of member {lead.node}, which leads"
+            heard = _gone(scene, [node])
+            what = f"is not there, and answers none of the calls of member {lead.node}, which leads{heard}"
             remedy = LOOK_HOW_IT_ENDED
         yield Cause("deaf-member", f"Member {node} {what}. The cluster goes on, and {bears}", remedy, stops=False)
+
+
+def _never_stands(scene: Scene, node: int) -> bool:
+    """Whether a node that shows itself is none that waits for a leader: it would have stood for election."""
+    uptime = scene.nodes[node].uptime or 0
+    return uptime > STANDS_BY and scene.heard_for > ELECTED_BY and node not in scene.callers
 
 
 def refused(scene: Scene, _: Stores) -> Found:

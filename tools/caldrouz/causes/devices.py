@@ -8,8 +8,12 @@ from ..scene import Answer, Malformed, Request, Scene
 from .common import LATELY, RECENT, Cause, Found, Stores, age, ids, times
 
 MANY_ASKED = 3  # requests that are told
+MANY_HURRIED = 12  # first requests, of which the standard lets a device send two in a second at the most
 FIRST_BYTES = 12  # of a unique ID, in hexadecimal digits: those of the first request
 TO_BEGIN = 1.0  # seconds from the first answer, after which a node that is switched on had started again
+AT_ONCE = 0.5  # seconds behind an answer within which a device goes on
+SHOWS_BY = 5.0  # seconds after its answer by which a device shows itself
+LEAST_PERIOD = 0.6  # seconds that a device waits at the least before it asks anew
 SOON = 15.0  # seconds within which one device starts again as another
 
 
@@ -21,6 +25,7 @@ def with_a_source(scene: Scene, _: Stores) -> Found:
 def wrong_requests(scene: Scene, _: Stores) -> Found:
     """Other requests that no allocator takes."""
     yield from _wrong(scene, False)
+    yield from _flagged_again(scene)
     lone = _without_a_first(scene)
     if lone:
         yield Cause(
@@ -48,6 +53,31 @@ def _wrong(scene: Scene, has_source: bool) -> Found:
             )
 
 
+def flagged_again(scene: Scene) -> Dict[str, str]:
+    """First parts of unique IDs, and the second parts that a device told with the flag of the first: whoever sent these
+    did so whenever that first part was answered, and at no other time."""
+    found: Dict[str, str] = {}
+    asked = [it for it in recent_askers(scene) if not it.told and len(it.firsts) > MANY_ASKED and not _hurries(it)]
+    for one in asked:
+        begun = [it.moment for it in scene.answers if it.part == one.part]
+        for other in asked:
+            behind = [any(0 <= moment - then <= AT_ONCE for then in begun) for moment in other.firsts]
+            if other is not one and behind.count(False) <= 1:  # (the first may be behind one that was not heard)
+                found[one.part] = other.part
+    return {one: other for one, other in found.items() if other not in found}
+
+
+def _flagged_again(scene: Scene) -> Found:
+    for one, other in flagged_again(scene).items():
+        yield Cause(
+            "wrong-request",
+            f"A device whose unique ID begins with {one} tells the next bytes, {other}, with the flag of the first "
+            "part: so they begin the exchange of another device",
+            "mend the device's firmware: its first request alone has the flag first_part_of_unique_id",
+            guess=True,
+        )
+
+
 def _without_a_first(scene: Scene) -> List[Request]:
     """Requests of a later stage, where no device is in the middle of an exchange."""
     recent = [it for it in scene.requests if age(scene, it.moment) <= 2 * RECENT]
@@ -55,6 +85,30 @@ def _without_a_first(scene: Scene) -> List[Request]:
         return []
     lone = [it for it in recent if it.stage == 1]
     return lone if len(lone) >= MANY_ASKED else []
+
+
+def of_cyphal(scene: Scene, _: Stores) -> Found:
+    """Frames of the protocol that came after this one."""
+    recent = {
+        source: count for source, moments in scene.others.items()
+        if (count := sum(age(scene, it) <= 2 * RECENT for it in moments)) >= MANY_ASKED
+    }
+    nodes = [source for source in recent if source]
+    if 0 in recent:
+        yield Cause(
+            "other-protocol",
+            f"A device asks for a node ID by Cyphal (UAVCAN v1), {times(recent[0], 'time')}: allocators of UAVCAN v0 "
+            "do not understand it",
+            "set the device to UAVCAN v0 (DroneCAN), or give it a fixed address; else it needs an allocator of Cyphal",
+        )
+    elif nodes:
+        yield Cause(
+            "other-protocol",
+            f"Frames of Cyphal (UAVCAN v1) come from {ids(nodes)}: members do not see such a node, and may give its "
+            "node ID to a device",
+            "set it to UAVCAN v0 (DroneCAN), or keep the two protocols on two buses",
+            stops=False,
+        )
 
 
 def zeros(scene: Scene, _: Stores) -> Found:
@@ -132,23 +186,60 @@ def _ends_early(scene: Scene, it: Asking) -> bool:
 
 def unheard(scene: Scene, _: Stores) -> Found:
     for it in recent_askers(scene):
-        if it.told and not _starts_as_two(scene) and sum(moment > it.told[0].moment for moment in it.firsts) > 2:
-            last = it.told[-1]
-            if _began_anew(scene, it):
+        if not it.told or _starts_as_two(scene):
+            continue
+        anew = [moment for moment in it.firsts if moment > it.told[0].moment]
+        last, often, began_anew = it.told[-1], times(len(it.told), "time"), _began_anew(scene, it)
+        was_told_again = last.moment > it.told[0].moment + TO_BEGIN
+        if len(anew) > 2 or anew and was_told_again and began_anew:
+            if began_anew:
                 yield Cause(
                     "starts-again",
-                    f"The device {last.part} was told {len(it.told)} times that it has node ID {last.node}, a node "
+                    f"The device {last.part} was told {often} that it has node ID {last.node}, a node "
                     "with this ID came after that and began anew, and it asks on: it starts again and again",
                     "look at the device: its power supply, its watchdog, its firmware. Its ID stays the same",
                 )
                 continue
             yield Cause(
                 "unheard-answer",
-                f"The device {last.part} was told {len(it.told)} times that it has node ID {last.node}, and asks on: "
+                f"The device {last.part} was told {often} that it has node ID {last.node}, and asks on: "
                 "it does not hear the answer, or does not take it",
                 "look at the device: it has to receive frames of other nodes (its acceptance filters, its bit timing, "
                 "its end of the bus), and to take an Allocation that it did not ask for by itself",
             )
+
+
+def unseen(scene: Scene, _: Stores) -> Found:
+    """Devices that were told their ID, and neither show themselves under it nor ask on."""
+    gone: List[Answer] = []
+    for part, answer in {it.part: it for it in scene.answers if it.node}.items():
+        node = scene.nodes.get(answer.node)
+        is_seen = node is not None and node.uptime is not None and node.last > answer.moment
+        asks_on = any(it.stage == 0 and part.startswith(it.part) and it.moment > answer.moment for it in scene.requests)
+        if is_seen or asks_on or not SHOWS_BY <= age(scene, answer.moment) <= LATELY:
+            continue
+        others = [number for number in scene.online() if any(it.unique_id == part for it in scene.nodes[number].told)]
+        if others:
+            yield Cause(
+                "wrong-address",
+                f"The device {part} was told node ID {answer.node}, and it is node {others[0]}: it does not use the ID "
+                "that it was given, and its own is kept back",
+                "give it the fixed address that it was told, or have it use what it is told",
+                stops=False,
+            )
+        else:
+            gone.append(answer)
+    if gone:
+        last = gone[-1]
+        more = f" (and so {times(len(gone) - 1, 'device')} more)" if len(gone) > 1 else ""
+        yield Cause(
+            "unheard-answer",
+            f"The device {last.part}{more} was told node ID {last.node} {age(scene, last.moment):.0f} s ago, and no "
+            f"node {last.node} shows itself since: it did not hear the answer, is off, or has another ID",
+            "look at the device. Where it was switched off, or `assign` asked for it, all is well",
+            stops=False,
+            guess=True,
+        )
 
 
 def _began_anew(scene: Scene, it: Asking) -> bool:
@@ -157,8 +248,26 @@ def _began_anew(scene: Scene, it: Asking) -> bool:
     return node is not None and node.uptime is not None and node.last - node.uptime > it.told[0].moment + TO_BEGIN
 
 
+def _hurries(it: Asking) -> bool:
+    """Whether it begins anew far more often than the standard lets a device."""
+    lasts = it.firsts[-1] - it.firsts[0]
+    return not it.told and len(it.firsts) >= MANY_HURRIED and lasts < LEAST_PERIOD / 2 * (len(it.firsts) - 1)
+
+
 def stuck(scene: Scene, _: Stores) -> Found:
-    recent = recent_askers(scene)
+    recent, flagged = recent_askers(scene), flagged_again(scene)
+    recent = [it for it in recent if it.part not in flagged and it.part not in flagged.values()]
+    hurried = [it for it in recent if _hurries(it)]
+    for it in hurried if len(hurried) == 1 else ():
+        each = (it.firsts[-1] - it.firsts[0]) / (len(it.firsts) - 1)
+        yield Cause(
+            "never-goes-on",
+            f"A device whose unique ID begins with {it.part} begins anew every {each:.1f} s, and the standard lets a "
+            f"device do so every {LEAST_PERIOD} s: each of its requests begins everybody's exchange anew. (So do many "
+            "devices whose unique IDs begin alike.)",
+            "unplug this device, and mend its firmware",
+        )
+    recent = [it for it in recent if it not in hurried or len(hurried) > 1]
     if len(recent) == 1 and _ends_early(scene, recent[0]):
         yield Cause(
             "never-goes-on",
@@ -184,7 +293,9 @@ def stuck(scene: Scene, _: Stores) -> Found:
 
 def crossed(scene: Scene) -> Found:
     """Several devices that ask at a time, where somebody could be served."""
-    recent = recent_askers(scene)
+    recent, flagged = recent_askers(scene), flagged_again(scene)
+    if flagged or sum(map(_hurries, recent)) == 1:
+        return
     stuck_ones = [it for it in recent if _is_stuck(it)]
     others = [it for it in recent if not it.told and it not in stuck_ones]
     # (one that was told before another one began to ask was in nobody's way)

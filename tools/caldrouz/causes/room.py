@@ -12,6 +12,7 @@ from .common import LATELY, Cause, Found, Stores, age, seconds, times
 
 FEW_PLACES = 8
 UNUSED = 5  # so many new pairs of nodes that are not there are none of a power-on
+UNUSED_SOON, LONG_ENOUGH = 3, 20.0  # so many are a guess, where so many seconds were not heard yet
 MANY_PAIRS = 30  # new pairs within a minute that are worth a word, even where their nodes are there
 TO_SHOW = 2.0  # seconds after which a device that was told its ID shows itself
 EXPORT = f"export the pairs, drop those of devices that are gone, and {BEGIN_ANEW}"
@@ -48,7 +49,8 @@ def room(scene: Scene, stores: Stores) -> Optional[Room]:
 
 
 def longest_of(stores: Stores) -> Optional[Store]:
-    return max((store for _, store in stores), key=lambda it: (it.commit, len(it.entries)), default=None)
+    known = [store for _, store in stores]
+    return max(known, key=lambda it: (it.commit, len(it.entries))) if known else None
 
 
 def lost_stores(_: Scene, stores: Stores) -> Found:
@@ -127,8 +129,9 @@ def run_out(scene: Scene, stores: Stores) -> Found:
     answered = {number for number, node in scene.nodes.items() if node.told}  # (while the log took another pair)
     kept_back = [it for it in reserved if it.entry.node not in answered]
     unused = [it for it in recent if it not in reserved and _is_unused(scene, it)]
-    wasted = len(kept_back) + len(unused)
-    if wasted < UNUSED and len(recent) < MANY_PAIRS:
+    wasted, is_short = len(kept_back) + len(unused), scene.heard_for < LONG_ENOUGH
+    stops = wasted >= (UNUSED_SOON if is_short else UNUSED)
+    if not stops and len(recent) < MANY_PAIRS:
         return
     parts: List[str] = [f"{len(kept_back)} are kept back, since nobody answered"] if kept_back else []
     parts += [f"{len(unused)} are of nodes that are not there"] if unused else []
@@ -141,9 +144,10 @@ def run_out(scene: Scene, stores: Stores) -> Found:
         f"{len(recent)} new pairs came into the log within {lasts}, {pace:.0f} a minute"
         f"{': ' if parts else ''}{', '.join(parts)}{left}. Each ID is gone for good",
         "find the device that asks with one unique ID after the other, or shows itself under one node ID after the "
-        "other, and unplug it (`monitor` names each). Where `assign` runs, all is well" if wasted >= UNUSED else
+        "other, and unplug it (`monitor` names each). Where `assign` runs, all is well" if stops else
         "was so much switched on just now? Else find the device that shows itself under one node ID after the other",
-        stops=wasted >= UNUSED,
+        stops=stops,
+        guess=stops and wasted < UNUSED,
     )
 
 
