@@ -79,6 +79,8 @@ def notes(scene: Scene) -> Iterator[str]:
             yield f"Members that are there: {ids(there)}{of}."
     if lead:
         yield f"Member {lead.node} leads in term {lead.term}."
+    elif scene.frames and size != 1:
+        yield "Nobody leads."
     silent = members - set(scene.callers) - set(scene.listings)
     if lead and silent and size != 1:
         yield f"What list a follower was told is not heard: {ids(silent)} (check_settings compares the settings)."

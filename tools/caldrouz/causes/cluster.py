@@ -13,7 +13,7 @@ from .common import ELECTED_BY, LATELY, RECENT, Cause, Found, Stores, age, enume
 SEARCHES = 2.5  # seconds after which a member that still searched would have told so again
 UNHEARD_ANSWERS = 5  # so many answers in a row that a leader seems not to have heard are told
 UNANSWERED_CALLS = 3  # so many calls in a row without an answer are told
-STANDS_BY = 12.0  # seconds within which a member that hears no leader stands for election, its rest included
+STANDS_BY = 8.0  # seconds of its uptime within which a member that hears no leader has stood for election
 MANY_ROUNDS = 8  # calls to one member, after which one that was never called is in no list
 MANY_WON = 2  # so many elections that were won, and never used, are of one that does not hear
 GAPS = 4  # so often within 20 s a member that answers does not, where frames are lost

@@ -215,7 +215,8 @@ def unseen(scene: Scene, _: Stores) -> Found:
     for part, answer in {it.part: it for it in scene.answers if it.node}.items():
         node = scene.nodes.get(answer.node)
         is_seen = node is not None and node.uptime is not None and node.last > answer.moment
-        asks_on = any(it.stage == 0 and part.startswith(it.part) and it.moment > answer.moment for it in scene.requests)
+        firsts = (it for it in scene.requests if it.stage == 0 and part.startswith(it.part))
+        asks_on = any(it.moment > answer.moment + AT_ONCE for it in firsts)
         if is_seen or asks_on or not SHOWS_BY <= age(scene, answer.moment) <= LATELY:
             continue
         others = [number for number in scene.online() if any(it.unique_id == part for it in scene.nodes[number].told)]
