@@ -47,7 +47,7 @@ vote_for : (vote leader : ℕ) → 1 ≤ leader → (vote == leader) ≡ true �
 vote_for zero leader low e = absurd (omega (arith, low, equal zero leader e))
 vote_for (suc vote) leader low e = e
 
-module _ (world : World) (ids : List ℕ) (lost : ℕ) (stores : List Stored) (has : HasTheStores world ids lost stores) (place : ℕ)
+module _ (world : World) (ids : List ℕ) (lost : ℕ) (stores : List Stored) (place : ℕ) (has : HasTheStores world ids lost stores place)
     (may : MayReplace ids lost stores place) where
   abbrev leader : ℕ
   leader = slice_index ids place
@@ -55,19 +55,8 @@ module _ (world : World) (ids : List ℕ) (lost : ℕ) (stores : List Stored) (h
   abbrev backing : ℕ → Bool
   backing = backs (stores_of world) lost leader
 
-  not_lost : (k : ℕ) → supports ids lost stores place k ≡ true → (slice_index ids k == lost) ≡ false
-  not_lost k e = elim (tell (slice_index ids k == lost)) [ inr h ↦ h | inl h ↦ absurd (cc (h, (parts k e).0)) ]
-    where
-      parts : (k : ℕ) → supports ids lost stores place k ≡ true → (not (slice_index ids k == lost) ≡ true) × (((store_at stores k).term == (store_at stores place).term && (store_at stores k).vote == leader) ≡ true)
-      parts k e = both (not (slice_index ids k == lost)) ((store_at stores k).term == (store_at stores place).term && (store_at stores k).vote == leader)
-          (both (voted ids lost stores (store_at stores place).term leader k)
-          (is_log_not_above (store_at stores k).entries.items (store_at stores place).entries.items) e).0
-
   stored : (k : ℕ) → k < length ids → supports ids lost stores place k ≡ true → stores_of world (slice_index ids k) ≡ modelled (store_at stores k)
-  stored k low e = has.left k low (λ same. absurd (cc (not_lost k e, same_true (slice_index ids k) lost same)))
-    where
-      same_true : (a b : ℕ) → a ≡ b → (a == b) ≡ true
-      same_true a b e = grind (arith, e)
+  stored = has.supporting
 
   backs_too : (k : ℕ) → k < length ids → supports ids lost stores place k ≡ true → backing (slice_index ids k) ≡ true
   backs_too k low e =

@@ -18,10 +18,11 @@
 -- The leader's log has to be committed to its end: then what only the lost member knew to be committed is known again.
 --
 -- The lost member gets the leader's store, with its term and its vote. It cannot vote again in an earlier term, and in
--- this term for no other node. What it voted before in this term or a later one is forgotten. That elects nobody twice:
--- the others are too few to elect another node in this term, nobody was elected in a later one, and a candidate that
--- was stopped stands in a new term. In the Raft model this is proved (`law_replacements` of `raft_replaced`), for this
--- guard (`the_model_allows_it`).
+-- this term for no other node. What it voted before in this term or a later one is forgotten, and so are the terms in
+-- which it stood for election. That elects nobody twice: the others are too few to elect another node in this term, and
+-- nobody was elected in a later one. The lost member may stand again in the very term in which it stood before. But it
+-- counts no vote of before the copy, since none comes any more (`remains` of `raft_replaced`). In the Raft model this
+-- is proved (`law_replacements` of `raft_replaced`), for this guard (`the_model_allows_it`).
 use Rattle.std.specs.Prelude.{◌≡◌, ℕ, zero, suc, ◌+◌, ◌*◌, ◌<◌, ◌==◌, ◌&&◌, not, Bool, true, List, length, slice_index, if◌then◌else◌}
 use Rattle.can_frame.specs.declared.entry.Entry.{Entry}
 use Rattle.can_frame.specs.Log.{last_term}
@@ -43,12 +44,13 @@ module _ (ids : List ℕ) (lost : ℕ) (stores : List Stored) where
   voted term node place = not (slice_index ids place == lost)
       && ((store_at stores place).term == term && (store_at stores place).vote == node)
 
-  -- it supports the member at the first place: it voted for that one, with its term, and has no log above its
+  -- the member at the second place supports the leader at the first: it voted for the leader, with the leader's term,
+  -- and has no log above the leader's
   abbrev pub supports : ℕ → ℕ → Bool
   supports leader place = voted (store_at stores leader).term (slice_index ids leader) place
       && is_log_not_above (store_at stores place).entries.items (store_at stores leader).entries.items
 
-  -- how many of the first members, so many, do
+  -- how many of the first members, so many, support the leader at a place
   abbrev pub supporters : ℕ → ℕ → ℕ
   supporters leader zero = 0
   supporters leader (suc place) = supporters leader place + (if supports leader place then 1 else 0)
@@ -59,7 +61,7 @@ module _ (ids : List ℕ) (lost : ℕ) (stores : List Stored) where
     pub own : supports place place ≡ true
     pub majority : length ids < 2 * supporters place (length ids)
 
-  -- and it has committed all of its log
+  -- the store of the member at a place may be taken: the member is elected, and has committed all of its log
   pub record MayReplace (place : ℕ) : Type 0 where
     pub elected : IsElected place
     pub committed : (store_at stores place).commit ≡ length (store_at stores place).entries.items

@@ -27,9 +27,10 @@ pub fn one_member_is_elected()
 {}
 
 /// Where the guard allows a copy, the Raft model allows it, so runs go on safely behind it (`law_replacements` of
-/// `raft_replaced`): of any world that has these stores, whatever the lost member had stored.
+/// `raft_replaced`): of any world in which those that support the leader have these stores, whatever the lost member
+/// and all others have stored.
 pub fn the_model_allows_it()
     ensures { (world : World) (ids : List ℕ) (lost : ℕ) (stores : List Stored) →
-        HasTheStores world ids lost stores → (place : ℕ) → MayReplace ids lost stores place → In lost ids →
-        MayBeCopied world lost (slice_index ids place) }
+        (place : ℕ) → HasTheStores world ids lost stores place → MayReplace ids lost stores place →
+        In lost ids → MayBeCopied world lost (slice_index ids place) }
 {}

@@ -1,4 +1,5 @@
-ghost use Rattle.std.specs.Prelude.{◌≡◌, ◌≤◌, ◌<◌, ℕ, [], length, true, false, IsSome, None, Some, OnOk, IfOk, IfErr, Err, slice_index_or};
+ghost use Rattle.std.specs.Prelude.{◌≡◌, ◌≤◌, ◌<◌, ℕ, [], length, true, false, IsSome, None, Some, OnOk, IfOk, IfErr, Err};
+ghost use Rattle.std.specs.Prelude.{slice_index_or};
 ghost use Rattle.can_frame.specs.Sizes.{most_members};
 ghost use Rattle.cmd_replace.specs.Replaced.{AreLeft, AreQuiet, EndsReading, LostStays};
 ghost use Rattle.outside.specs.Faults.{Rose};
@@ -15,8 +16,8 @@ use store_audit::{Refused, read_place};
 /// The images of the disks of up to five members.
 pub type Images = [[u8; IMAGE]; MOST_MEMBERS];
 
-/// Reads the stores of the members that are left, in order, up to the first that is not read as one. The lost member has
-/// a place among them, which says nothing.
+/// Reads the stores of the members that are left, in order, up to the first that is not read as one. The lost member
+/// has a place among them, which says nothing.
 pub fn read_left<D: Disk>(
     ids: &[u8],
     lost: u8,

@@ -1,4 +1,5 @@
-ghost use Rattle.std.specs.Prelude.{◌≡◌, ◌≤◌, ◌<◌, ◌⊎◌, ℕ, length, IsSome, None, Some, OnErr, OnOk, IfOk, IfErr, slice_index, slice_index_or};
+ghost use Rattle.std.specs.Prelude.{◌≡◌, ◌≤◌, ◌<◌, ◌⊎◌, ℕ, length, IsSome, None, Some, OnErr, OnOk, IfOk, IfErr};
+ghost use Rattle.std.specs.Prelude.{slice_index, slice_index_or};
 ghost use Rattle.std.specs.List.{Contains};
 ghost use Rattle.can_frame.specs.Sizes.{most_members};
 ghost use Rattle.cmd_replace.specs.Replaced.{Comes, HasLine, IsImaged, LeftStay, Replaces, line_of, made_line};
@@ -23,23 +24,26 @@ struct Made {
     entries: u8,
 }
 
-/// Makes the store of a member that is lost, one of these, from the leader's, and writes one line of it. Each member has
-/// its disk at its place: that of the lost one is written, and those of the others, the members that are left, are read.
+/// Makes the store of a member that is lost, one of these, from the leader's, and writes one line of it. Each member
+/// has its disk at its place: that of the lost one is written, and those of the others, the members that are left, are
+/// read.
 ///
 /// The disks of those that are left are read in order, each by one call, up to the first that is not read as a store.
-/// Only where what was read allows it (`MayReplace`) is the image of the leader's disk, all of it, written to that of the
-/// lost member, by one call, and synced. A disk that is left is never written.
+/// Only where what was read allows it (`MayReplace`) is the image of the leader's disk, all of it, written to that of
+/// the lost member, by one call, and synced. A disk that is left is never written.
 ///
-/// | outcome | comes where (`comes`) | the disk of the lost member | what is written |
-/// |---|---|---|---|
-/// | `Done` | the guard is met (`MayReplace`) | has the image of the leader's, all of it stable | the lost member, the leader and the number of its entries |
-/// | `NoLeader` | no member that is left has the support of more than half of all (`IsElected`) | nothing was done to it | one line |
-/// | `Uncommitted(id)` | that one has it, and has not committed all of its log; nor has any other that has it | nothing was done to it | one line |
-/// | `Damaged(id, key)` | the image of that disk is damaged first at that key, and those before it are read as stores | nothing was done to it | one line |
-/// | `DiskFault(id)` | the count of that disk rose (`counts`) | of another: nothing was done to it. Of the lost member: the guard is met, and the disk may have any part of the image | one line |
+/// | outcome | comes where (`comes`) | the disk of the lost member |
+/// |---|---|---|
+/// | `Done` | the guard is met (`MayReplace`) | has the image of the leader's, all of it stable |
+/// | `NoLeader` | no member that is left has the support of more than half of all (`IsElected`) | stays |
+/// | `Uncommitted(id)` | that one has it, and has not committed all of its log; nor has any other with it | stays |
+/// | `Damaged(id, key)` | that disk is damaged first at that key, and those before it are read as stores | stays |
+/// | `DiskFault(id)` of another | the count of that disk rose (`counts`) | stays |
+/// | `DiskFault(lost)` | the guard is met, and the count of that disk rose | may have any part of the image |
 ///
-/// With `WriteFault` the run came to one of these, and a front of its line is written (`written` of `Replaces`). No
-/// other count of a disk rises.
+/// One line is written, with `Done` the lost member, the leader and the number of its entries. With `WriteFault` the
+/// run came to one of these, and a front of its line is written (`written` of `Replaces`). No other count of a disk
+/// rises, and to a disk that stays nothing was done.
 pub fn replace<K: Sink, D: Disk>(
     ids: &[u8],
     lost: u8,
