@@ -201,7 +201,7 @@ fn told_of_listed<D: Disk>(
 ) -> Result<(), Refusal>
     ensures none { OnOk result (IsInNone D.Disk members.now ids.now stores.old stores.new) }
     ensures listed { IfErr result (λ refusal. (refusal ≡ Listed) × ((id : ℕ) × (node : ℕ)
-        × IsFoundIn D.Disk members.now ids.now stores.old id node)) }
+        × IsFoundIn D.Disk members.now ids.now stores.old stores.new id node)) }
     ensures stay { AllStay D.Disk stores.old stores.new }
 {
     match find_listed(members, ids, stores) {

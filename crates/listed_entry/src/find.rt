@@ -1,6 +1,8 @@
-ghost use Rattle.std.specs.Prelude.{◌≡◌, ◌≤◌, ◌<◌, ℕ, length, IfErr, IfSome, IsNone, IsSome, OnErr, OnOk, Some, slice_index_or};
+ghost use Rattle.std.specs.Prelude.{◌≡◌, ◌≤◌, ◌<◌, ℕ, length, IfErr, IfSome, IsNone, IsSome, OnErr, OnOk, Some};
+ghost use Rattle.std.specs.Prelude.{slice_index_or};
 ghost use Rattle.std.specs.Io.KnownBytes.{Appends};
-ghost use Rattle.listed_entry.specs.Listed.{HasListed, HasNoListed, IsFoundIn, IsInNone, IsListedOn, IsPassed, listed_line};
+ghost use Rattle.listed_entry.specs.Listed.{HasListed, HasNoListed, IsFoundIn, IsInNone, IsListedOn, IsPassed};
+ghost use Rattle.listed_entry.specs.Listed.{listed_line};
 ghost use Rattle.cmd_io.specs.Counting.{CountsFaults};
 ghost use Rattle.cmd_io.specs.Output.{WritesFront};
 ghost use Rattle.store_audit.specs.Reads.{AllStay, StaysAs};
@@ -25,7 +27,8 @@ pub struct Listed {
 /// The first store of these nodes, in order, with an entry that has an ID of this list, and the first such entry. A
 /// store that cannot be read is passed over: what opens it says why.
 pub fn find_listed<D: Disk>(list: &[u8], ids: &[u8], stores: &mut [Option<D>]) -> Option<Listed>
-    ensures found { IfSome result (λ listed. IsFoundIn D.Disk list.now ids.now stores.old listed.id listed.node) }
+    ensures found { IfSome result (λ listed. IsFoundIn D.Disk list.now ids.now stores.old stores.new
+        listed.id listed.node) }
     ensures none { IsNone result → IsInNone D.Disk list.now ids.now stores.old stores.new }
     // Nothing is written.
     ensures stay { AllStay D.Disk stores.old stores.new }
@@ -43,8 +46,8 @@ pub fn find_listed<D: Disk>(list: &[u8], ids: &[u8], stores: &mut [Option<D>]) -
 
 /// The first node ID of the list that an entry of the store at a place has.
 fn listed_on<D: Disk>(list: &[u8], place: &mut Option<D>) -> Option<u8>
-    ensures found { IfSome result (λ node. (disk : D) → place.old ≡ Some disk →
-        IsListedOn D.Disk list.now disk node) }
+    ensures found { IfSome result (λ node. (disk : D) × (place.old ≡ Some disk)
+        × IsListedOn D.Disk list.now disk node) }
     ensures none { IsNone result → (before after : D) → place.old ≡ Some before → place.new ≡ Some after →
         IsPassed D.Disk list.now before after }
     ensures stays { (before : D) → place.old ≡ Some before → StaysAs D.Disk before place.new }
