@@ -14,7 +14,6 @@ use Rattle.can_frame.specs.declared.identifier.Kind.{Kind}
 use Rattle.can_frame.specs.declared.identifier.Kind.TheVariants.{Message, Anonymous, Request, Response}
 use Rattle.can_frame.specs.declared.step.Judged.TheVariants.{Fine}
 use Rattle.can_frame.specs.declared.step.Why.TheVariants.{NotWanted}
-use Rattle.raft_model.specs.Lists.{at}
 use Rattle.transfer_rx.specs.Acceptance.{accepted, wanted}
 use Rattle.transfer_rx.specs.Reassembly as receiver
 use Rattle.transfer_rx.specs.Reassembly.{Arrival, Drops, of_wanted}

@@ -3,8 +3,8 @@
 --
 -- A member is lost with its machine. A new machine takes its place, with the content of the leader's disk. All members
 -- are stopped then: what waited in their queues, what their receivers had begun and what they had in memory is gone, as
--- after any stop. Frames that were on the bus may still come, and devices go on as they were. Only of votes none from
--- before comes to a member any more.
+-- after any stop. Frames that were on the bus may still come, and devices go on as they were. But no vote request from
+-- before, and no answer to one, comes to a member any more: all members stood still, for longer than a frame lasts.
 use Rattle.std.specs.Prelude.{◌≡◌, ⊤, ℕ, ◌-◌, Bool, false, List, [], ◌∷◌, length, Option, None, Some, nat_eq, nat_lt, ◌&&◌}
 use Rattle.can_frame.specs.DataTypes.{request_vote}
 use Rattle.can_frame.specs.Identifier.{identifier_of}
@@ -41,7 +41,7 @@ pub data Item : Type 0 where
 abbrev pub copy_of : KeyDisk Stored → KeyDisk Stored
 copy_of disk = record { store = disk.store; copies = disk.copies; unsynced = None; calls = nothing_set 0 }
 
--- the world in which the lost member is a new one, with a copy of the leader's disk
+-- the world in which the lost member is a new one, with a copy of the leader's disk; no row is counted
 abbrev pub replaced : Cluster → ℕ → ℕ → Cluster
 replaced w lost leader = with_member w lost (record fresh_member { disk = copy_of (w.member leader).disk })
 
