@@ -433,7 +433,7 @@ class Times(unittest.TestCase):
         device, member = hold + 2 + 0.5, hold + 2 + 0.5 + turn
         self.assertIn(f"in the {hold + member:g} s before it (`window`)", self.premises)
         self.assertIn(f"none again within {device:g} s of Allocations", self.premises)
-        self.assertIn(f"within {member:g} s of requests of Raft", self.premises)
+        self.assertIn(f"within {member:g} s of responses of GetNodeInfo", self.premises)
         self.assertIn(f"A member is opened {table.REST / 1000:g} s after its last transfer", self.premises)
 
 

@@ -1,20 +1,15 @@
 -- Answers of a node come to a member in the order of the calls, where each member hears frames in order.
-use Rattle.std.proofs.Common.{◌≡◌, ◌≢◌, ℕ, ◌<◌, ◌≤◌, Bool, true, false, List, [], ◌∷◌, length, refl, sym, ap, subst, ◌∙◌, arith, inl, inr, Some, None}
-use Rattle.std.specs.Prelude.{◌==◌, ◌||◌, ◌&&◌, not, nat_eq, Err, if◌then◌else◌}
+use Rattle.std.proofs.Common.{◌≡◌, ◌≢◌, ℕ, ◌≤◌, Bool, true, false, List, refl, sym, ap, subst, ◌∙◌, arith, inl, inr, Some}
+use Rattle.std.specs.Prelude.{◌||◌, ◌&&◌, not, nat_eq, Err, if◌then◌else◌}
 use Rattle.std.proofs.lemmas.Bool.Decides.{eqb_tells}
 use Rattle.can_frame.specs.declared.identifier.Ident.{Ident}
 use Rattle.can_frame.specs.declared.identifier.Kind.{Kind}
 use Rattle.can_frame.specs.declared.identifier.Kind.TheVariants.{Response}
 use Rattle.can_frame.specs.declared.step.Why.TheVariants.{NotWanted}
-use Rattle.can_frame.specs.declared.step.What.{What}
-use Rattle.can_frame.specs.declared.step.What.TheVariants.{Alloc}
-use Rattle.can_frame.specs.Cutting.{frame_count}
-use Rattle.can_frame.specs.Identifier.{identifier_number, identifier_of}
+use Rattle.can_frame.specs.Identifier.{identifier_of}
 use Rattle.can_frame.specs.Kinds.{is_service, is_anonymous}
 use Rattle.raft_model.specs.Lists.{In}
 use Rattle.raft_model.specs.Runs as raft
-use Rattle.bus_rows.specs.declared.row.Row.{Row}
-use Rattle.bus_rows.specs.declared.row.Row.TheVariants.{AEnd, AOpen, ARx, ASend, ATick, Crash, Ext, Fault, Open, Rx, Send, Tick}
 use Rattle.transfer_rx.specs.declared.key.Key.{Key}
 use Rattle.transfer_rx.specs.Acceptance.{accepted, first_signature, is_for, wanted, with_signature}
 use Rattle.transfer_rx.specs.Keys.{key_of, same_key}
@@ -22,72 +17,25 @@ use Rattle.transfer_rx.specs.Run.{has_session_key, is_of}
 use Rattle.transfer_rx.proofs.Found.{same_key-equal}
 use Rattle.transfer_tx.specs.Queue.{Queued}
 use Rattle.alloc_spec.specs.Accepted.{rows}
-use Rattle.alloc_spec.specs.Transfers.{SentTransfer, ident_of, kind_of, number_of, signature_of}
-use Rattle.alloc_spec_laws.specs.Saying.{IsSaid}
-use Rattle.bus_spec.specs.Allocatees.{next_from}
+use Rattle.alloc_spec.specs.Transfers.{SentTransfer, ident_of, kind_of, number_of}
 use Rattle.alloc_spec.specs.ClusterMembers.{AreMembers}
-use Rattle.bus_spec.specs.Cluster.{Cluster, after_row, after_rows, arrival_at, frame_at, from_outside, in_list, is_member}
-use Rattle.bus_spec.specs.Lawful.{AreLawful, arrival_refusal, cause, is_forged, is_forged_by, no_node, no_such_frame, not_running, or_else}
+use Rattle.bus_spec.specs.Cluster.{Cluster, arrival_at, is_member}
+use Rattle.bus_spec.specs.Lawful.{is_forged, is_forged_by}
 use Rattle.alloc_spec.specs.Accepted.{is_members_service}
-use Rattle.bus_spec.specs.Members.{next_frame}
 use Rattle.bus_agreement.specs.Frames.{IsOnBus}
 use Rattle.bus_agreement.specs.LawsBelow.{FrameLaws}
 use Rattle.bus_agreement.specs.Shows.{Shows}
 use Rattle.bus_agreement.proofs.Idents.{one_what}
-use Rattle.bus_agreement.proofs.Lists.{in_append, in_front, never}
-use Rattle.bus_agreement.proofs.OneRow.{stands}
+use Rattle.bus_agreement.proofs.Lists.{never}
 use Rattle.bus_agreement.proofs.Pieces.{IsPieceOf, piece_of}
-use Rattle.bus_agreement.proofs.RowsWithoutEvents.{past_first}
 use Rattle.bus_agreement.proofs.WholeTransfers.{read_back, some_is}
 use Rattle.bus_rows.specs.Timed.{Timed}
-use Rattle.bus_physics.specs.Physics.{ComesInOrder, HasKeyAt, IsResponseOf, heard_by, heard_in, IsRecent, Limits}
+use Rattle.bus_physics.specs.Physics.{ComesInOrder, HasKeyAt, IsResponseOf, IsRecent, Limits}
 use Rattle.bus_physics.proofs.AnswerOrder.{AreOrdered, answerer}
 
 or_true : (a b : Bool) → b ≡ true → (a || b) ≡ true
 or_true true b e = refl
 or_true false b e = e
-
--- ---- what was heard stands on the bus
-
-grows : (w : Cluster) (row : Row) (f : Queued) → In f w.frames → In f (after_row w row).frames
-grows w (Open n told ms word) f i = i
-grows w (Tick n ms word) f i = i
-grows w (Rx n k ms) f i = i
-grows w (Send n) f i = in_front f w.frames (in_list (next_frame (w.member n).status)) i
-grows w (Ext frame) f i = in_front f w.frames (from_outside frame.id frame.bytes.items ∷ []) i
-grows w (Crash n calls pattern) f i = i
-grows w (Fault n call) f i = i
-grows w (AOpen a uid pref ms word) f i = i
-grows w (ATick a ms word) f i = i
-grows w (ARx a k ms word) f i = i
-grows w (ASend a) f i = in_front f w.frames (in_list (next_from (w.allocatee a))) i
-grows w (AEnd a) f i = i
-
-grow : (w : Cluster) (rows_ : List Row) (f : Queued) → In f w.frames → In f (after_rows w rows_).frames
-grow w [] f i = i
-grow w (row ∷ rest) f i = grow (after_row w row) rest f (grows w row f i)
-
-heard_now : (n : ℕ) (w : Cluster) (row : Row) → cause w row ≡ None → (f : Queued) → In f (heard_in n w row) → In f w.frames
-heard_now n w (Rx m k ms) lawful f i = by (n == m) i where
-  inside : In (frame_at w.frames k) w.frames
-  inside =
-      let last = arrival_refusal (w.member m).status (arrival_at (frame_at w.frames k) ms) in
-      let first = past_first (no_node w m) (or_else (not_running w m) (or_else (no_such_frame w k) last)) lawful in
-      let second = past_first (not_running w m) (or_else (no_such_frame w k) last) first.1 in
-      stands w k (past_first (no_such_frame w k) last second.1).0
-
-  by : (b : Bool) → In f (if b then frame_at w.frames k ∷ [] else []) → In f w.frames
-  by true (inl e) = subst (λ (g : Queued). In g w.frames) (sym e) inside
-  by true (inr j) = absurd j
-  by false j = absurd j
-heard_now n w row lawful f i = absurd i
-
-pub heard_on_bus : (n : ℕ) (rows_ : List Row) (w : Cluster) → AreLawful w rows_ → (f : Queued) → In f (heard_by n w rows_) → In f (after_rows w rows_).frames
-heard_on_bus n [] w lawful f i = absurd i
-heard_on_bus n (row ∷ rest) w lawful f i = elim (in_append f (heard_in n w row) (heard_by n (after_row w row) rest) i) [
-  | inl here ↦ grow (after_row w row) rest f (grows w row f (heard_now n w row lawful.0 f here))
-  | inr there ↦ heard_on_bus n rest (after_row w row) lawful.1 f there
-]
 
 -- ---- the key of a response
 

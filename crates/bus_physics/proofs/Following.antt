@@ -1,12 +1,16 @@
--- Along rows in which frames come in order, no session of a member keeps what was made before a first frame that it heard.
+-- Along rows in which frames come in order the sessions of a member keep frames that it heard, and none that was made
+-- before a first frame that it heard.
 use Rattle.std.proofs.Common.{◌≡◌, ℕ, ◌+◌, Bool, true, false, List, [], ◌∷◌, ◌++◌, refl, sym, ap, subst, ◌∙◌, inl, inr, append_assoc, append-nil}
 use Rattle.std.specs.Prelude.{◌==◌, max, if◌then◌else◌}
 use Rattle.std.proofs.lemmas.Bool.Decides.{eqb_tells}
+use Rattle.std.proofs.lemmas.List.Elements.{All-nil}
 use Rattle.raft_log.specs.KeyDisk.{are_put, is_open_on, opening_on, puts_on}
 use Rattle.raft_core.specs.StoredPuts.{store_of}
 use Rattle.raft_model.specs.Lists.{In}
 use Rattle.bus_rows.specs.declared.row.Row.{Row}
 use Rattle.bus_rows.specs.declared.row.Row.TheVariants.{AEnd, AOpen, ARx, ASend, ATick, Crash, Ext, Fault, Open, Rx, Send, Tick}
+use Rattle.transfer_rx.specs.Origin.{CameWithKey}
+use Rattle.transfer_rx.specs.Reassembly.{Arrival, next}
 use Rattle.transfer_rx.specs.Sessions.{Session}
 use Rattle.transfer_tx.specs.Queue.{Queued}
 use Rattle.alloc_spec.specs.Accepted.{setting_for}
@@ -18,6 +22,8 @@ use Rattle.alloc_spec.specs.StepState.{StepState}
 use Rattle.bus_spec.specs.Cluster.{Cluster, after_row, after_rows, arrival_at, frame_at, receipt_of, rules_of, tick_of}
 use Rattle.bus_spec.specs.Members.{Member, MemberStatus, after_crash, after_cut_off, after_failed_opening, after_opening, after_sending, member_after_step, puts_of, stopped_with, with_stop_armed}
 use Rattle.bus_spec.specs.Members.MemberStatus.{Down, Failed, Up}
+use Rattle.bus_agreement.specs.Frames.{AreHeard, CameFrom}
+use Rattle.bus_agreement.proofs.Lists.{in_append, in_back, in_front}
 use Rattle.bus_rows.specs.Timed.{Timed}
 use Rattle.bus_physics.specs.Physics.{ComeInOrder, ComesInOrder, IsInOrder, IsRecent, Limits, WhereIts, heard_by, heard_in}
 use Rattle.bus_physics.proofs.Members.{MemberLaws}
@@ -30,6 +36,7 @@ module _ (limits : Limits) (rows_at : List Timed) (n : ℕ) where
   pub record Keeps (heard : List Queued) (t : AllocatorState) : Type 0 where
     pub me : t.me ≡ n
     pub each : (s : Session) → In s t.sessions → NoneLater (setting_for n) (IsRecent limits rows_at) heard s
+    pub kept : AreHeard heard (setting_for n) t.sessions
 
   abbrev pub KeepsIn : List Queued → MemberStatus → Type 0
   KeepsIn heard status = (t : AllocatorState) → status ≡ Up t → Keeps heard t
@@ -62,16 +69,38 @@ module _ (limits : Limits) (rows_at : List Timed) (n : ℕ) where
     ticks t was ms word = record {
       me = laws.me t number (Ticks ms word) ∙ was.me;
       each = subst (λ (l : List Session). (s : Session) → In s l → NoneLater (setting_for n) (IsRecent limits rows_at) heard s) (sym (laws.ticked t number ms word)) was.each;
+      kept = subst (λ (l : List Session). AreHeard heard (setting_for n) l) (sym (laws.ticked t number ms word)) was.kept;
     }
 
     receives : (t : AllocatorState) → Keeps heard t → (frame : Queued) (ms : ℕ) → ComesInOrder limits rows_at n heard frame
         → Keeps (heard ++ frame ∷ []) (step t number (Receives (arrival_at frame ms))).step_state.allocator
     receives t was frame ms order = record {
       me = laws.me t number (Receives (arrival_at frame ms)) ∙ was.me;
-      each = subst (λ (l : List Session). (s : Session) → In s l → NoneLater (setting_for n) (IsRecent limits rows_at) (heard ++ frame ∷ []) s)
-          (sym (laws.heard t number (arrival_at frame ms) ∙ ap (λ (m : ℕ). Rattle.transfer_rx.specs.Reassembly.next (setting_for m) t.sessions (arrival_at frame (max t.now ms))) was.me))
+      each = subst (λ (l : List Session). (s : Session) → In s l → NoneLater (setting_for n) (IsRecent limits rows_at) (heard ++ frame ∷ []) s) (sym sessions)
           (restarted (setting_for n) (IsRecent limits rows_at) heard frame (max t.now ms) order t.sessions was.each);
+      kept = subst (λ (l : List Session). AreHeard (heard ++ frame ∷ []) (setting_for n) l) (sym sessions) (record {
+        arrivals = was.kept.arrivals ++ arrival_at frame (max t.now ms) ∷ [];
+        come = λ a i. elim (in_append a was.kept.arrivals (arrival_at frame (max t.now ms) ∷ []) i) [
+          | inl j ↦ further (was.kept.come a j)
+          | inr (inl e) ↦ subst (CameFrom (heard ++ frame ∷ [])) (sym e)
+              (record { frame = frame; there = in_back frame heard (frame ∷ []) (inl refl); id = refl; bytes = refl; mark = refl })
+          | inr (inr j) ↦ absurd j
+        ];
+        kept = laws.kept (setting_for n) was.kept.arrivals (arrival_at frame (max t.now ms) ∷ []) t.sessions was.kept.kept;
+      });
     }
+      where
+        sessions : (step t number (Receives (arrival_at frame ms))).step_state.allocator.sessions ≡ next (setting_for n) t.sessions (arrival_at frame (max t.now ms))
+        sessions = laws.heard t number (arrival_at frame ms) ∙ ap (λ (m : ℕ). next (setting_for m) t.sessions (arrival_at frame (max t.now ms))) was.me
+
+        further : {a : Arrival} → CameFrom heard a → CameFrom (heard ++ frame ∷ []) a
+        further came = record {
+          frame = came.frame;
+          there = in_front came.frame heard (frame ∷ []) came.there;
+          id = came.id;
+          bytes = came.bytes;
+          mark = came.mark;
+        }
 
     nothing_more : (status : MemberStatus) → KeepsIn heard status → KeepsIn (heard ++ []) status
     nothing_more status keeps = subst (λ (l : List Queued). KeepsIn l status) (sym (append-nil heard)) keeps
@@ -110,7 +139,11 @@ module _ (limits : Limits) (rows_at : List Timed) (n : ℕ) where
         disk = opening_on (w.member m).disk;
       } else after_failed_opening (w.member m) (opening_on (w.member m).disk)).status ≡ Up u → Keeps heard u
       by true e = subst (Keeps heard) (one_up (opening_by m rules (store_of (opening_on (w.member m).disk).store) ms word) u e)
-          (record { me = sym same; each = λ s i. absurd i })
+          (record {
+            me = sym same;
+            each = λ s i. absurd i;
+            kept = record { arrivals = []; come = λ a i. absurd i; kept = All-nil (CameWithKey (setting_for n) []) };
+          })
       by false e = absurd (failed (opening_on (w.member m).disk).calls.stopped e)
 
     open_by : (m : ℕ) (rules : Rules) (ms word : ℕ) (same : Bool) → (n == m) ≡ same
@@ -127,7 +160,7 @@ module _ (limits : Limits) (rows_at : List Timed) (n : ℕ) where
       by (Failed failure) runs u up = absurd (cc (up))
       by (Up t) runs u up =
           let was = inv t (ap (λ (k : ℕ). (w.member k).status) (is_same m e) ∙ runs) in
-          subst (Keeps heard) (one_up (after_pop t) u up) (record { me = was.me; each = was.each })
+          subst (Keeps heard) (one_up (after_pop t) u up) (record { me = was.me; each = was.each; kept = was.kept })
 
     crash_by : (m calls : ℕ) (pattern : _) → (same : Bool) → (n == m) ≡ same
         → KeepsIn heard (if same then after_crash calls pattern (w.member m) else w.member n).status

@@ -6,7 +6,7 @@ use Rattle.can_frame.specs.declared.identifier.Ident.{Ident}
 use Rattle.can_frame.specs.declared.identifier.Kind.TheVariants.{Response}
 use Rattle.can_frame.specs.declared.mark.Mark.{Mark}
 use Rattle.can_frame.specs.declared.step.What.{What}
-use Rattle.can_frame.specs.declared.step.Judged.TheVariants.{Fine, Stale, Torn}
+use Rattle.can_frame.specs.declared.step.Judged.TheVariants.{Fine}
 use Rattle.can_frame.specs.Kinds.{is_service, is_anonymous, is_response}
 use Rattle.raft_core.specs.Times.{Sending, Times, awaits}
 use Rattle.raft_model.specs.Lists.{In}
@@ -16,14 +16,14 @@ use Rattle.raft_model.specs.Server.{Memory}
 use Rattle.bus_rows.specs.declared.row.Row.{Row}
 use Rattle.bus_rows.specs.declared.row.Row.TheVariants.{Rx}
 use Rattle.transfer_rx.specs.Acceptance.{is_for}
-use Rattle.transfer_rx.specs.Reassembly.{Answer, Arrival, Delivery, Gives, answer}
+use Rattle.transfer_rx.specs.Reassembly.{Arrival, Delivery, Gives, answer}
 use Rattle.transfer_rx.specs.Sound.{IsDelivered}
 use Rattle.transfer_tx.specs.Queue.{Queued}
 use Rattle.alloc_spec.specs.Accepted.{rows, setting_for}
 use Rattle.alloc_spec.specs.AllocatorState.{AllocatorState, members_of}
-use Rattle.alloc_spec.specs.Judging.{answer_judgement, arrival_judgement, is_stale, misses, service_of, would_take}
+use Rattle.alloc_spec.specs.Judging.{arrival_judgement, is_stale, misses, service_of, would_take}
 use Rattle.alloc_spec.specs.Step.{begin_phase}
-use Rattle.alloc_spec.specs.Transfers.{SentTransfer, number_of}
+use Rattle.alloc_spec.specs.Transfers.{SentTransfer, kind_of, number_of}
 use Rattle.alloc_spec_laws.proofs.Choices.{eq_false, eq_true}
 use Rattle.alloc_spec_laws.proofs.DistinctTransfers.{rank}
 use Rattle.bus_spec.specs.declared.unlawful.Unlawful.{Unlawful}
@@ -38,7 +38,7 @@ use Rattle.bus_agreement.specs.Said.{IsCalled, carrier}
 use Rattle.bus_agreement.specs.Shows.{Shows, ShowsMember, ShowsUp}
 use Rattle.bus_agreement.proofs.Deliveries.{listed_in}
 use Rattle.bus_agreement.proofs.DeliveredTransfers.{was_made}
-use Rattle.bus_agreement.proofs.Idents.{IsWanted, service_is, wanted_is}
+use Rattle.bus_agreement.proofs.Idents.{IsWanted, one_what, service_is, wanted_is}
 use Rattle.bus_agreement.proofs.Lists.{in_back, never}
 use Rattle.bus_agreement.proofs.OneRow.{is_fine, stands}
 use Rattle.bus_agreement.proofs.RowsWithoutEvents.{is_one, past_first}
@@ -46,33 +46,11 @@ use Rattle.bus_agreement.proofs.TakenMessages.{IsAwaited, awaited_by, is_vote}
 use Rattle.bus_agreement.proofs.WaitingCalls.{Waits, waited}
 use Rattle.bus_agreement.proofs.WholeTransfers.{members_own}
 use Rattle.bus_physics.specs.Physics.{heard_in}
+use Rattle.bus_physics.proofs.AnswerOrder.{answerer}
+use Rattle.bus_physics.proofs.Fine.{IsFine, judged_fine, judges_fine}
 use Rattle.bus_physics.proofs.SpacedCalls.{Answers, IsHeard}
 use Rattle.bus_physics.proofs.StepCalls.{IsAnswerOf, IsSpaced}
 use Rattle.bus_physics.proofs.Waiting.{WaitsLast}
-
--- ---- what is fine is not torn, and not stale
-
-record IsFine (t : AllocatorState) (now : ℕ) (d : Delivery) : Type 0 where
-  untorn : d.whole ≡ false → d.mark.step ≡ 0
-  fresh : is_stale t d now ≡ false
-
-fine_from : (whole unmarked stale : Bool) → (if not whole && not unmarked then Torn else (if stale then Stale else Fine)) ≡ Fine
-    → (whole ≡ false → unmarked ≡ true) × (stale ≡ false)
-fine_from true unmarked true e = absurd (cc (e))
-fine_from true unmarked false e = ((λ w. never (sym w)), refl)
-fine_from false true true e = absurd (cc (e))
-fine_from false true false e = ((λ w. refl), refl)
-fine_from false false stale e = absurd (cc (e))
-
-judged_fine : (t : AllocatorState) (step now : ℕ) (a : Answer) (d : Delivery) → a ≡ Gives d → answer_judgement t step now a ≡ Fine → d.mark.step ≡ step → IsFine t now d
-judged_fine t step now a d e fine mark =
-    let f = fine_from d.whole (nat_eq step 0) (is_stale t d now) (ap (λ (x : Answer). answer_judgement t step now x) (sym e) ∙ fine) in
-    record { untorn = λ w. mark ∙ eq_true step 0 (f.0 w); fresh = f.1 }
-
-judges_fine : (t : AllocatorState) (arrival : Arrival) → arrival_judgement t arrival ≡ Fine
-    → answer_judgement t arrival.mark.step (max t.now arrival.moment) (answer (setting_for t.me) t.sessions (record arrival { moment = max t.now arrival.moment })) ≡ Fine
-unfolding arrival_judgement
-judges_fine t arrival e = e
 
 -- ---- what is not stale answers the call that waits
 
@@ -176,6 +154,17 @@ module _ (append : Bool) (p width : ℕ) (P : ℕ → ℕ → Memory → Times �
     is_last true = omega arith
     is_last false = omega arith
 
+    answers_kind : (a : Bool) → kind_of (answerer a) ≡ Response
+    answers_kind true = refl
+    answers_kind false = refl
+
+    answers_number : (a : Bool) → number_of (carrier a) ≡ number_of (answerer a)
+    answers_number true = refl
+    answers_number false = refl
+
+    one_sending : (x y : Sending) → Some x ≡ Some y → x ≡ y
+    one_sending x y e = cc (e)
+
     by_call : (call : Request) → (begin_phase (w.rows + 1) ms t).allocator.raft_server.memory.pending d.ident.source ≡ Some call
         → (frames : List Queued) → In (frame_at w.frames k) frames → IsHeard append p width P spaced small n made frames (w.rows + 1)
     by_call call pending frames heard = record {
@@ -192,6 +181,17 @@ module _ (append : Bool) (p width : ℕ) (P : ℕ → ℕ → Memory → Times �
         to = ap (λ (i : Ident). i.dest) (sym its.ident) ∙ (dest ∙ sym c.by);
       };
       answers = sym (ap (λ (m : Mark). m.re) its.mark) ∙ (answered ∙ sym called.2.step);
+      call = record { by = called.2.maker ∙ there.runs.me; what = called.2.what ∙ ap carrier awaited.service; to = called.2.receiver ∙ sym is.from };
+      responded = record {
+        response = one.0;
+        was_made = one.1;
+        by = one.2.by ∙ sym is.from;
+        what = one_what one.0.offer.what (answerer append) Response (number_of (answerer append)) (one.2.kind ∙ is.kind) (answers_kind append)
+            (one.2.number ∙ (number append refl ∙ answers_number append)) refl;
+        to = one.2.to ∙ dest;
+        re = one.2.re ∙ (answered ∙ sym called.2.step);
+        id = one.2.id ∙ (sym awaited.same ∙ (ap (λ (s : Sending). s.id) (one_sending awaited.sent called.0 (sym waits.sent ∙ called.1)) ∙ sym called.2.id));
+      };
       last = λ x i c. omega (
         arith,
         called.2.step,

@@ -19,6 +19,8 @@ pub mod Answering
 pub mod Unstale
 pub mod UntornMembers
 pub mod LastCall
+pub mod Fine
+pub mod HeardOnBus
 pub mod Waiting
 pub mod Waking
 pub mod StepCalls

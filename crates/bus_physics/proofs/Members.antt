@@ -1,7 +1,7 @@
 -- Along the rows of a physical bus the sessions of a member keep frames that came soon, one after another, and a pending
 -- call has the moment at which it was made.
 use Rattle.std.proofs.Common.{◌≡◌, ℕ, suc, ◌+◌, ◌<◌, Bool, true, false, List, [], ◌∷◌, ◌++◌, length, refl, sym, ap, subst, ◌∙◌, arith, inl, inr, Some, None, append_assoc}
-use Rattle.std.specs.Prelude.{◌-◌, ◌==◌, max, if◌then◌else◌, slice_index_or}
+use Rattle.std.specs.Prelude.{◌-◌, ◌==◌, All, max, if◌then◌else◌, slice_index_or}
 use Rattle.std.proofs.lemmas.Bool.Decides.{eqb_tells}
 use Rattle.kv_store.specs.KeyDisk.{KeyDisk}
 use Rattle.raft_core.specs.Times.{Sending}
@@ -12,7 +12,9 @@ use Rattle.raft_model.specs.Messages.{Request}
 use Rattle.bus_rows.specs.declared.row.Row.{Row}
 use Rattle.bus_rows.specs.declared.row.Row.TheVariants.{AEnd, AOpen, ARx, ASend, ATick, Crash, Ext, Fault, Open, Rx, Send, Tick}
 use Rattle.transfer_rx.specs.declared.key.Key.{Key}
+use Rattle.transfer_rx.specs.Origin.{CameWithKey}
 use Rattle.transfer_rx.specs.Reassembly.{Arrival, Setting, next}
+use Rattle.transfer_rx.specs.Run as rx_run
 use Rattle.transfer_rx.specs.Run.{is_of}
 use Rattle.transfer_rx.specs.Sessions.{Session}
 use Rattle.transfer_tx.specs.Queue.{Queued}
@@ -46,6 +48,8 @@ pub record MemberLaws : Type 0 where
   pub me : (t : AllocatorState) (number : ℕ) (event : Event) → (step t number event).step_state.allocator.me ≡ t.me
   pub called : (t : AllocatorState) (number : ℕ) (event : Event) → CallsAreMade number t (step t number event).step_state
   pub now : (t : AllocatorState) (number : ℕ) (event : Event) → (step t number event).step_state.allocator.now ≡ max t.now (moment_of event)
+  pub kept : (setting : Setting) (before arrivals : List Arrival) (sessions : List Session) → All (CameWithKey setting before) sessions
+      → All (CameWithKey setting (before ++ arrivals)) (rx_run.run setting sessions arrivals)
 
 some_request : (x y : Request) → Some x ≡ Some y → x ≡ y
 some_request x y e = cc (e)

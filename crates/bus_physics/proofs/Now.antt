@@ -4,6 +4,8 @@ use Rattle.std.specs.Prelude.{⊤, max}
 use Rattle.alloc_spec.specs.AllocatorState.{AllocatorState}
 use Rattle.alloc_spec.specs.Step.{Event, moment_of, step}
 use Rattle.alloc_spec_laws.proofs.KeptBySteps.{step_keeps}
+use Rattle.bus_agreement.specs.StepLaws.{StepLaws}
+use Rattle.bus_physics.proofs.Members.{MemberLaws}
 
 pub now_of_a_step : (t : AllocatorState) (number : ℕ) (event : Event) → (step t number event).step_state.allocator.now ≡ max t.now (moment_of event)
 now_of_a_step t number event =
@@ -18,3 +20,7 @@ now_of_a_step t number event =
       tells_keep = λ g h. h;
       hears_keep = λ d message g comes kind other read h. h;
     }) t (λ arrival is d e. tt) refl
+
+-- what is said of a step, as it is used here
+pub laws_of : StepLaws → MemberLaws
+laws_of steps = record { heard = steps.heard; ticked = steps.ticked; me = steps.me; called = steps.called; now = now_of_a_step; kept = steps.kept }

@@ -2,7 +2,9 @@
 use Rattle.std.proofs.Common.{◌≡◌, ℕ, Bool, true, false, List, [], ◌∷◌, ◌++◌, refl, sym, ap, subst, ◌∙◌, ◌⊎◌, inl, inr, Option, Some, None, append_assoc, append-nil}
 use Rattle.std.specs.Prelude.{◌==◌, ◌||◌, ◌&&◌, not, nat_eq, nat_lt, length, is_some, if◌then◌else◌}
 use Rattle.can_frame.specs.Identifier.{identifier_of}
-use Rattle.can_frame.specs.declared.step.Judged.TheVariants.{Fine, Torn}
+use Rattle.can_frame.specs.declared.step.Judged.TheVariants.{Fine, Stale, Torn}
+use Rattle.can_frame.specs.declared.step.What.{What}
+use Rattle.can_frame.specs.declared.step.What.TheVariants.{Alloc, App, AppQ, Disc, Info, InfoQ, Stat, Vote, VoteQ}
 use Rattle.raft_model.specs.Lists.{In}
 use Rattle.bus_rows.specs.declared.row.Row.{Row}
 use Rattle.bus_rows.specs.declared.row.Row.TheVariants.{Open, Tick, Rx, Send, Ext, Crash, Fault, AOpen, ATick, ARx, ASend, AEnd}
@@ -22,10 +24,10 @@ use Rattle.bus_agreement.proofs.Concatenations.{ids_stay}
 use Rattle.bus_agreement.proofs.Lists.{never}
 use Rattle.bus_agreement.proofs.OneRowMore.{grown, lawful as one_more}
 use Rattle.bus_rows.specs.Timed.{Timed, rows_in}
-use Rattle.bus_physics.specs.Physics.{AllComeInOrder, ComeInOrder, HoldsAreShort, Limits}
+use Rattle.bus_physics.specs.Physics.{AllComeInOrder, ComeInOrder, HoldsAreShort, Limits, UsesIdsApart, heard_by, is_long_to_member}
 use Rattle.bus_physics.specs.Reuse.{LacksFrames}
 use Rattle.bus_physics.specs.Schedule.{DeviceHears, MemberHears, HappenOnBus, HappensOnBus, LawfulButForBus, LosesFrames, is_of_bus, lately}
-use Rattle.bus_physics.proofs.Refusals.{of_torn, refused}
+use Rattle.bus_physics.proofs.Refusals.{of_stale, of_torn, refused}
 
 -- ---- which rows have which of the two causes
 
@@ -131,8 +133,23 @@ module _ (w : Cluster) (why : Unlawful) (is : is_of_bus why ≡ true) where
       (either (absent w a) (nothing_to_send (next_from (w.allocatee a))) (not_there a) (not_queued why (next_from (w.allocatee a)) is)) e)
   refusal (AEnd a) e = absurd (either (no_allocatee a) (absent w a) (no_device a) (not_there a) e)
 
+-- what is said of Raft's calls, and what is asked of responses of GetNodeInfo, are all that may be long
+pub all_apart : (limits : Limits) (ids : List ℕ) (before : List Timed) (now : Timed) (n : ℕ) → let made = transfers_of_rows (cluster ids) (rows_in before) [] in
+    let heard = heard_by n (cluster ids) (rows_in before) in UsesIdsApart limits (before ++ now ∷ []) made heard n Info
+    → ((what : What) → (what ≡ AppQ) ⊎ (what ≡ VoteQ) → UsesIdsApart limits (before ++ now ∷ []) made heard n what)
+    → (what : What) → is_long_to_member what ≡ true → UsesIdsApart limits (before ++ now ∷ []) made heard n what
+all_apart limits ids before now n infos calls Alloc long = never long
+all_apart limits ids before now n infos calls Disc long = never long
+all_apart limits ids before now n infos calls Stat long = never long
+all_apart limits ids before now n infos calls InfoQ long = never long
+all_apart limits ids before now n infos calls Info long = infos
+all_apart limits ids before now n infos calls VoteQ long = calls VoteQ (inr refl)
+all_apart limits ids before now n infos calls Vote long = never long
+all_apart limits ids before now n infos calls AppQ long = calls AppQ (inl refl)
+all_apart limits ids before now n infos calls App long = never long
+
 pub short_lately : (limits : Limits) (at : ℕ) → HoldsAreShort limits → HoldsAreShort (lately limits at)
-short_lately limits at enough = record { round = enough.round; rested = enough.rested; clock = enough.clock }
+short_lately limits at enough = record { round = enough.round; rested = enough.rested; joined = enough.joined; clock = enough.clock }
 
 -- ---- the laws of one row
 
@@ -175,6 +192,11 @@ module _ (limits : Limits) (ids : List ℕ) where
       → ComeInOrder limits all n [] (cluster ids) (rows_in before)
   heard_in_order all before n k ms orders e =
       orders n (subst (λ (l : List ℕ). In n l) (ids_stay (cluster ids) (rows_in before)) (refused unlawful.Torn Torn of_torn (w_of before) n k ms e).member)
+
+  -- so is who hears one that is stale
+  pub stale_member : (before : List Timed) (n k ms : ℕ) → cause (w_of before) (Rx n k ms) ≡ Some unlawful.Stale → In n ids
+  stale_member before n k ms e =
+      subst (λ (l : List ℕ). In n l) (ids_stay (cluster ids) (rows_in before)) (refused unlawful.Stale Stale of_stale (w_of before) n k ms e).member
 
   module _ (device_law : DeviceLaw) (torn_law : TornLaw) (stale_law : StaleLaw) where
     -- a row that is refused lacks frames

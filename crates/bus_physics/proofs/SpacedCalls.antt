@@ -1,6 +1,6 @@
 -- Where a transfer ID of a member's calls to a node comes round, much time has passed, or one of them was answered.
 use Rattle.std.proofs.Common.{◌≡◌, ℕ, zero, suc, ◌+◌, ◌*◌, ◌<◌, ◌≤◌, Bool, true, false, List, [], ◌∷◌, ◌++◌, length, refl, sym, ap, subst, ◌∙◌, arith, ◌⊎◌, inl, inr, None, append_assoc}
-use Rattle.std.specs.Prelude.{◌-◌, ◌==◌, max, nat_eq, slice_index_or, if◌then◌else◌}
+use Rattle.std.specs.Prelude.{⊤, ◌-◌, ◌%◌, ◌==◌, max, nat_eq, slice_index, slice_index_or, if◌then◌else◌}
 use Rattle.std.proofs.lemmas.Bool.Decides.{eqb_tells, leb_tells}
 use Rattle.std.proofs.lemmas.List.{length-replicate}
 use Rattle.can_frame.specs.declared.identifier.Kind.{Kind}
@@ -15,6 +15,7 @@ use Rattle.raft_model.specs.Server.{Memory, Store}
 use Rattle.bus_rows.specs.declared.row.Row.{Row}
 use Rattle.bus_rows.specs.declared.row.Row.TheVariants.{AEnd, AOpen, ARx, ASend, ATick, Crash, Ext, Fault, Open as Opens, Rx, Send, Tick}
 use Rattle.transfer_rx.specs.Reassembly.{Answer, Continues, Delivery, Drops, Gives, answer}
+use Rattle.transfer_rx.specs.Sessions.{next_id}
 use Rattle.transfer_tx.specs.Queue.{Queued}
 use Rattle.alloc_spec.specs.Accepted.{setting_for}
 use Rattle.alloc_spec.specs.AllocatorState.{AllocatorState, members_of}
@@ -33,15 +34,23 @@ use Rattle.bus_agreement.proofs.Lists.{in_front}
 use Rattle.bus_agreement.proofs.OneRowMore.{lawful as one_more}
 use Rattle.bus_agreement.proofs.MadeTransfers.{IsNew, made_by, made_when, newly_made, still_made}
 use Rattle.bus_rows.specs.Timed.{Timed, rows_in}
-use Rattle.bus_physics.specs.Physics.{HoldsAreShort, IsAnsweredSince, IsNotFast, IsResponseOf, Limits, WhereIts, Reading, Reads, ReadsAt, RestsBeforeOpening, heard_by, heard_in, member_readings, now_in, row_of, time_of, lag}
+use Rattle.bus_physics.specs.Physics.{HoldsAreShort, IsAnsweredSince, IsNotFast, IsResponseOf, Limits, WhereIts, Reading, Reads, ReadsAt, RestsBeforeOpening, heard_by, heard_in, joining_span, member_readings, now_in, row_of, time_of, lag}
+use Rattle.bus_physics.proofs.AnswerOrder.{answerer}
 use Rattle.bus_physics.proofs.Scheduled.{rows_of_more}
 use Rattle.bus_physics.proofs.Now.{now_of_a_step}
 use Rattle.bus_physics.proofs.Waking.{IsAwake}
-use Rattle.bus_physics.proofs.StepCalls.{Called, Counted, IsAnswerOf, IsCall, IsMade, IsQuietAt, IsSpaced, Open, Since, calls_of_a_step, ids_to}
+use Rattle.bus_physics.proofs.StepCalls.{Behind, Called, Counted, IsAnswerOf, IsCall, IsMade, IsQuietAt, IsSpaced, Open, Since, calls_of_a_step, ids_to}
 use Rattle.bus_physics.proofs.LawfulRows.{rows_joined}
 
 one_up : (a b : AllocatorState) → Up a ≡ Up b → a ≡ b
 one_up a b e = cc (e)
+
+-- behind a call under one transfer ID so many were made, at most 30: the last one has neither that ID nor the one before
+apart_ids : (last first more : ℕ) → more < 30 → (last + 1) % 32 ≡ (first + 1 + (more + 1)) % 32 → last < 32 → first < 32 → last ≡ first → ⊥
+apart_ids last first more few next small small_too same = absurd (omega (arith, few, next, small, small_too, same))
+
+apart_next : (last first more : ℕ) → more < 30 → (last + 1) % 32 ≡ (first + 1 + (more + 1)) % 32 → last < 32 → first < 32 → (last + 1) % 32 ≡ first → ⊥
+apart_next last first more few next small small_too same = absurd (omega (arith, few, next, small, small_too, same))
 
 module _ (append : Bool) (p width : ℕ) (P : ℕ → ℕ → Memory → Times → ℕ → Type 0) (is : IsSpaced append p width P) (small : p < 128) (n : ℕ) where
   -- ---- whether an event is an answer to them
@@ -113,6 +122,20 @@ module _ (append : Bool) (p width : ℕ) (P : ℕ → ℕ → Memory → Times �
     pub what : x.offer.what ≡ carrier append
     pub to : x.offer.to ≡ p
 
+  -- a response to the call was made, under its transfer ID
+  pub record IsResponded (made : List SentTransfer) (call : SentTransfer) : Type 0 where
+    pub response : SentTransfer
+    pub was_made : In response made
+    pub by : response.by ≡ p
+    pub what : response.offer.what ≡ answerer append
+    pub to : response.offer.to ≡ n
+    pub re : response.offer.re ≡ call.step
+    pub id : response.offer.id ≡ call.offer.id
+
+  -- no call was made later
+  abbrev pub IsLast : List SentTransfer → SentTransfer → Type 0
+  IsLast made call = (x : SentTransfer) → In x made → IsCallTo x → x.step ≤ call.step
+
   -- none was made later than one to which an answer was heard
   pub record IsHeard (made : List SentTransfer) (heard : List Queued) (step : ℕ) : Type 0 where
     pub later : SentTransfer
@@ -121,7 +144,23 @@ module _ (append : Bool) (p width : ℕ) (P : ℕ → ℕ → Memory → Times �
     pub came : In answer heard
     pub response : (x : SentTransfer) → IsCallTo x → IsResponseOf (number_of x.offer.what) x.offer.to x.by answer
     pub answers : answer.mark.re ≡ later.step
-    pub last : (x : SentTransfer) → In x made → IsCallTo x → x.step ≤ later.step
+    pub last : IsLast made later
+    pub call : IsCallTo later
+    pub responded : IsResponded made later
+
+  -- one behind it was answered, under a transfer ID that is neither its own nor the one before; of its step that is so
+  pub record IsParting (made : List SentTransfer) (heard : List Queued) (first : SentTransfer) (Before : ℕ → Type 0) : Type 0 where
+    pub later : SentTransfer
+    pub was_made : In later made
+    pub after : first.step < later.step
+    pub answer : Queued
+    pub came : In answer heard
+    pub answered : IsResponseOf (number_of first.offer.what) first.offer.to first.by answer
+    pub answers : answer.mark.re ≡ later.step
+    pub responded : IsResponded made later
+    pub other : nat_eq later.offer.id first.offer.id ≡ false
+    pub not_before : nat_eq (next_id later.offer.id) first.offer.id ≡ false
+    pub before : Before later.step
 
   module _ (limits : Limits) (all : List Timed) where
     -- a call was made later
@@ -135,10 +174,18 @@ module _ (append : Bool) (p width : ℕ) (P : ℕ → ℕ → Memory → Times �
       pub more : ℕ
       pub since : Since append p P x.offer.id moment more t.raft_server.memory t.times t.ids t.now
       pub followed : 1 ≤ more → IsFollowed made x
+      pub last : (z : SentTransfer) → In z made → IsCallTo z → x.step < z.step → IsLast made z → slice_index (ids_to append t.ids) p ≡ (z.offer.id + 1) % 32
+
+    -- one behind it was answered at last, and so much time has passed
+    pub record WaitedLong (made : List SentTransfer) (heard : List Queued) (past : List Reading) (t : AllocatorState) (x : SentTransfer) : Type 0 where
+      pub answered : IsAnsweredSince made heard x
+      pub moment : ℕ
+      pub reading : In (record { at = time_of all x.step; now = moment; opens = false }) past
+      pub passed : moment + 18000 ≤ t.now
 
     -- one behind it was answered, or it is long ago, or the member rested since, before it was opened at this time
     abbrev pub IsSettledNow : List SentTransfer → List Queued → SentTransfer → Type 0
-    IsSettledNow made heard x = IsAnsweredSince made heard x ⊎ (time_of all x.step < limits.since)
+    IsSettledNow made heard x = IsParting made heard x (λ s. ⊤) ⊎ (time_of all x.step < limits.since)
 
     abbrev pub IsEnded : List SentTransfer → List Queued → ℕ → SentTransfer → Type 0
     IsEnded made heard at x = IsSettledNow made heard x ⊎ (time_of all x.step + limits.rest ≤ at)
@@ -151,13 +198,19 @@ module _ (append : Bool) (p width : ℕ) (P : ℕ → ℕ → Memory → Times �
       pub opens : opening.opens ≡ true
       pub reading : In opening past
       pub awake : IsAwake opening.now t.raft_server.memory t.times t.now
-      pub each : (x : SentTransfer) → In x made → IsCallTo x → IsEnded made heard opening.at x ⊎ Waits made past t x
+      pub each : (x : SentTransfer) → In x made → IsCallTo x → IsEnded made heard opening.at x ⊎ (WaitedLong made heard past t x ⊎ Waits made past t x)
 
     abbrev pub RunsWhereUp : List SentTransfer → List Queued → List Reading → MemberStatus → Type 0
     RunsWhereUp made heard past status = (t : AllocatorState) → status ≡ Up t → Runs made heard past t
 
+    -- frames of one are held no more when the other is made, nor are their answers; and they are not put together
+    abbrev pub AreFar : ℕ → ℕ → Type 0
+    AreFar first second = (first + 2 * limits.hold < second) × (first + joining_span limits (lag limits) < second)
+
     abbrev pub IsSettled : List SentTransfer → List Queued → SentTransfer → SentTransfer → Type 0
-    IsSettled made heard x y = (time_of all x.step + 2 * limits.hold < time_of all y.step) ⊎ IsSettledNow made heard x
+    IsSettled made heard x y = AreFar (time_of all x.step) (time_of all y.step)
+        ⊎ ((IsAnsweredSince made heard x × (time_of all x.step + joining_span limits (lag limits) < time_of all y.step))
+        ⊎ (IsParting made heard x (λ s. s < y.step) ⊎ (time_of all x.step < limits.since)))
 
     abbrev pub AreSettled : List SentTransfer → List Queued → Type 0
     AreSettled made heard = (x y : SentTransfer) → In x made → In y made → IsCallTo x → IsCallTo y → x.offer.id ≡ y.offer.id → x.step < y.step
@@ -176,15 +229,43 @@ module _ (append : Bool) (p width : ℕ) (P : ℕ → ℕ → Memory → Times �
       answers = a.answers;
     }
 
+    parting_more : (made more : List SentTransfer) (heard further : List Queued) → ((x : SentTransfer) → In x made → In x more)
+        → ((f : Queued) → In f heard → In f further) → (x : SentTransfer) (Before Then : ℕ → Type 0)
+        → ((z : SentTransfer) → In z made → Before z.step → Then z.step) → IsParting made heard x Before → IsParting more further x Then
+    parting_more made more heard further grows hears x Before Then so a = record {
+      later = a.later;
+      was_made = grows a.later a.was_made;
+      after = a.after;
+      answer = a.answer;
+      came = hears a.answer a.came;
+      answered = a.answered;
+      answers = a.answers;
+      responded = record {
+        response = a.responded.response;
+        was_made = grows a.responded.response a.responded.was_made;
+        by = a.responded.by;
+        what = a.responded.what;
+        to = a.responded.to;
+        re = a.responded.re;
+        id = a.responded.id;
+      };
+      other = a.other;
+      not_before = a.not_before;
+      before = so a.later a.was_made a.before;
+    }
+
     settled_now_more : (made more : List SentTransfer) (heard further : List Queued) → ((x : SentTransfer) → In x made → In x more)
         → ((f : Queued) → In f heard → In f further) → (x : SentTransfer) → IsSettledNow made heard x → IsSettledNow more further x
-    settled_now_more made more heard further grows hears x (inl a) = inl (answered_more made more heard further grows hears x a)
+    settled_now_more made more heard further grows hears x (inl a) = inl (parting_more made more heard further grows hears x (λ s. ⊤) (λ s. ⊤) (λ z i k. k) a)
     settled_now_more made more heard further grows hears x (inr old) = inr old
 
     settled_more : (made more : List SentTransfer) (heard further : List Queued) → ((x : SentTransfer) → In x made → In x more)
         → ((f : Queued) → In f heard → In f further) → (x y : SentTransfer) → IsSettled made heard x y → IsSettled more further x y
     settled_more made more heard further grows hears x y (inl far) = inl far
-    settled_more made more heard further grows hears x y (inr a) = inr (settled_now_more made more heard further grows hears x a)
+    settled_more made more heard further grows hears x y (inr (inl late)) = inr (inl (answered_more made more heard further grows hears x late.0, late.1))
+    settled_more made more heard further grows hears x y (inr (inr (inl parted))) =
+        inr (inr (inl (parting_more made more heard further grows hears x (λ s. s < y.step) (λ s. s < y.step) (λ z i k. k) parted)))
+    settled_more made more heard further grows hears x y (inr (inr (inr old))) = inr (inr (inr old))
 
     followed_more : (made more : List SentTransfer) → ((x : SentTransfer) → In x made → In x more) → (x : SentTransfer) → IsFollowed made x → IsFollowed more x
     followed_more made more grows x f = (f.0, grows f.0 f.1, f.2, f.3)
@@ -205,7 +286,7 @@ module _ (append : Bool) (p width : ℕ) (P : ℕ → ℕ → Memory → Times �
 
     module _ (short : HoldsAreShort limits) (wide : 20000 ≤ width) (made : List SentTransfer) (heard further : List Queued)
         (hears : (f : Queued) → In f heard → In f further) (past : List Reading) (rows came : ℕ) (its_time : time_of all (rows + 1) ≡ came)
-        (earlier : (x : SentTransfer) → In x made → x.step ≤ rows) (t : AllocatorState) (runs : Runs made heard past t)
+        (earlier : (x : SentTransfer) → In x made → x.step ≤ rows) (small_ids : (x : SentTransfer) → In x made → x.offer.id < 32) (t : AllocatorState) (runs : Runs made heard past t)
         (settled : AreSettled made heard) (event : Event)
         (slow : IsNotFast limits past came (max t.now (moment_of event)))
         (heard_it : Answers event (begin_phase (rows + 1) (moment_of event) t).allocator → IsHeard made further (rows + 1)) where
@@ -267,6 +348,9 @@ module _ (append : Bool) (p width : ℕ) (P : ℕ → ℕ → Memory → Times �
       now_is : g.allocator.now ≡ max t.now (moment_of event)
       now_is = now_of_a_step t number event
 
+      now_later : t.now ≤ g.allocator.now
+      now_later = subst (λ (m : ℕ). t.now ≤ m) (sym now_is) (grind arith)
+
       -- a call of this step follows each earlier one
       follows : (x : SentTransfer) → In x made → IsMade append p width P is number runs.opening.now Past g.offers → IsFollowed more x
       follows x i is_made = (
@@ -278,13 +362,58 @@ module _ (append : Bool) (p width : ℕ) (P : ℕ → ℕ → Memory → Times �
 
       -- an answer that is heard ends what waited, but for the last call
       decided : (x : SentTransfer) → In x made → IsCallTo x → (w : Waits made past t x)
-          → IsAnsweredSince more further x ⊎ (Answers event begun.allocator → w.more ≡ 0)
+          → (IsParting made further x (λ s. ⊤) ⊎ WaitedLong made further past t x) ⊎ (Answers event begun.allocator → w.more ≡ 0)
       decided x i call w = elim (event_is event begun.allocator) [ inr silent ↦ inr (λ answers. absurd (silent answers)) | inl answers ↦ by answers w.more refl ]
         where
-          by : Answers event begun.allocator → (b : ℕ) → w.more ≡ b → IsAnsweredSince more further x ⊎ (Answers event begun.allocator → w.more ≡ 0)
+          by : Answers event begun.allocator → (b : ℕ) → w.more ≡ b
+              → (IsParting made further x (λ s. ⊤) ⊎ WaitedLong made further past t x) ⊎ (Answers event begun.allocator → w.more ≡ 0)
           by answers zero e = inr (λ a. e)
-          by answers (suc b) e =
-              inl (answered_more made more further further grows (λ f j. j) x (answered_by made further number (heard_it answers) x call (w.followed (omega (arith, e)))))
+          by answers (suc b) e = inl (elim (leb_tells 30 b) [ inr few ↦ inl (parts (omega (arith, few.1))) | inl many ↦ inr (long many.1) ])
+            where
+              h : IsHeard made further number
+              h = heard_it answers
+
+              followed : IsFollowed made x
+              followed = w.followed (omega (arith, e))
+
+              after : x.step < h.later.step
+              after = omega (arith, h.last followed.0 followed.1 followed.2, followed.3)
+
+              -- the transfer ID that comes next, behind the last call, and by how many were made
+              next : (h.later.offer.id + 1) % 32 ≡ (x.offer.id + 1 + (b + 1)) % 32
+              next = sym (w.last h.later h.was_made h.call after h.last) ∙ (w.since.next ∙ ap (λ (k : ℕ). (x.offer.id + 1 + k) % 32) (e ∙ omega arith))
+
+              differs : (m k : ℕ) → (m ≡ k → ⊥) → nat_eq m k ≡ false
+              differs m k apart = elim (eqb_tells m k) [ inl same ↦ absurd (apart same.1) | inr other ↦ other.0 ]
+
+              parts : b < 30 → IsParting made further x (λ s. ⊤)
+              parts few = record {
+                later = h.later;
+                was_made = h.was_made;
+                after = after;
+                answer = h.answer;
+                came = h.came;
+                answered = h.response x call;
+                answers = h.answers;
+                responded = h.responded;
+                other = differs h.later.offer.id x.offer.id
+                    (λ same. apart_ids h.later.offer.id x.offer.id b few next (small_ids h.later h.was_made) (small_ids x i) same);
+                not_before = differs (next_id h.later.offer.id) x.offer.id
+                    (λ same. apart_next h.later.offer.id x.offer.id b few next (small_ids h.later h.was_made) (small_ids x i) same);
+                before = tt;
+              }
+
+              went : (k : ℕ) → w.more ≡ k → Behind P w.moment k t.raft_server.memory t.times t.now → 31 ≤ k → w.moment + 18000 ≤ t.now
+              went zero e_ behind many = absurd (omega (arith, many))
+              went (suc k) e_ behind many = omega (arith, behind.1, is.passed behind.0 k t.raft_server.memory t.times t.now behind.2 (omega (arith, many)))
+
+              long : 30 ≤ b → WaitedLong made further past t x
+              long many = record {
+                answered = answered_by made further number h x call followed;
+                moment = w.moment;
+                reading = w.reading;
+                passed = went w.more refl w.since.spaced (omega (arith, many, e));
+              }
 
       past_of : (x : SentTransfer) → In x made → IsCallTo x → (w : Waits made past t x) → (Answers event begun.allocator → w.more ≡ 0)
           → Past x.offer.id w.moment w.more
@@ -309,25 +438,59 @@ module _ (append : Bool) (p width : ℕ) (P : ℕ → ℕ → Memory → Times �
             more = counted.more;
             since = counted.since;
             followed = by counted.made;
+            last = λ z j c later_ newest. by_call z c later_ newest (made_when number n g.offers made z j) counted.made;
           }
             where
               counted : Counted append p width P is number runs.opening.now Past x.offer.id w.moment w.more
                   g.allocator.raft_server.memory g.allocator.times g.allocator.ids g.allocator.now g.offers
               counted = called.past x.offer.id w.moment w.more (past_of x i call w silent)
 
+              -- what comes next is that behind the last call
+              by_call : (z : SentTransfer) → IsCallTo z → x.step < z.step → IsLast more z → In z made ⊎ IsNew number n g.offers z
+                  → (counted.more ≡ w.more) ⊎ IsMade append p width P is number runs.opening.now Past g.offers
+                  → slice_index (ids_to append g.allocator.ids) p ≡ (z.offer.id + 1) % 32
+              by_call z c later_ newest (inr new) made_ =
+                  (called.own new.offer new.offered (new_call z new c)).next ∙ omega (arith, ap (λ (y : SentTransfer). y.offer.id) new.is)
+              by_call z c later_ newest (inl j) (inl same) =
+                  counted.since.next ∙ (ap (λ (k : ℕ). (x.offer.id + 1 + k) % 32) same ∙ (sym w.since.next
+                  ∙ w.last z j c later_ (λ y l d. newest y (grows y l) d)))
+              by_call z c later_ newest (inl j) (inr is_made) = let f = follows z j is_made in absurd (omega (arith, newest f.0 f.1 f.2, f.3))
+
               by : (counted.more ≡ w.more) ⊎ IsMade append p width P is number runs.opening.now Past g.offers → 1 ≤ counted.more → IsFollowed more x
               by (inl same) some = followed_more made more grows x (w.followed (omega (arith, some, same)))
               by (inr is_made) some = follows x i is_made
 
-          old : (x : SentTransfer) → In x made → IsCallTo x → IsEnded made heard runs.opening.at x ⊎ Waits made past t x
-              → IsEnded more further runs.opening.at x ⊎ Waits more later_past g.allocator x
+          long : (x : SentTransfer) → {heard_ : List Queued} → ((f : Queued) → In f heard_ → In f further) → {made_ : List SentTransfer}
+              → ((y : SentTransfer) → In y made_ → In y more) → WaitedLong made_ heard_ past t x → WaitedLong more further later_past g.allocator x
+          long x {heard_} hears_ {made_} grows_ w = record {
+            answered = answered_more made_ more heard_ further grows_ hears_ x w.answered;
+            moment = w.moment;
+            reading = inr w.reading;
+            passed = omega (arith, w.passed, now_later);
+          }
+
+          old : (x : SentTransfer) → In x made → IsCallTo x → IsEnded made heard runs.opening.at x ⊎ (WaitedLong made heard past t x ⊎ Waits made past t x)
+              → IsEnded more further runs.opening.at x ⊎ (WaitedLong more further later_past g.allocator x ⊎ Waits more later_past g.allocator x)
           old x i call (inl (inl a)) = inl (inl (settled_now_more made more heard further grows hears x a))
           old x i call (inl (inr rested)) = inl (inr rested)
-          old x i call (inr w) = elim (decided x i call w) [ inl a ↦ inl (inl (inl a)) | inr silent ↦ inr (goes_on x i call w silent) ]
+          old x i call (inr (inl w)) = inr (inl (long x hears grows w))
+          old x i call (inr (inr w)) = elim (decided x i call w) [
+            | inl (inl a) ↦ inl (inl (inl (parting_more made more further further grows (λ f j. j) x (λ s. ⊤) (λ s. ⊤) (λ z j k. k) a)))
+            | inl (inr w_) ↦ inr (inl (long x (λ f j. j) grows w_))
+            | inr silent ↦ inr (inr (goes_on x i call w silent))
+          ]
 
-          by : (x : SentTransfer) → IsCallTo x → In x made ⊎ IsNew number n g.offers x → IsEnded more further runs.opening.at x ⊎ Waits more later_past g.allocator x
+          new_step : (z : SentTransfer) → IsNew number n g.offers z → z.step ≡ number
+          new_step z new = ap (λ (y : SentTransfer). y.step) new.is
+
+          no_later : (z : SentTransfer) → In z made ⊎ IsNew number n g.offers z → z.step ≤ number
+          no_later z (inl j) = omega (arith, earlier z j)
+          no_later z (inr new) = omega (arith, new_step z new)
+
+          by : (x : SentTransfer) → IsCallTo x → In x made ⊎ IsNew number n g.offers x
+              → IsEnded more further runs.opening.at x ⊎ (WaitedLong more further later_past g.allocator x ⊎ Waits more later_past g.allocator x)
           by x call (inl i) = old x i call (runs.each x i call)
-          by x call (inr new) = inr (record {
+          by x call (inr new) = inr (inr (record {
             moment = g.allocator.now;
             reading = inl (ap (λ (k : ℕ). record { at = time_of all k; now = g.allocator.now; opens = false }) (ap (λ (y : SentTransfer). y.step) new.is)
                 ∙ (ap (λ (k : ℕ). record { at = k; now = g.allocator.now; opens = false }) its_time ∙ ap (λ (k : ℕ). record { at = came; now = k; opens = false }) now_is));
@@ -335,25 +498,27 @@ module _ (append : Bool) (p width : ℕ) (P : ℕ → ℕ → Memory → Times �
             since = subst (λ (o : Offer). Since append p P o.id g.allocator.now 0 g.allocator.raft_server.memory g.allocator.times g.allocator.ids g.allocator.now)
                 (ap (λ (y : SentTransfer). y.offer) (sym new.is)) (called.own new.offer new.offered (new_call x new call));
             followed = λ some. absurd (omega (arith, some));
-          })
+            last = λ z j c later_. absurd (omega (arith, later_, new_step x new, no_later z (made_when number n g.offers made z j)));
+          }))
 
       pub settled_then : AreSettled more further
-      settled_then x y i j call called_too id less = by (made_when number n g.offers made x i) (made_when number n g.offers made y j) where
+      settled_then x y i j called_first called_too id less = by (made_when number n g.offers made x i) (made_when number n g.offers made y j) where
         step_of : (z : SentTransfer) → IsNew number n g.offers z → z.step ≡ number
         step_of z new = ap (λ (y : SentTransfer). y.step) new.is
 
         -- so much went by on the member's clock, and so on a true one
-        far : (w : Waits made past t x) → w.moment + width ≤ g.allocator.now → limits.since ≤ time_of all x.step → time_of all x.step + 2 * limits.hold < came
-        far w passed recent = elim (leb_tells came (time_of all x.step + 60000)) [
-          | inr long ↦ omega (arith, long.1, short.round)
-          | inl soon ↦ omega (arith, slow (record { at = time_of all x.step; now = w.moment; opens = false }) w.reading recent soon.1, passed, now_is, short.round, wide)
+        went : (moment by span : ℕ) → In (record { at = time_of all x.step; now = moment; opens = false }) past → moment + by ≤ g.allocator.now
+            → span + lag limits < by → by ≤ 60000 → limits.since ≤ time_of all x.step → time_of all x.step + span < came
+        went moment by span reading passed enough minute recent = elim (leb_tells came (time_of all x.step + 60000)) [
+          | inr long ↦ omega (arith, long.1, enough, minute)
+          | inl soon ↦ omega (arith, slow (record { at = time_of all x.step; now = moment; opens = false }) reading recent soon.1, passed, now_is, enough)
         ]
 
         -- it rested before it was opened, and 2,000 ms have passed since
-        far_after_rest : time_of all x.step + limits.rest ≤ runs.opening.at → runs.opening.now + 2000 ≤ g.allocator.now → limits.since ≤ time_of all x.step
-            → time_of all x.step + 2 * limits.hold < came
-        far_after_rest rested passed recent = elim (leb_tells came (runs.opening.at + 60000)) [
-          | inr long ↦ omega (arith, long.1, rested, short.rested)
+        rested_for : (span : ℕ) → span + limits.drift < limits.rest + 2000 → time_of all x.step + limits.rest ≤ runs.opening.at → runs.opening.now + 2000 ≤ g.allocator.now
+            → limits.since ≤ time_of all x.step → time_of all x.step + span < came
+        rested_for span enough rested passed recent = elim (leb_tells came (runs.opening.at + 60000)) [
+          | inr long ↦ omega (arith, long.1, rested, enough)
           | inl soon ↦ omega (
             arith,
             slow runs.opening runs.reading (omega (arith, recent, rested)) soon.1,
@@ -361,37 +526,86 @@ module _ (append : Bool) (p width : ℕ) (P : ℕ → ℕ → Memory → Times �
             passed,
             now_is,
             rested,
-            short.rested,
+            enough,
             short.clock,
           )
         ]
 
-        -- or it is long ago
-        at_step : IsNew number n g.offers y → (limits.since ≤ time_of all x.step → time_of all x.step + 2 * limits.hold < came) → IsSettled more further x y
-        at_step new passed = elim (leb_tells limits.since (time_of all x.step)) [
-          | inl recent ↦ inl (subst (λ (m : ℕ). time_of all x.step + 2 * limits.hold < m) (sym its_time ∙ ap (time_of all) (sym (step_of y new))) (passed recent.1))
-          | inr old ↦ inr (inr (omega (arith, old.1)))
-        ]
+        -- at the time of the step, or it is long ago
+        at_time : IsNew number n g.offers y → (Q : ℕ → Type 0) → Q came → Q (time_of all y.step)
+        at_time new Q q = subst Q (sym its_time ∙ ap (time_of all) (sym (step_of y new))) q
 
-        old : In x made → IsNew number n g.offers y → IsEnded made heard runs.opening.at x ⊎ Waits made past t x → IsSettled more further x y
-        old k new (inl (inl a)) = inr (settled_now_more made more heard further grows hears x a)
-        old k new (inl (inr rested)) = at_step new (far_after_rest rested (called.over new.offer new.offered (new_call y new called_too)))
-        old k new (inr w) = elim (decided x k call w) [
-          | inl a ↦ inr (inl a)
-          | inr silent ↦ at_step new (far w (called.far x.offer.id w.moment w.more (past_of x k call w silent)
-              new.offer new.offered (new_call y new called_too) (ap (λ (z : SentTransfer). z.offer.id) (sym new.is) ∙ sym id)))
+        by_recency : (limits.since ≤ time_of all x.step → IsSettled more further x y) → IsSettled more further x y
+        by_recency settle = elim (leb_tells limits.since (time_of all x.step)) [ inl recent ↦ settle recent.1 | inr long_ago ↦ inr (inr (inr (omega (arith, long_ago.1)))) ]
+
+        joins : joining_span limits (lag limits) + lag limits < 18000
+        joins = omega (arith, short.round, short.clock)
+
+        waited : IsNew number n g.offers y → WaitedLong more further past t x → IsSettled more further x y
+        waited new w = by_recency (λ recent. inr (inl (
+          w.answered,
+          at_time new (λ (m : ℕ). time_of all x.step + joining_span limits (lag limits) < m)
+              (went w.moment 18000 (joining_span limits (lag limits)) w.reading (omega (arith, w.passed, now_later)) joins (omega arith) recent),
+        )))
+
+        parted : IsNew number n g.offers y → {heard_ : List Queued} → ((f : Queued) → In f heard_ → In f further) → IsParting made heard_ x (λ s. ⊤) → IsSettled more further x y
+        parted new {heard_} hears_ a = inr (inr (inl (parting_more made more heard_ further grows hears_ x (λ s. ⊤) (λ s. s < y.step)
+            (λ z j k. omega (arith, earlier z j, step_of y new)) a)))
+
+        ended : (k : In x made) → (new : IsNew number n g.offers y) → IsEnded made heard runs.opening.at x → IsSettled more further x y
+        ended k new (inl (inl a)) = parted new hears a
+        ended k new (inl (inr long_ago)) = inr (inr (inr long_ago))
+        ended k new (inr rested) = by_recency (λ recent. inl (
+          at_time new (λ (m : ℕ). time_of all x.step + 2 * limits.hold < m) (rested_for (2 * limits.hold) (omega (arith, short.rested)) rested over recent),
+          at_time new (λ (m : ℕ). time_of all x.step + joining_span limits (lag limits) < m)
+              (rested_for (joining_span limits (lag limits)) (omega (arith, short.joined)) rested over recent),
+        ))
+          where
+            over : runs.opening.now + 2000 ≤ g.allocator.now
+            over = called.over new.offer new.offered (new_call y new called_too)
+
+        silent_still : (k : In x made) (new : IsNew number n g.offers y) (w : Waits made past t x) → (Answers event begun.allocator → w.more ≡ 0) → IsSettled more further x y
+        silent_still k new w silent = by_recency (λ recent. inl (
+          at_time new (λ (m : ℕ). time_of all x.step + 2 * limits.hold < m)
+              (went w.moment 20000 (2 * limits.hold) w.reading (omega (arith, passed, wide)) (omega (arith, short.round)) (omega arith) recent),
+          at_time new (λ (m : ℕ). time_of all x.step + joining_span limits (lag limits) < m)
+              (went w.moment 18000 (joining_span limits (lag limits)) w.reading (omega (arith, passed, wide)) joins (omega arith) recent),
+        ))
+          where
+            passed : w.moment + width ≤ g.allocator.now
+            passed = called.far x.offer.id w.moment w.more (past_of x k called_first w silent)
+                new.offer new.offered (new_call y new called_too) (ap (λ (z : SentTransfer). z.offer.id) (sym new.is) ∙ sym id)
+
+        old : In x made → IsNew number n g.offers y → IsEnded made heard runs.opening.at x ⊎ (WaitedLong made heard past t x ⊎ Waits made past t x) → IsSettled more further x y
+        old k new (inl over) = ended k new over
+        old k new (inr (inl w)) = waited new (record {
+          answered = answered_more made more heard further grows hears x w.answered;
+          moment = w.moment;
+          reading = w.reading;
+          passed = w.passed;
+        })
+        old k new (inr (inr w)) = elim (decided x k called_first w) [
+          | inl (inl a) ↦ parted new (λ f j. j) a
+          | inl (inr w_) ↦ waited new (record {
+            answered = answered_more made more further further grows (λ f j. j) x w_.answered;
+            moment = w_.moment;
+            reading = w_.reading;
+            passed = w_.passed;
+          })
+          | inr silent ↦ silent_still k new w silent
         ]
 
         by : In x made ⊎ IsNew number n g.offers x → In y made ⊎ IsNew number n g.offers y → IsSettled more further x y
-        by (inl k) (inl l) = settled_more made more heard further grows hears x y (settled x y k l call called_too id less)
-        by (inl k) (inr new) = old k new (runs.each x k call)
+        by (inl k) (inl l) = settled_more made more heard further grows hears x y (settled x y k l called_first called_too id less)
+        by (inl k) (inr new) = old k new (runs.each x k called_first)
         by (inr new) (inl l) = absurd (omega (arith, less, step_of x new, earlier y l))
         by (inr new) (inr other) = absurd (omega (arith, less, step_of x new, step_of y other))
 
     -- ---- any row
 
     module _ (w : Cluster) (made : List SentTransfer) (heard : List Queued) (past : List Reading) (came : ℕ) (its_time : time_of all (w.rows + 1) ≡ came)
-        (earlier : (x : SentTransfer) → In x made → x.step ≤ w.rows) (rests : RestsBeforeOpening limits all made n)
+        (earlier : (x : SentTransfer) → In x made → x.step ≤ w.rows) (small_ids : (x : SentTransfer) → In x made → x.offer.id < 32)
+        (rests : RestsBeforeOpening limits all made n)
         (runs : RunsWhereUp made heard past (w.member n).status) (settled : AreSettled made heard) where
       pub record Next (more : List SentTransfer) (further : List Queued) (past_then : List Reading) (status : MemberStatus) : Type 0 where
         pub running : RunsWhereUp more further past_then status
@@ -413,16 +627,24 @@ module _ (append : Bool) (p width : ℕ) (P : ℕ → ℕ → Memory → Times �
           each = λ x i c. by x (r.each x (only x i c) c);
         }
           where
-            by : (x : SentTransfer) → IsEnded made heard r.opening.at x ⊎ Waits made past t x → IsEnded more further r.opening.at x ⊎ Waits more past t x
+            by : (x : SentTransfer) → IsEnded made heard r.opening.at x ⊎ (WaitedLong made heard past t x ⊎ Waits made past t x)
+                → IsEnded more further r.opening.at x ⊎ (WaitedLong more further past t x ⊎ Waits more past t x)
             by x (inl (inl a)) = inl (inl (settled_now_more made more heard further grows hears x a))
             by x (inl (inr rested)) = inl (inr rested)
-            by x (inr v) = inr (record {
+            by x (inr (inl v)) = inr (inl (record {
+              answered = answered_more made more heard further grows hears x v.answered;
+              moment = v.moment;
+              reading = v.reading;
+              passed = v.passed;
+            }))
+            by x (inr (inr v)) = inr (inr (record {
               moment = v.moment;
               reading = v.reading;
               more = v.more;
               since = v.since;
               followed = λ some. followed_more made more grows x (v.followed some);
-            })
+              last = λ z j c later newest. v.last z (only z j c) c later (λ y l d. newest y (grows y l) d);
+            }))
 
         -- its status stays
         still : (status : MemberStatus) → ((u : AllocatorState) → status ≡ Up u → (w.member n).status ≡ Up u) → Next more further past status
@@ -536,8 +758,8 @@ module _ (append : Bool) (p width : ℕ) (P : ℕ → ℕ → Memory → Times �
               else after_cut_off (w.member n) (w.rows + 1) t g (puts_on (puts_of (w.member n) g) (w.member n).disk)).status
           by true = record {
             running = λ u up. subst (λ (v : AllocatorState). Runs (transfers_of_offers (w.rows + 1) n g.offers made) further reads v) (one_up g.allocator u up)
-                (runs_then short wide made heard further hears past w.rows came its_time earlier t (runs t is_it) settled event slow (answered t refl));
-            apart = settled_then short wide made heard further hears past w.rows came its_time earlier t (runs t is_it) settled event slow (answered t refl);
+                (runs_then short wide made heard further hears past w.rows came its_time earlier small_ids t (runs t is_it) settled event slow (answered t refl));
+            apart = settled_then short wide made heard further hears past w.rows came its_time earlier small_ids t (runs t is_it) settled event slow (answered t refl);
           }
           by false = record {
             running = λ u up. absurd (cut u (puts_on (puts_of (w.member n) g) (w.member n).disk).calls.stopped _ (λ v f. absurd (cc (f))) up);
@@ -607,16 +829,18 @@ module _ (append : Bool) (p width : ℕ) (P : ℕ → ℕ → Memory → Times �
                   each = λ x i c. popped r.opening.at x (r.each x i c);
                 })
               where
-                popped : (at : ℕ) (x : SentTransfer) → IsEnded made (heard ++ []) at x ⊎ Waits made past t x
-                    → IsEnded made (heard ++ []) at x ⊎ Waits made past (after_pop t) x
+                popped : (at : ℕ) (x : SentTransfer) → IsEnded made (heard ++ []) at x ⊎ (WaitedLong made (heard ++ []) past t x ⊎ Waits made past t x)
+                    → IsEnded made (heard ++ []) at x ⊎ (WaitedLong made (heard ++ []) past (after_pop t) x ⊎ Waits made past (after_pop t) x)
                 popped at x (inl e) = inl e
-                popped at x (inr v) = inr (record {
+                popped at x (inr (inl v)) = inr (inl (record { answered = v.answered; moment = v.moment; reading = v.reading; passed = v.passed }))
+                popped at x (inr (inr v)) = inr (inr (record {
                   moment = v.moment;
                   reading = v.reading;
                   more = v.more;
                   since = record { spaced = v.since.spaced; next = v.since.next };
                   followed = v.followed;
-                })
+                  last = v.last;
+                }))
 
         crash_row : (m calls : ℕ) (pattern : Pattern) (same : Bool) → (n == m) ≡ same
             → Next made (heard ++ []) past (if same then after_crash calls pattern (w.member m) else w.member n).status
@@ -654,6 +878,7 @@ module _ (append : Bool) (p width : ℕ) (P : ℕ → ℕ → Memory → Times �
     -- what is known of the world of lawful rows, and the row after them
     pub record Known (w : Cluster) (made : List SentTransfer) : Type 0 where
       pub earlier : (x : SentTransfer) → In x made → x.step ≤ w.rows
+      pub small_ids : (x : SentTransfer) → In x made → x.offer.id < 32
       pub answered : (row : Row) → cause w row ≡ None → (heard : List Queued) (k ms : ℕ) → row ≡ Rx n k ms → (t : AllocatorState) → (w.member n).status ≡ Up t
           → Answers (receipt_of w k ms) (begin_phase (w.rows + 1) ms t).allocator → IsHeard made (heard ++ heard_in n w row) (w.rows + 1)
 
@@ -745,7 +970,7 @@ module _ (append : Bool) (p width : ℕ) (P : ℕ → ℕ → Memory → Times �
           rests_here : RestsBeforeOpening limits all made n
           rests_here x number told ms word i = rests x number told ms word (sent_by_rows (rows_in (t ∷ rest)) w made x i)
 
-          next : Next w made heard past t.at (ap (λ (x : Timed). x.at) itself) here.earlier rests_here runs settled (transfers_of_row w t.row made) (heard ++ heard_in n w t.row)
+          next : Next w made heard past t.at (ap (λ (x : Timed). x.at) itself) here.earlier here.small_ids rests_here runs settled (transfers_of_row w t.row made) (heard ++ heard_in n w t.row)
               (member_readings n past w t.at t.row) ((after_row w t.row).member n).status
-          next = next_row w made heard past t.at (ap (λ (x : Timed). x.at) itself) here.earlier rests_here runs settled short wide t.row (ap (λ (x : Timed). x.row) itself) slow.0
+          next = next_row w made heard past t.at (ap (λ (x : Timed). x.at) itself) here.earlier here.small_ids rests_here runs settled short wide t.row (ap (λ (x : Timed). x.row) itself) slow.0
               (λ k ms e u up a. here.answered t.row lawful.0 heard k ms e u up a)

@@ -21,6 +21,10 @@ use Rattle.bus_physics.proofs.StepCalls.{Counts, IsOwnCall, IsReason, IsSpaced}
 abbrev pub least : ℕ → ℕ
 least b = 2000 * (b / 3) + 1000 * (b % 3)
 
+-- thirty calls are those of ten elections
+thirty : (b : ℕ) → 30 ≤ b → 20000 ≤ least b
+thirty b many = omega (arith, many)
+
 -- a call more takes 1,000 ms at the most
 one_by_one : (e k : ℕ) → least (e + k) ≤ least e + 1000 * k
 one_by_one e k = omega arith
@@ -364,6 +368,7 @@ spaced_votes p = record {
   calls = calls;
   begins = begins;
   far = far;
+  passed = λ M b m times now o many. omega (arith, o.low, thirty b many);
 }
   where
     calls : (M b : ℕ) (server : RaftServer) (times : Times) (now : ℕ) → Asked p M b server.memory times now → (members : List ℕ) (me number : ℕ)

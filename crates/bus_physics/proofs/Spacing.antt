@@ -374,6 +374,7 @@ spaced_appends p = record {
   calls = calls;
   begins = begins;
   far = far;
+  passed = λ M b m times now o many. omega (arith, o.low, many);
 }
   where
     calls : (M b : ℕ) (server : RaftServer) (times : Times) (now : ℕ) → Open p M b server.memory times now → (members : List ℕ) (me number : ℕ)

@@ -89,7 +89,7 @@ IsOwnCall false p m (CallForVote q) = (m.role ≡ Candidate) × (m.pending q ≡
 IsOwnCall append p m move = ⊥
 
 -- So far apart are calls: P says that since a call at moment M so many more were made, and none was answered. Where they
--- are 30 or more, and another one is made, so much time has passed.
+-- are 30 or more, and another one is made, so much time has passed; and 18 s where none is made.
 pub record IsSpaced (append : Bool) (p width : ℕ) (P : ℕ → ℕ → Memory → Times → ℕ → Type 0) : Type 0 where
   pub later : (M b : ℕ) (m : Memory) (times : Times) (now then_ : ℕ) → now ≤ then_ → P M b m times now → P M b m times then_
   pub moves : (M b : ℕ) (server : RaftServer) (times : Times) (now : ℕ) → P M b server.memory times now → (members : List ℕ) (me number : ℕ)
@@ -102,6 +102,7 @@ pub record IsSpaced (append : Bool) (p width : ℕ) (P : ℕ → ℕ → Memory 
       (given : HandedIn) → given.now ≡ now → (move : Move) → IsOwnCall append p server.memory move
       → P now 0 (memory_after members me number server move) (times_after members me given server move times) now
   pub far : (M b : ℕ) (m : Memory) (times : Times) (now : ℕ) → P M b m times now → (move : Move) → IsOwnCall append p m move → 30 ≤ b → M + width ≤ now
+  pub passed : (M b : ℕ) (m : Memory) (times : Times) (now : ℕ) → P M b m times now → 30 ≤ b → M + 18000 ≤ now
 
 -- ---- of these moves a member stands for election only after the least wait, and a follower makes no call
 

@@ -22,12 +22,14 @@ use Rattle.bus_agreement.proofs.Concatenations.{ids_stay}
 use Rattle.bus_agreement.proofs.Lists.{never}
 use Rattle.bus_agreement.proofs.OneRow.{stands}
 use Rattle.bus_rows.specs.Timed.{Timed}
-use Rattle.bus_physics.specs.Physics.{AllComeInOrder, AnswersInOrder, ComesInOrder, IsRecent, IsResponseOf, Limits, heard_by}
-use Rattle.bus_physics.proofs.AnswerOrder.{Known, along, answerer, has_asked}
-use Rattle.bus_physics.proofs.AnswersHeard.{heard_on_bus, in_order, of_answer}
+use Rattle.bus_physics.specs.Physics.{AllComeInOrder, AnswersInOrder, ComeInOrder, ComesInOrder, IsRecent, IsResponseOf, Limits, heard_by}
+use Rattle.bus_physics.proofs.AnswerOrder.{AreOrdered, Known, along, answerer, has_asked, has_begun}
+use Rattle.bus_physics.proofs.AnswersHeard.{in_order, of_answer}
+use Rattle.bus_physics.proofs.HeardOnBus.{heard_on_bus}
+use Rattle.bus_physics.proofs.Members.{MemberLaws}
 use Rattle.bus_physics.proofs.Single.{IsShown}
 
-module _ (laws : FrameLaws) (answers : (t : AllocatorState) (number : ℕ) (event : Event) → ResponsesAnswer t number event)
+module _ (laws : FrameLaws) (steps : MemberLaws) (answers : (t : AllocatorState) (number : ℕ) (event : Event) → ResponsesAnswer t number event)
     (limits : Limits) (rows_at : List Timed) (ids : List ℕ) (members : AreMembers ids)
     (shown : (rows : List Row) → AreLawful (cluster ids) rows → IsShown ids rows) where
   its_members : (rows : List Row) → AreMembers (world_of ids rows).ids
@@ -40,7 +42,16 @@ module _ (laws : FrameLaws) (answers : (t : AllocatorState) (number : ℕ) (even
       asks = λ row taken k ms e t up offer i what to re f. has_asked limits rows_at append source n laws (shown rows lawful).choice (transfers_of_rows (cluster ids) rows []) (world_of ids rows)
           (shown rows lawful).run (its_members rows) (shown rows lawful).shows (λ t event. answers t ((world_of ids rows).rows + 1) event) k ms
           (ap (cause (world_of ids rows)) (sym e) ∙ taken) t up offer i what to re f;
+      begins = λ row taken k ms e t up offer i what to heard on_bus kept re id f g. has_begun limits rows_at append source n laws (shown rows lawful).choice
+          (transfers_of_rows (cluster ids) rows []) (world_of ids rows)
+          (shown rows lawful).run (its_members rows) (shown rows lawful).shows (λ t event. answers t ((world_of ids rows).rows + 1) event) k ms
+          (ap (cause (world_of ids rows)) (sym e) ∙ taken) t up offer i what to heard on_bus kept re id f g;
     }
+
+    pub ordered : (rows : List Row) → AreLawful (cluster ids) rows → ComeInOrder limits rows_at source [] (cluster ids) rows
+        → AreOrdered limits rows_at append source n (transfers_of_rows (cluster ids) rows []) (heard_by source (cluster ids) rows)
+    ordered rows lawful order = along limits rows_at append source n steps answers ids known rows [] (cluster ids) [] [] refl refl tt lawful order
+        (λ f i. absurd i) (λ t up. absurd (cc (up))) (record { asked = λ x i. absurd i; begun = λ x i. absurd i; order = λ x y i. absurd i })
 
     signature : (a : Bool) → (s : ℕ) × (first_signature accepted_rows Response (number_of (answerer a)) ≡ Some s)
     unfolding accepted_rows
@@ -60,8 +71,7 @@ module _ (laws : FrameLaws) (answers : (t : AllocatorState) (number : ℕ) (even
         in_order limits rows_at append n laws (shown rows lawful).choice (transfers_of_rows (cluster ids) rows []) (world_of ids rows) (shown rows lawful).run (its_members rows)
         (shown rows lawful).shows (heard_by n (cluster ids) rows) (frame_at (world_of ids rows).frames k) order recent asked_lately source
         (λ f i. heard_on_bus n rows (cluster ids) lawful f i) inside (heard_by source (cluster ids) rows)
-        (along limits rows_at append source n answers ids known rows [] (cluster ids) [] [] refl refl tt lawful (orders source listed)
-        (record { asked = λ x i. absurd i; order = λ x y i. absurd i })) differs (signature append).0 (signature append).1 (service append) other came is is_too
+        (ordered rows lawful (orders source listed)) differs (signature append).0 (signature append).1 (service append) other came is is_too
       where
         inside : In (frame_at (world_of ids rows).frames k) (world_of ids rows).frames
         inside = stands (world_of ids rows) k there

@@ -43,7 +43,7 @@ use Rattle.bus_agreement.proofs.Idents.{IsWanted, to_for, wanted_is}
 use Rattle.bus_agreement.proofs.Lists.{in_append, in_back, never, tell}
 use Rattle.bus_agreement.proofs.OneRow.{stands}
 use Rattle.bus_rows.specs.Timed.{Timed}
-use Rattle.bus_physics.specs.Physics.{AreApart, ClockGoesOnAt, ComesInTime, FrameComesInTime, ComesInOrder, GoesOn, HasKeyAt, IsParted, Limits, Reading, UsesIdsApart, may_be_long, now_in, time_of, lag, IsRecent, window}
+use Rattle.bus_physics.specs.Physics.{AreApart, ClockGoesOnAt, ComesInTime, FrameComesInTime, ComesInOrder, GoesOn, HasKeyAt, IsParted, Limits, Reading, UsesIdsApart, may_be_long, now_in, time_of, lag, IsRecent, window, is_long_to_member}
 use Rattle.bus_physics.specs.Reuse.{AreOfOne, AreOfTwo, IsFrameOf, LacksFrames}
 use Rattle.bus_physics.proofs.Devices.{IsTimely, soon, IsClose}
 use Rattle.bus_physics.proofs.InTime.{AreClose, Heard, IsIdle, IsInTime, IsYoung, close_more, comes, filtered, found}
@@ -117,7 +117,7 @@ apart_not hold drift m n p q a b c d e f (inr h) = absurd (omega (arith, a, b, c
 
 module _ (laws : FrameLaws) (choice : ℕ → Bool) (made : List SentTransfer) (w : Cluster) (run : raft.World) (members : AreMembers w.ids)
     (shows : Shows choice made w run) (limits : Limits) (all : List Timed) (sane : lag limits < 58000) (now : Timed) (n k ms : ℕ)
-    (row : now.row ≡ Rx n k ms) (back : limits.since ≤ now.at - window limits) (before : MemberBefore limits all n w now) (heard : List Queued) (apart : UsesIdsApart limits all made heard n)
+    (row : now.row ≡ Rx n k ms) (back : limits.since ≤ now.at - window limits) (before : MemberBefore limits all n w now) (heard : List Queued) (apart : (what : What) → is_long_to_member what ≡ true → UsesIdsApart limits all made heard n what)
     (order : ComesInOrder limits all n heard (frame_at w.frames k)) (follows : KeepsIn limits all n heard (w.member n).status) (listed : In n w.ids)
     (others : (x : SentTransfer) → In x made → may_be_long x.offer.what ≡ false → frame_count (length x.offer.payload) ≤ 1)
     (t : AllocatorState) (runs : (w.member n).status ≡ MemberStatus.Up t) (inside : In (frame_at w.frames k) w.frames) where
@@ -293,14 +293,27 @@ module _ (laws : FrameLaws) (choice : ℕ → Bool) (made : List SentTransfer) (
             ))
       ]
 
+      taken_it : (two : AreOfTwo made d.ident coming (map (λ (h : Heard). h.arrival) hs ++ coming ∷ []))
+          → first_signature rows (kind_of two.first.offer.what) (number_of two.first.offer.what) ≡ Some wants.signature.0
+      taken_it two = ap (λ (kind : Kind). first_signature rows kind (number_of two.first.offer.what)) (two.kind ∙ ap (λ (i : Ident). i.kind) its.ident)
+          ∙ (ap (λ (number : ℕ). first_signature rows its.w.ident.kind number) (two.number ∙ ap (λ (i : Ident). i.number) its.ident) ∙ wants.signature.1)
+
+      -- and no member takes an Allocation
+      to_member : (what : What) → may_be_long what ≡ true → {s : ℕ} → first_signature rows (kind_of what) (number_of what) ≡ Some s → is_long_to_member what ≡ true
+      to_member Alloc long is = absurd (no_allocation is)
+      to_member Disc long is = never long
+      to_member Stat long is = never long
+      to_member InfoQ long is = never long
+      to_member Info long is = refl
+      to_member VoteQ long is = refl
+      to_member Vote long is = never long
+      to_member AppQ long is = refl
+      to_member App long is = never long
+
       -- so it goes to this member
       meant : (two : AreOfTwo made d.ident coming (map (λ (h : Heard). h.arrival) hs ++ coming ∷ [])) → may_be_long two.first.offer.what ≡ true
           → two.first.offer.to ≡ to_for d.ident.kind t.me → two.first.offer.to ≡ n
-      meant two long to = to ∙ (ap (λ (kind : Kind). to_for kind t.me) (sym two.kind) ∙ (by two.first.offer.what long taken_it ∙ me_is)) where
-        taken_it : first_signature rows (kind_of two.first.offer.what) (number_of two.first.offer.what) ≡ Some wants.signature.0
-        taken_it = ap (λ (kind : Kind). first_signature rows kind (number_of two.first.offer.what)) (two.kind ∙ ap (λ (i : Ident). i.kind) its.ident)
-            ∙ (ap (λ (number : ℕ). first_signature rows its.w.ident.kind number) (two.number ∙ ap (λ (i : Ident). i.number) its.ident) ∙ wants.signature.1)
-
+      meant two long to = to ∙ (ap (λ (kind : Kind). to_for kind t.me) (sym two.kind) ∙ (by two.first.offer.what long (taken_it two) ∙ me_is)) where
         by : (what : What) → may_be_long what ≡ true → {s : ℕ} → first_signature rows (kind_of what) (number_of what) ≡ Some s → to_for (kind_of what) t.me ≡ t.me
         by Alloc long is = absurd (no_allocation is)
         by Disc long is = never long
@@ -314,12 +327,12 @@ module _ (laws : FrameLaws) (choice : ℕ → Bool) (made : List SentTransfer) (
 
       of_two : (two : AreOfTwo made d.ident coming (map (λ (h : Heard). h.arrival) hs ++ coming ∷ [])) → two.first.offer.to ≡ to_for d.ident.kind t.me → ⊥
       of_two two to_it = elim (lt_trichotomy two.first.step two.second.step) [
-        | inl less ↦ elim (apart two.first two.second two.twice.first_made two.twice.second_made two.twice.by two.twice.what to (sym two.twice.to ∙ to) two.twice.id less long first_recent second_recent) [
+        | inl less ↦ elim (apart two.first.offer.what to_one two.first two.second two.twice.first_made two.twice.second_made two.twice.by refl (sym two.twice.what) to (sym two.twice.to ∙ to) two.twice.id less first_recent second_recent) [
           | inl far ↦ near far
           | inr part ↦ parted two.first two.second two.twice.first_made first_recent part pair.first pair.first_in (subst (λ (b : Arrival). IsFrameOf two.first b) (sym pair.one_is) two.of_first)
         ]
-        | inr more ↦ elim (apart two.second two.first two.twice.second_made two.twice.first_made (sym two.twice.by) (sym two.twice.what) (sym two.twice.to ∙ to) to (sym two.twice.id)
-            (below (two.twice.apart) more) (ap may_be_long (sym two.twice.what) ∙ long) second_recent first_recent) [
+        | inr more ↦ elim (apart two.first.offer.what to_one two.second two.first two.twice.second_made two.twice.first_made (sym two.twice.by) (sym two.twice.what) refl (sym two.twice.to ∙ to) to (sym two.twice.id)
+            (below (two.twice.apart) more) second_recent first_recent) [
               | inl (inl far) ↦ near (inr far)
               | inl (inr far) ↦ near (inl far)
               | inr part ↦ parted two.second two.first two.twice.second_made second_recent part pair.second pair.second_in (subst (λ (b : Arrival). IsFrameOf two.second b) (sym pair.next_is) two.of_second)
@@ -333,6 +346,9 @@ module _ (laws : FrameLaws) (choice : ℕ → Bool) (made : List SentTransfer) (
 
           to : two.first.offer.to ≡ n
           to = meant two long to_it
+
+          to_one : is_long_to_member two.first.offer.what ≡ true
+          to_one = to_member two.first.offer.what long (taken_it two)
 
           below : {a b : ℕ} → (a ≢ b) → b ≤ a → b < a
           below {a} {b} apart less = elim (eqb_tells a b) [ inl same ↦ absurd (apart same.1) | inr differ ↦ omega (arith, less, differ.1) ]
@@ -416,7 +432,7 @@ module _ (laws : FrameLaws) (choice : ℕ → Bool) (made : List SentTransfer) (
 
 pub only_gaps : (laws : FrameLaws) (choice : ℕ → Bool) (made : List SentTransfer) (w : Cluster) (run : raft.World) (members : AreMembers w.ids)
     (shows : Shows choice made w run) (limits : Limits) (all : List Timed) → lag limits < 58000 → (now : Timed) (n k ms : ℕ)
-    → now.row ≡ Rx n k ms → limits.since ≤ now.at - window limits → MemberBefore limits all n w now → (heard : List Queued) → UsesIdsApart limits all made heard n → ComesInOrder limits all n heard (frame_at w.frames k)
+    → now.row ≡ Rx n k ms → limits.since ≤ now.at - window limits → MemberBefore limits all n w now → (heard : List Queued) → ((what : What) → is_long_to_member what ≡ true → UsesIdsApart limits all made heard n what) → ComesInOrder limits all n heard (frame_at w.frames k)
     → ((x : SentTransfer) → In x made → may_be_long x.offer.what ≡ false → frame_count (length x.offer.payload) ≤ 1) → KeepsIn limits all n heard (w.member n).status → IsSingle w.ids w → cause w (Rx n k ms) ≡ Some unlawful.Torn
     → (moment : ℕ) × LacksFrames made (arrival_at (frame_at w.frames k) moment)
 only_gaps laws choice made w run members shows limits all sane now n k ms row back before heard apart order others follows single e =

@@ -118,11 +118,12 @@ vote_round = 10 * election_wait
 
 -- Two holds, the drift and a turn are over before a transfer ID of vote requests comes round. Two holds and the drift
 -- are over before a member that rested calls anybody, which no member does before its first wait for an election is
--- over: there a turn does not count, since an opening stands at its reading. The drift and a turn are less than that
--- wait.
+-- over: there a turn does not count, since an opening stands at its reading. So is the span in which a receiver may put
+-- frames together, and the drift. The drift and a turn are less than that wait.
 pub record HoldsAreShort (limits : Limits) : Type 0 where
   pub round : 2 * limits.hold + lag limits < vote_round
   pub rested : 2 * limits.hold + limits.drift < limits.rest + election_wait
+  pub joined : joining_span limits (lag limits) + limits.drift < limits.rest + election_wait
   pub clock : lag limits < election_wait
 
 -- What happened so long ago does not matter to a frame that comes now: it was made within a hold, as the answer to a
@@ -289,20 +290,24 @@ pub record IsParted (heard : List Queued) (x y : SentTransfer) : Type 0 where
   pub later : x.step < frame.mark.step
   pub sooner : frame.mark.step < y.step
 
+-- a transfer of this kind goes to one node, and may have several frames: a request of Raft, a response of GetNodeInfo
+abbrev pub is_long_to_member : What → Bool
+is_long_to_member Info = true
+is_long_to_member VoteQ = true
+is_long_to_member AppQ = true
+is_long_to_member what = false
+
 -- a transfer of this kind may have several frames; of another kind each has one
 abbrev pub may_be_long : What → Bool
 may_be_long Alloc = true
-may_be_long Info = true
-may_be_long VoteQ = true
-may_be_long AppQ = true
-may_be_long what = false
+may_be_long what = is_long_to_member what
 
--- No member uses a transfer ID again so soon for one kind of transfers to member n that may have several frames: the
--- requests of Raft, and the responses of GetNodeInfo. Or member n heard a transfer that it made between the two.
-abbrev pub UsesIdsApart : Limits → List Timed → List SentTransfer → List Queued → ℕ → Type 0
-UsesIdsApart limits all made heard n = (x y : SentTransfer) → In x made → In y made → x.by ≡ y.by
-    → x.offer.what ≡ y.offer.what → x.offer.to ≡ n → y.offer.to ≡ n → x.offer.id ≡ y.offer.id → x.step < y.step
-    → may_be_long x.offer.what ≡ true → IsRecent limits all x.step → IsRecent limits all y.step
+-- No member uses a transfer ID again so soon for transfers of this kind to member n. Or member n heard a transfer that
+-- it made between the two.
+abbrev pub UsesIdsApart : Limits → List Timed → List SentTransfer → List Queued → ℕ → What → Type 0
+UsesIdsApart limits all made heard n what = (x y : SentTransfer) → In x made → In y made → x.by ≡ y.by
+    → x.offer.what ≡ what → y.offer.what ≡ what → x.offer.to ≡ n → y.offer.to ≡ n → x.offer.id ≡ y.offer.id
+    → x.step < y.step → IsRecent limits all x.step → IsRecent limits all y.step
     → AreApart (joining_span limits (lag limits)) (time_of all x.step) (time_of all y.step) ⊎ IsParted heard x y
 
 -- ---- Allocations

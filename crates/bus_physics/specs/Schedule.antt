@@ -1,5 +1,7 @@
 -- A schedule whose rows happen at times: on a physical bus each of its rows is lawful, but where frames are lost.
 use Rattle.std.specs.Prelude.{⊤, ◌≡◌, ℕ, ◌-◌, Bool, true, false, List, [], ◌∷◌, ◌++◌, Some}
+use Rattle.can_frame.specs.declared.step.What.TheVariants.{Info}
+use Rattle.raft_model.specs.Lists.{In}
 use Rattle.bus_rows.specs.declared.row.Row.{Row}
 use Rattle.bus_rows.specs.declared.row.Row.TheVariants.{ARx, Rx}
 use Rattle.bus_spec.specs.declared.unlawful.Unlawful.{Unlawful}
@@ -23,10 +25,11 @@ pub record MemberHears (limits : Limits) (ids : List ℕ) (before : List Timed) 
   pub orders : AllComeInOrder limits (before ++ now ∷ []) ids (cluster ids) (rows_in before)
   pub order : ComesInOrder limits (before ++ now ∷ []) n (heard_by n (cluster ids) (rows_in before))
       (frame_at (world_of ids (rows_in before)).frames k)
-  pub fast : ClockIsNotFast limits n [] (cluster ids) before
-  pub rests : RestsBeforeOpening limits (before ++ now ∷ []) (transfers_of_rows (cluster ids) (rows_in before) []) n
+  pub fast : (m : ℕ) → In m ids → ClockIsNotFast limits m [] (cluster ids) before
+  pub rests : (m : ℕ) → In m ids →
+      RestsBeforeOpening limits (before ++ now ∷ []) (transfers_of_rows (cluster ids) (rows_in before) []) m
   pub apart : UsesIdsApart limits (before ++ now ∷ []) (transfers_of_rows (cluster ids) (rows_in before) [])
-      (heard_by n (cluster ids) (rows_in before)) n
+      (heard_by n (cluster ids) (rows_in before)) n Info
 
 -- allocatee a receives frame k
 pub record DeviceHears (limits : Limits) (ids : List ℕ) (before : List Timed) (now : Timed) (a k : ℕ) : Type 0 where

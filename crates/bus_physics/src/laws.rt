@@ -1,9 +1,10 @@
 //! Laws of the definitions, each the contract of a function that does nothing.
 
-ghost use Rattle.std.specs.Prelude.{None, false, ◌≡◌, ◌⊎◌, ◌+◌, ◌-◌, ◌*◌, ◌<◌, ◌≤◌, ◌∷◌, ◌++◌, ℕ, List, length, Some};
-ghost use Rattle.std.specs.Prelude.{[]};
+ghost use Rattle.std.specs.Prelude.{None, false, true, ◌≡◌, ◌⊎◌, ◌+◌, ◌-◌, ◌*◌, ◌<◌, ◌≤◌, ◌∷◌, ◌++◌, ℕ};
+ghost use Rattle.std.specs.Prelude.{[], List, length, Some};
 ghost use Rattle.can_frame.specs.Cutting.{frame_count};
-ghost use Rattle.can_frame.specs.declared.step.What.TheVariants.{Alloc};
+ghost use Rattle.can_frame.specs.declared.step.What.{What};
+ghost use Rattle.can_frame.specs.declared.step.What.TheVariants.{Alloc, AppQ, Info, VoteQ};
 ghost use Rattle.raft_model.specs.Lists.{In};
 ghost use Rattle.bus_rows.specs.declared.row.Row.{Row};
 ghost use Rattle.alloc_spec.specs.Rules.{Rules};
@@ -22,7 +23,7 @@ ghost use Rattle.bus_rows.specs.Timed.{Timed};
 ghost use Rattle.bus_physics.specs.Physics.{ClockIsNotFast, HoldsAreShort, Limits, RestsBeforeOpening, UsesIdsApart};
 ghost use Rattle.bus_physics.specs.Physics.{WaitsForAnswers, heard_by, lag, window};
 ghost use Rattle.bus_rows.specs.Timed.{rows_in};
-ghost use Rattle.bus_physics.specs.Physics.{may_be_long};
+ghost use Rattle.bus_physics.specs.Physics.{is_long_to_member, may_be_long};
 ghost use Rattle.bus_physics.specs.Example.{afterwards, at_allocatee, at_member, before as first_rows, everything};
 ghost use Rattle.bus_physics.specs.Example.{limits as some_limits, two, two_minutes_later, with_bad_minute};
 ghost use Rattle.bus_physics.specs.Reuse.{IsStaleAt, IsTornAt, IsTornAtDevice, LacksFrames};
@@ -140,6 +141,27 @@ pub fn answers_come_in_order()
     what_is_said_of_frames();
 }
 
+/// Of the transfer IDs of Raft's calls nothing is asked. Where one of the calls of a member to another comes round, so
+/// much time has passed that frames of the two are not put together, or the other member heard a call between, and not
+/// only that under the transfer ID just before. Of the 31 calls between, each that was not answered takes 1,000 ms, and
+/// whoever answered one had heard its first frame.
+pub fn calls_come_apart()
+    ensures { (limits : Limits) (ids : List ℕ) (before : List Timed) (now : Timed) (n : ℕ) (what : What) →
+        AreMembers ids → HoldsAreShort limits → AreLawful (cluster ids) (rows_in before) →
+        ((m : ℕ) → In m ids → ClockIsNotFast limits m [] (cluster ids) before) →
+        ((m : ℕ) → In m ids → RestsBeforeOpening limits (before ++ now ∷ [])
+        (transfers_of_rows (cluster ids) (rows_in before) []) m) →
+        ComeInOrder limits (before ++ now ∷ []) n [] (cluster ids) (rows_in before) → (what ≡ AppQ) ⊎ (what ≡ VoteQ) →
+        UsesIdsApart limits (before ++ now ∷ []) (transfers_of_rows (cluster ids) (rows_in before) [])
+        (heard_by n (cluster ids) (rows_in before)) n what }
+{
+    what_is_said_of_a_step();
+    what_is_said_of_frames();
+    a_choice_fits();
+    lawful_rows_do_no_harm();
+    rows_are_shown();
+}
+
 /// A member on a physical bus, whatever frames are lost, takes no response to an earlier call: where each frame comes
 /// after it was made and within the longest hold, where the member's clock goes on with the time and does not run fast,
 /// where frames come to each member in order, each once or more often, and where the member rests before it is opened.
@@ -179,8 +201,8 @@ pub fn a_member_puts_nothing_together_of_two()
         ComeInOrder limits (before ++ now ∷ []) n [] (cluster ids) (rows_in before) →
         ComesInOrder limits (before ++ now ∷ []) n (heard_by n (cluster ids) (rows_in before))
         (frame_at (world_of ids (rows_in before)).frames k) →
-        UsesIdsApart limits (before ++ now ∷ []) (transfers_of_rows (cluster ids) (rows_in before) [])
-        (heard_by n (cluster ids) (rows_in before)) n →
+        ((what : What) → is_long_to_member what ≡ true → UsesIdsApart limits (before ++ now ∷ [])
+        (transfers_of_rows (cluster ids) (rows_in before) []) (heard_by n (cluster ids) (rows_in before)) n what) →
         cause (world_of ids (rows_in before)) (Rx n k ms) ≡ Some Torn →
         (moment : ℕ) × LacksFrames (transfers_of_rows (cluster ids) (rows_in before) [])
         (arrival_at (frame_at (world_of ids (rows_in before)).frames k) moment) }
@@ -205,15 +227,16 @@ pub fn premises_can_be_met()
     ensures physical { DeviceRowsArePhysical some_limits (first_rows ++ at_allocatee ∷ []) 1 [] (cluster two)
         (first_rows ++ at_allocatee ∷ []) }
     ensures apart { UsesIdsApart some_limits (first_rows ++ at_member ∷ [])
-        (transfers_of_rows (cluster two) (rows_in first_rows) []) (heard_by 2 (cluster two) (rows_in first_rows)) 2 }
+        (transfers_of_rows (cluster two) (rows_in first_rows) []) (heard_by 2 (cluster two) (rows_in first_rows))
+        2 Info }
     ensures frames { ComeInOrder some_limits (first_rows ++ at_member ∷ []) 2 [] (cluster two)
         (rows_in (first_rows ++ at_member ∷ [])) }
     ensures short { HoldsAreShort some_limits }
-    ensures fast { ClockIsNotFast some_limits 2 [] (cluster two) first_rows }
+    ensures fast { (m : ℕ) → In m two → ClockIsNotFast some_limits m [] (cluster two) first_rows }
     ensures slow { ClockGoesOn some_limits 2 [] (cluster two) (first_rows ++ two_minutes_later 120440 ∷ []) }
     ensures quick { ClockIsNotFast some_limits 2 [] (cluster two) (first_rows ++ two_minutes_later 120560 ∷ []) }
-    ensures rests { RestsBeforeOpening some_limits (first_rows ++ at_member ∷ [])
-        (transfers_of_rows (cluster two) (rows_in first_rows) []) 2 }
+    ensures rests { (m : ℕ) → RestsBeforeOpening some_limits (first_rows ++ at_member ∷ [])
+        (transfers_of_rows (cluster two) (rows_in first_rows) []) m }
     ensures orders { AllComeInOrder some_limits everything two (cluster two) (rows_in (first_rows ++ at_member ∷ [])) }
     ensures member { cause (world_of two (rows_in first_rows)) at_member.row ≡ None }
     ensures allocatee { cause (world_of two (rows_in first_rows)) at_allocatee.row ≡ None }
@@ -228,7 +251,7 @@ pub fn premises_can_be_met()
 /// On a physical bus a schedule whose rows are otherwise lawful is lawful, whatever frames are lost: but for a row at
 /// which one transfer of four frames or more lacks frames, and its CRC fits all the same. So the two premises on what
 /// is torn and stale follow from when frames come, how clocks go on, the order of frames, how long members rest before
-/// they are opened, and when the transfer IDs of longer transfers are used again.
+/// they are opened, and when the transfer IDs of Allocations, and of responses of GetNodeInfo, are used again.
 pub fn schedules_on_a_bus_are_lawful()
     ensures { (limits : Limits) (ids : List ℕ) (all : List Timed) → AreMembers ids →
         HoldsAreShort limits → HappenOnBus limits ids [] all → LawfulButForBus (cluster ids) (rows_in all) →
@@ -248,6 +271,7 @@ pub fn a_bad_minute_is_over()
 {
     a_device_puts_nothing_together_of_two();
     a_member_puts_nothing_together_of_two();
+    calls_come_apart();
     no_response_outlives_its_transfer_id();
 }
 
@@ -269,6 +293,7 @@ pub fn traces_on_a_bus_may_happen()
 {
     a_device_puts_nothing_together_of_two();
     a_member_puts_nothing_together_of_two();
+    calls_come_apart();
     no_response_outlives_its_transfer_id();
     traces_do_no_harm();
 }

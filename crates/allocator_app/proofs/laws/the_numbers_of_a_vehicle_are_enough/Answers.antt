@@ -8,7 +8,7 @@ use Rattle.allocator_app.proofs.laws.the_numbers_of_a_vehicle_are_enough.Goals a
 
 enough : (told : Told) → list_of told ≢ [] → HoldsAreShort (vehicle_limits told)
 enough (Size size) some = absurd (some refl)
-enough (Members members) some = record { round = omega arith; rested = omega arith; clock = omega arith }
+enough (Members members) some = record { round = omega arith; rested = omega arith; joined = omega arith; clock = omega arith }
 
 pub returns : goal.returns
 returns c = enough

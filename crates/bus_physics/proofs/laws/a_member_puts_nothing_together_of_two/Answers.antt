@@ -8,8 +8,8 @@ use Rattle.bus_agreement.proofs.Concatenations.{ids_stay}
 use Rattle.bus_rows.specs.Timed.{rows_in}
 use Rattle.bus_physics.specs.Physics.{heard_by}
 use Rattle.bus_physics.proofs.Following.{follow}
-use Rattle.bus_physics.proofs.Members.{MemberLaws, along}
-use Rattle.bus_physics.proofs.Now.{now_of_a_step}
+use Rattle.bus_physics.proofs.Members.{along}
+use Rattle.bus_physics.proofs.Now.{laws_of}
 use Rattle.bus_physics.proofs.Single.{IsSingle, single}
 use Rattle.bus_physics.proofs.Torn.{of_its_key}
 use Rattle.bus_physics.proofs.UntornMembers.{only_gaps}
@@ -19,7 +19,7 @@ pub returns : goal.returns
 returns c = λ limits ids before now n k ms members sane back row lawful comes clock order behind apart e.
     let rows = rows_in before in
     let steps = c.what_is_said_of_a_step.ensures in
-    let laws : MemberLaws = record { heard = steps.heard; ticked = steps.ticked; me = steps.me; called = steps.called; now = now_of_a_step } in
+    let laws = laws_of steps in
     let chosen = c.a_choice_fits.ensures ids rows members (c.lawful_rows_do_no_harm.ensures (cluster ids) rows lawful) in
     let stands = along limits (before ++ now ∷ []) laws of_its_key sane n now before [] (cluster ids) [] refl refl
     (λ t up. absurd (cc (up))) clock comes lawful in

@@ -5,8 +5,8 @@ use Rattle.bus_spec.specs.Refinement.{transfers_of_rows}
 use Rattle.bus_rows.specs.Timed.{rows_in}
 use Rattle.bus_physics.specs.Physics.{heard_by, lag}
 use Rattle.bus_physics.proofs.Answering.{IsMadeSoon, all_soon}
-use Rattle.bus_physics.proofs.Members.{MemberLaws, along}
-use Rattle.bus_physics.proofs.Now.{now_of_a_step}
+use Rattle.bus_physics.proofs.Members.{along}
+use Rattle.bus_physics.proofs.Now.{laws_of}
 use Rattle.can_frame.specs.declared.step.Judged.TheVariants.{Stale}
 use Rattle.bus_spec.specs.declared.unlawful.Unlawful.TheVariants as unlawful
 use Rattle.bus_physics.proofs.Refusals.{of_stale, refused}
@@ -21,7 +21,7 @@ returns c = λ limits ids before now n k ms members enough back row lawful comes
     let sane : lag limits < 58000 = omega (arith, enough.clock) in
     let waits = c.calls_come_round_late.ensures limits ids before now n members enough lawful slow rests in
     let steps = c.what_is_said_of_a_step.ensures in
-    let laws : MemberLaws = record { heard = steps.heard; ticked = steps.ticked; me = steps.me; called = steps.called; now = now_of_a_step } in
+    let laws = laws_of steps in
     let answered = c.answers_come_in_order.ensures limits (before ++ now ∷ []) ids rows n k members lawful (refused unlawful.Stale Stale of_stale (world_of ids rows) n k ms e).there orders order in
     let chosen = c.a_choice_fits.ensures ids rows members (c.lawful_rows_do_no_harm.ensures (cluster ids) rows lawful) in
     let shows = (c.rows_are_shown.ensures chosen.0 ids rows members (c.lawful_rows_do_no_harm.ensures (cluster ids) rows lawful) chosen.1).shows in

@@ -1,5 +1,5 @@
-use Rattle.std.proofs.Common.{◌≡◌, ℕ, ◌+◌, ◌≤◌, Bool, true, false, List, [], ◌∷◌, ◌++◌, refl, ap, sym, ◌∙◌, arith, inl, inr, subst}
-use Rattle.std.specs.Prelude.{◌-◌, ◌==◌, min}
+use Rattle.std.proofs.Common.{◌≡◌, ℕ, zero, suc, ◌+◌, ◌≤◌, Bool, true, false, List, [], ◌∷◌, ◌++◌, refl, ap, sym, ◌∙◌, arith, inl, inr, subst}
+use Rattle.std.specs.Prelude.{◌-◌, ◌==◌, min, slice_index_or}
 use Rattle.can_frame.specs.Cutting.{frames_of, payload_of}
 use Rattle.can_frame.specs.Identifier.{identifier_of}
 use Rattle.raft_model.specs.Lists.{In}
@@ -16,12 +16,14 @@ use Rattle.alloc_spec.specs.Judging.{arrival_judgement}
 use Rattle.alloc_spec.specs.Step.{all_nodes, step}
 use Rattle.alloc_spec.specs.Transfers.{SentTransfer}
 use Rattle.bus_rows.specs.declared.row.Row.{Row}
+use Rattle.bus_rows.specs.declared.row.Row.TheVariants.{Open, Rx, Send, Tick}
 use Rattle.bus_spec.specs.Cluster.{Cluster, after_row, cluster, frame_at, world_of}
 use Rattle.bus_spec.specs.Lawful.{AreLawful}
 use Rattle.bus_spec.specs.Refinement.{transfers_of_rows}
+use Rattle.bus_agreement.proofs.Lists.{never}
 use Rattle.bus_physics.specs.Example.{afterwards, again, at_allocatee, at_member, before, everything, limits, two, with_bad_minute}
 use Rattle.bus_rows.specs.Timed.{Timed, rows_in}
-use Rattle.bus_physics.specs.Physics.{AllComeInOrder, ComeInOrder, ComesInOrder, ComesInTime, GoesOn, IsNotFast, Limits, Reading, WhereIts, slack, time_of}
+use Rattle.bus_physics.specs.Physics.{AllComeInOrder, ClockIsNotFast, ComeInOrder, ComesInOrder, ComesInTime, GoesOn, IsNotFast, Limits, Reading, WhereIts, row_of, slack, time_of}
 use Rattle.bus_physics.specs.Schedule.{DeviceHears, LawfulButForBus, MemberHears, lately}
 use Rattle.bus_physics.proofs.laws.premises_can_be_met.Goals as goal
 
@@ -63,20 +65,68 @@ made_in x (inr (inl e)) = (ap (λ (y : SentTransfer). y.step) e, ap (λ (y : Sen
 made_in x (inr (inr i)) = absurd i
 
 pub returns-clause-apart : goal.returns-clause-apart
-returns-clause-apart c = λ x y i j by what to to_too id less long recent recent_too. absurd (omega (arith, (made_in x i).0, (made_in y j).0, less))
+returns-clause-apart c = λ x y i j by what what_too to to_too id less recent recent_too. absurd (omega (arith, (made_in x i).0, (made_in y j).0, less))
 
 pub returns-clause-frames : goal.returns-clause-frames
 unfolding step all_nodes queued_frames next_out left_behind frames_of
 returns-clause-frames c = (tt, (tt, (tt, (tt, (tt, ((λ recent other key i first second. absurd i), tt))))))
 
 pub returns-clause-short : goal.returns-clause-short
-returns-clause-short c = record { round = omega arith; rested = omega arith; clock = omega arith }
+returns-clause-short c = record { round = omega arith; rested = omega arith; joined = omega arith; clock = omega arith }
+
+not_fast : (at now then moment : ℕ) → moment ≤ now + (then - at) + 5 → IsNotFast limits (record { at = at; now = now; opens = true } ∷ []) then moment
+not_fast at now then moment less p (inl e) recent soon =
+    omega (arith, less, ap (λ (r : Reading). r.at) e, ap (λ (r : Reading). r.now) e, ap (λ (r : Reading). slack limits r) e)
+not_fast at now then moment less p (inr i) recent soon = absurd i
+
+-- what is so of both members
+both_of : (P : ℕ → Type 0) → P 1 → P 2 → (m : ℕ) → In m two → P m
+both_of P first second m (inl e) = subst P (sym e) first
+both_of P first second m (inr (inl e)) = subst P (sym e) second
+both_of P first second m (inr (inr i)) = absurd i
+
+fast_first : ClockIsNotFast limits 1 [] (cluster two) before
+unfolding step all_nodes queued_frames next_out left_behind frames_of
+fast_first = (tt, (tt, (tt, (not_fast 7 0 1007 1000 (omega arith), (tt, tt)))))
+
+fast_second : ClockIsNotFast limits 2 [] (cluster two) before
+fast_second = (tt, (tt, (tt, (tt, (tt, tt)))))
 
 pub returns-clause-fast : goal.returns-clause-fast
-returns-clause-fast c = (tt, (tt, (tt, (tt, (tt, tt)))))
+returns-clause-fast c = both_of (λ m. ClockIsNotFast limits m [] (cluster two) before) fast_first fast_second
+
+-- behind the fourth row nobody is opened
+abbrev is_opening : Row → Bool
+is_opening (Open n told ms word) = true
+is_opening row = false
+
+none_opens : (rows : List Timed) → ((t : Timed) → In t rows → is_opening t.row ≡ false) → (k : ℕ) → is_opening (slice_index_or rows k (record { at = 0; row = Send 0 })).row ≡ false
+none_opens [] each k = refl
+none_opens (t ∷ rest) each zero = each t (inl refl)
+none_opens (t ∷ rest) each (suc k) = none_opens rest (λ u i. each u (inr i)) k
+
+behind_four : (a b c d : Timed) (rows : List Timed) (k : ℕ) → 4 ≤ k
+    → (j : ℕ) × (slice_index_or (a ∷ (b ∷ (c ∷ (d ∷ rows)))) k (record { at = 0; row = Send 0 }) ≡ slice_index_or rows j (record { at = 0; row = Send 0 }))
+behind_four a b c d rows zero h = absurd (omega (arith, h))
+behind_four a b c d rows (suc zero) h = absurd (omega (arith, h))
+behind_four a b c d rows (suc (suc zero)) h = absurd (omega (arith, h))
+behind_four a b c d rows (suc (suc (suc zero))) h = absurd (omega (arith, h))
+behind_four a b c d rows (suc (suc (suc (suc k)))) h = (k, refl)
+
+never_opened : (a b c d : Timed) (rows : List Timed) → ((t : Timed) → In t rows → is_opening t.row ≡ false) → (number m moment word : ℕ) (told : Bool) → 5 ≤ number
+    → row_of (a ∷ (b ∷ (c ∷ (d ∷ rows)))) number ≡ Open m told moment word → ⊥
+never_opened a b c d rows each number m moment word told late e =
+    let at = behind_four a b c d rows (number - 1) (omega (arith, late)) in
+    never (sym (ap (λ (t : Timed). is_opening t.row) at.1 ∙ none_opens rows each at.0) ∙ ap is_opening e)
 
 pub returns-clause-rests : goal.returns-clause-rests
-returns-clause-rests c = λ x number told moment word i mine recent less opened. absurd (omega (arith, (made_in x i).1, mine))
+returns-clause-rests c m x number told moment word i mine recent less opened =
+    absurd (never_opened _ _ _ _ (record { at = 1008; row = Send 1 } ∷ (at_member ∷ [])) none number m moment word told (omega (arith, (made_in x i).0, less)) opened)
+  where
+    none : (t : Timed) → In t (record { at = 1008; row = Send 1 } ∷ (at_member ∷ [])) → is_opening t.row ≡ false
+    none t (inl e) = ap (λ (u : Timed). is_opening u.row) e
+    none t (inr (inl e)) = ap (λ (u : Timed). is_opening u.row) e
+    none t (inr (inr i)) = absurd i
 
 -- frame 1 comes first, or again
 comes_first : (all : List Timed) (m : ℕ) (b : Bool) → WhereIts b (ComesInOrder limits all m [] (frame_at (world_of two (rows_in before)).frames 1))
@@ -157,10 +207,11 @@ passes_both : (first second : Reading) (then moment : ℕ) → GoesOn limits 45 
 passes_both first second then moment a b p (inl e) = b p (inl e)
 passes_both first second then moment a b p (inr i) = a p i
 
-not_fast : (at now then moment : ℕ) → moment ≤ now + (then - at) + 5 → IsNotFast limits (record { at = at; now = now; opens = true } ∷ []) then moment
-not_fast at now then moment less p (inl e) recent soon =
-    omega (arith, less, ap (λ (r : Reading). r.at) e, ap (λ (r : Reading). r.now) e, ap (λ (r : Reading). slack limits r) e)
-not_fast at now then moment less p (inr i) recent soon = absurd i
+again_none : (t : Timed) → In t (record { at = 1008; row = Send 1 } ∷ (at_member ∷ (again ∷ []))) → is_opening t.row ≡ false
+again_none t (inl e) = ap (λ (u : Timed). is_opening u.row) e
+again_none t (inr (inl e)) = ap (λ (u : Timed). is_opening u.row) e
+again_none t (inr (inr (inl e))) = ap (λ (u : Timed). is_opening u.row) e
+again_none t (inr (inr (inr i))) = absurd i
 
 hears_again : MemberHears limits two (before ++ at_member ∷ []) again 2 1
 unfolding step frame_step outcome fits_no_payload all_nodes delivery_phase session_for session_step wanted queued_frames next_out left_behind frames_of identifier_of payload_of rows
@@ -209,9 +260,11 @@ hears_again = record {
   );
   orders = orders (before ++ (at_member ∷ (again ∷ [])));
   order = λ recent other key i first second. elim i [ inl e ↦ omega (arith, ap (λ (f : Queued). f.mark.step) e) | inr j ↦ absurd j ];
-  fast = (tt, (tt, (tt, (tt, (tt, (not_fast 8 500 1050 1505 (omega arith), tt))))));
-  rests = λ x number told moment word i mine recent less opened. absurd (omega (arith, (made_then x i).1, mine));
-  apart = λ x y i j by what to to_too id less long recent recent_too. absurd (omega (arith, (made_then x i).0, (made_then y j).0, less));
+  fast = both_of (λ m. ClockIsNotFast limits m [] (cluster two) (before ++ at_member ∷ []))
+      (tt, (tt, (tt, (not_fast 7 0 1007 1000 (omega arith), (tt, (tt, tt)))))) (tt, (tt, (tt, (tt, (tt, (not_fast 8 500 1050 1505 (omega arith), tt))))));
+  rests = λ m listed x number told moment word i mine recent less opened. absurd (never_opened _ _ _ _ (record { at = 1008; row = Send 1 } ∷ (at_member ∷ (again ∷ [])))
+      again_none number m moment word told (omega (arith, (made_then x i).0, less)) opened);
+  apart = λ x y i j by what what_too to to_too id less recent recent_too. absurd (omega (arith, (made_then x i).0, (made_then y j).0, less));
 }
 
 device_hears : DeviceHears limits two (before ++ (at_member ∷ (again ∷ []))) at_allocatee 1 1
@@ -264,7 +317,7 @@ returns-clause-bus c = (
               orders = λ m i. (tt, (tt, (tt, (tt, (tt, tt)))));
               order = λ recent other key i first second. absurd i;
               fast = returns-clause-fast c;
-              rests = returns-clause-rests c;
+              rests = λ m i. returns-clause-rests c m;
               apart = returns-clause-apart c;
             },
             (hears_again, (device_hears, tt)),
@@ -292,12 +345,12 @@ pub returns-clause-bad : goal.returns-clause-bad
 unfolding step frame_step outcome fits_no_payload all_nodes delivery_phase session_for session_step wanted queued_frames next_out left_behind frames_of identifier_of payload_of rows
 returns-clause-bad c = λ comes. absurd (omega (arith, comes.1.1.1.1.1.1.1.1.0.soon (omega arith) (omega arith)))
 
-made_in_all : (x : SentTransfer) → In x (transfers_of_rows (cluster two) (rows_in with_bad_minute) []) → (x.by ≡ 1) × (x.offer.to ≡ 0)
+made_in_all : (x : SentTransfer) → In x (transfers_of_rows (cluster two) (rows_in with_bad_minute) []) → (4 ≤ x.step) × (x.offer.to ≡ 0)
 unfolding step frame_step outcome fits_no_payload all_nodes delivery_phase session_for session_step wanted queued_frames next_out left_behind frames_of identifier_of payload_of rows
-made_in_all x (inl e) = (ap (λ (y : SentTransfer). y.by) e, ap (λ (y : SentTransfer). y.offer.to) e)
-made_in_all x (inr (inl e)) = (ap (λ (y : SentTransfer). y.by) e, ap (λ (y : SentTransfer). y.offer.to) e)
-made_in_all x (inr (inr (inl e))) = (ap (λ (y : SentTransfer). y.by) e, ap (λ (y : SentTransfer). y.offer.to) e)
-made_in_all x (inr (inr (inr (inl e)))) = (ap (λ (y : SentTransfer). y.by) e, ap (λ (y : SentTransfer). y.offer.to) e)
+made_in_all x (inl e) = (omega (arith, ap (λ (y : SentTransfer). y.step) e), ap (λ (y : SentTransfer). y.offer.to) e)
+made_in_all x (inr (inl e)) = (omega (arith, ap (λ (y : SentTransfer). y.step) e), ap (λ (y : SentTransfer). y.offer.to) e)
+made_in_all x (inr (inr (inl e))) = (omega (arith, ap (λ (y : SentTransfer). y.step) e), ap (λ (y : SentTransfer). y.offer.to) e)
+made_in_all x (inr (inr (inr (inl e)))) = (omega (arith, ap (λ (y : SentTransfer). y.step) e), ap (λ (y : SentTransfer). y.offer.to) e)
 made_in_all x (inr (inr (inr (inr i)))) = absurd i
 
 passes_more : (l : Limits) (first : Reading) (past : List Reading) (then moment : ℕ) → GoesOn l 45 (first ∷ []) then moment → GoesOn l 45 past then moment
@@ -355,6 +408,29 @@ to_two : InOrder 2
 unfolding step frame_step outcome fits_no_payload all_nodes delivery_phase session_for session_step wanted queued_frames next_out left_behind frames_of identifier_of payload_of rows
 to_two = (tt, (tt, (tt, (tt, (tt, ((λ recent other key i first second. absurd (omega (arith, recent))), ((λ recent other key i first second. absurd (omega (arith, recent))), (tt, ((λ recent other key i first second. absurd (omega (arith, recent))), (tt, (tt, (tt, (tt, tt)))))))))))))
 
+-- the rows behind the fourth one
+abbrev later_rows : List Timed
+later_rows = record { at = 1008; row = Send 1 }
+    ∷ (at_member
+    ∷ (again
+    ∷ (at_allocatee
+    ∷ (record { at = 61008; row = Rx 2 1 60000 }
+    ∷ (record { at = 74000; row = Tick 1 73993 0 }
+    ∷ (record { at = 74001; row = Send 1 } ∷ (record { at = 74002; row = Send 1 } ∷ (record { at = 74003; row = Send 1 } ∷ (afterwards ∷ [])))))))))
+
+later_none : (t : Timed) → In t later_rows → is_opening t.row ≡ false
+later_none t (inl e) = ap (λ (u : Timed). is_opening u.row) e
+later_none t (inr (inl e)) = ap (λ (u : Timed). is_opening u.row) e
+later_none t (inr (inr (inl e))) = ap (λ (u : Timed). is_opening u.row) e
+later_none t (inr (inr (inr (inl e)))) = ap (λ (u : Timed). is_opening u.row) e
+later_none t (inr (inr (inr (inr (inl e))))) = ap (λ (u : Timed). is_opening u.row) e
+later_none t (inr (inr (inr (inr (inr (inl e)))))) = ap (λ (u : Timed). is_opening u.row) e
+later_none t (inr (inr (inr (inr (inr (inr (inl e))))))) = ap (λ (u : Timed). is_opening u.row) e
+later_none t (inr (inr (inr (inr (inr (inr (inr (inl e)))))))) = ap (λ (u : Timed). is_opening u.row) e
+later_none t (inr (inr (inr (inr (inr (inr (inr (inr (inl e))))))))) = ap (λ (u : Timed). is_opening u.row) e
+later_none t (inr (inr (inr (inr (inr (inr (inr (inr (inr (inl e)))))))))) = ap (λ (u : Timed). is_opening u.row) e
+later_none t (inr (inr (inr (inr (inr (inr (inr (inr (inr (inr i)))))))))) = absurd i
+
 healed_hears : MemberHears lately_limits two with_bad_minute afterwards 2 4
 unfolding step frame_step outcome fits_no_payload all_nodes delivery_phase session_for session_step wanted queued_frames next_out left_behind frames_of identifier_of payload_of rows
 healed_hears = record {
@@ -371,9 +447,11 @@ healed_hears = record {
     | inr (inr (inl e)) ↦ omega (arith, ap (λ (f : Queued). f.mark.step) e)
     | inr (inr (inr j)) ↦ absurd j
   ];
-  fast = (tt, (tt, (tt, (tt, (tt, (old_fast 8 500 1050 1505 true (omega arith), (fast_more second_reading first_readings 1050 1541 (old_fast 1050 1505 1050 1541 false (omega arith)) (old_fast 8 500 1050 1541 true (omega arith)), (tt, (fast_more third_reading second_readings 61008 60000 (old_fast 1050 1541 61008 60000 false (omega arith)) (fast_more second_reading first_readings 61008 60000 (old_fast 1050 1505 61008 60000 false (omega arith)) (old_fast 8 500 61008 60000 true (omega arith))), (tt, (tt, (tt, (tt, tt)))))))))))));
-  rests = λ x number told moment word i mine recent less opened. absurd (omega (arith, (made_in_all x i).0, mine));
-  apart = λ x y i j by what to to_too id less long recent recent_too. absurd (omega (arith, (made_in_all x i).1, to));
+  fast = both_of (λ m. ClockIsNotFast lately_limits m [] (cluster two) with_bad_minute)
+      (tt, (tt, (tt, (old_fast 7 0 1007 1000 true (omega arith), (tt, (tt, (tt, (tt, (tt, (fast_more (record { at = 1007; now = 1000; opens = false }) (record { at = 7; now = 0; opens = true } ∷ []) 74000 73993 (old_fast 1007 1000 74000 73993 false (omega arith)) (old_fast 7 0 74000 73993 true (omega arith)), (tt, (tt, (tt, tt)))))))))))))
+      (tt, (tt, (tt, (tt, (tt, (old_fast 8 500 1050 1505 true (omega arith), (fast_more second_reading first_readings 1050 1541 (old_fast 1050 1505 1050 1541 false (omega arith)) (old_fast 8 500 1050 1541 true (omega arith)), (tt, (fast_more third_reading second_readings 61008 60000 (old_fast 1050 1541 61008 60000 false (omega arith)) (fast_more second_reading first_readings 61008 60000 (old_fast 1050 1505 61008 60000 false (omega arith)) (old_fast 8 500 61008 60000 true (omega arith))), (tt, (tt, (tt, (tt, tt)))))))))))));
+  rests = λ m listed x number told moment word i mine recent less opened. absurd (never_opened _ _ _ _ later_rows later_none number m moment word told (omega (arith, (made_in_all x i).0, less)) opened);
+  apart = λ x y i j by what what_too to to_too id less recent recent_too. absurd (omega (arith, (made_in_all x i).1, to));
 }
 
 pub returns-clause-healed : goal.returns-clause-healed
