@@ -96,6 +96,16 @@ def a_longer_list(act: Act) -> None:
     act.calls(3, [1, 2, 4], 1.1, END, term=12, heard=lambda _, peer: peer != 4)
 
 
+def leaders_that_stall(act: Act) -> None:
+    """Each leads for 4 s, and is silent then."""
+    for member in THREE:
+        act.node(member, member / 10, 20)
+    for at, leader in enumerate((1, 2, 1, 3)):
+        peers = [it for it in THREE if it != leader]
+        act.stands(leader, peers, 5.0 * at + 0.2, 5 + at, peers)
+        act.calls(leader, peers, 5.0 * at + 0.4, 5.0 * at + 4, 5 + at)
+
+
 def a_vote_request_that_was_lost(act: Act) -> None:
     """Member 3 stood once, and one of its two requests was not heard."""
     act.cluster(THREE, 0, END, leader=2)
@@ -513,6 +523,7 @@ ROWS: Dict[str, Row] = {
     "terms that nobody took": Row(terms_that_nobody_took, "!terms-used-up", says=("in the name of member 3",)),
     "30 % lost": Row(a_lossy_bus(0.3), "lossy-bus", never=("strange", "the log full", "crossed")),
     "50 % lost": Row(a_lossy_bus(0.5), "lossy-bus", never=("strange", "the log full", "crossed")),
+    "leaders that stall": Row(leaders_that_stall, "?lossy-bus", says=("4 elections", "stalls")),
     "each frame twice": Row(each_frame_twice, "frames-twice", never=("Two nodes use",)),
     "each frame twice ends members": Row(each_frame_twice_ends_members, "frames-twice", (THREE,), ("18",)),
     "zeros": Row(zeros, "zero-unique-id", says=("zeros",)),

@@ -85,7 +85,10 @@ CAUSES: Dict[str, str] = {
         "many new pairs within a minute, of nodes that are not there or do not answer. A warning where they "
         "are there, a guess where few were heard"
     ),
-    "lossy-bus": "members leave out answers, and answer again: mend the bus first",
+    "lossy-bus": (
+        "members leave out answers, and answer again: mend the bus first. A guess, where they lead in turn, "
+        "for seconds each"
+    ),
     "no-majority": "most members are away, and which; or they do not answer the leader",
     "no-leader": (
         "all are there, and nobody wins an election: frames between members are lost or late. Beside many calls a "

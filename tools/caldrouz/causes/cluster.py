@@ -15,6 +15,7 @@ UNHEARD_ANSWERS = 5  # so many answers in a row that a leader seems not to have 
 UNANSWERED_CALLS = 3  # so many calls in a row without an answer are told
 STANDS_BY = 8.0  # seconds of its uptime within which a member that hears no leader has stood for election
 MANY_ROUNDS = 8  # calls to one member, after which one that was never called is in no list
+MANY_ELECTIONS = 3  # within 20 s, of members that lead in turn
 MANY_WON = 2  # so many elections that were won, and never used, are of one that does not hear
 GAPS = 4  # so often within 20 s a member that answers does not, where frames are lost
 REFUSALS = 200  # more in a row than a log has places
@@ -315,6 +316,16 @@ def lossy(scene: Scene, _: Stores) -> Found:
             "lost on their way, or come late",
             "mend the bus first: termination, bit rate, load, errors (`ip -details -statistics link show`), the counts "
             "of the bridges, and the load of the machines. Other names beside this one may follow from it",
+        )
+        return
+    led = [node for node, it in scene.callers.items() if it.led is not None and age(scene, it.led) <= 2 * RECENT]
+    if len(terms_of) >= MANY_ELECTIONS and len(led) > 1:
+        yield Cause(
+            "lossy-bus",
+            f"There were {len(terms_of)} elections within {seconds(lasts)}, and {ids(led)} led in turn: frames are "
+            "lost or late, or the machine of a leader stalls",
+            "look at the load of the machines, their disks (a sync takes 100 ms at most), and at the errors of the bus",
+            guess=True,
         )
 
 
