@@ -107,7 +107,15 @@ class RawCan:
         self.gives(self.sent[-1], socket.MSG_CONFIRM)
 
 
-class Case(unittest.TestCase):
+class Waiting(unittest.TestCase):
+    def old_after(self, seconds: float) -> None:
+        """For how long a frame may wait from here on."""
+        patch = mock.patch.object(bridge, "LONGEST_WAIT", seconds)
+        patch.start()
+        self.addCleanup(patch.stop)
+
+
+class Case(Waiting):
     """A bridge over a stand-in for a CAN socket, with members at the first base whose ports are free. A frame is old
     after a minute: so none is dropped because the machine that runs the test stands still for a while."""
 
@@ -129,11 +137,6 @@ class Case(unittest.TestCase):
             except (OSError, Ended):
                 self.close()
         self.fail("no ports are free")
-
-    def old_after(self, seconds: float) -> None:
-        patch = mock.patch.object(bridge, "LONGEST_WAIT", seconds)
-        patch.start()
-        self.addCleanup(patch.stop)
 
     def ear(self, port: int) -> socket.socket:
         link = socket.socket(socket.AF_INET, socket.SOCK_DGRAM)
@@ -466,7 +469,7 @@ class Started:
         self.link.close()
 
 
-class OwnProcesses(unittest.TestCase):
+class OwnProcesses(Waiting):
     """Members that the bridge runs, behind an adapter that the test plays: `adapter` is its end of the line."""
 
     def setUp(self) -> None:
@@ -483,8 +486,6 @@ class OwnProcesses(unittest.TestCase):
         self.bridge = bridge.Bridge(self.bus, self.members, self.journal, notify.Service())
         self.links = {node: self.members.processes[node].link for node in MEMBERS}
         self.addCleanup(self.members.close)
-
-    old_after = Case.old_after
 
     def written(self, wanted: bytes) -> None:
         """What the adapter was given, to the last byte."""

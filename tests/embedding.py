@@ -112,7 +112,6 @@ class Header(unittest.TestCase):
             for standard in ("c++11", "c++17") if is_cpp else ("c99", "c17"):
                 done(compiler, f"-std={standard}", *STRICT, "-I", INCLUDE, "-c", source, "-o", os.devnull)
 
-
     def test_the_code_of_the_pages_compiles(self) -> None:
         """What EMBEDDING and the head of the header show is taken as it stands there."""
         page = (ROOT / "docs/EMBEDDING.md").read_text(encoding="utf-8")
@@ -312,7 +311,6 @@ class Start(unittest.TestCase):
         self.assertLess(waits[0], REST)
         self.assertGreaterEqual(waits[1], REST)
         self.assertLess(waits[1], PATIENCE)
-
 
     def test_a_late_echo_ends_it(self) -> None:
         """Nobody acknowledges: its first frame is its last one, until somebody looked at the cable."""

@@ -17,7 +17,7 @@ import images
 from acts import ONE, Act
 from support import EXAMPLES, ROOT, TESTS, Ended, run_tool, write_lines
 
-from caldrouz import causes, logs, machine, stores, timing, wire
+from caldrouz import causes, logs, machine, stores, timing
 
 MOUNTS = r"""21 1 254:0 / / rw,relatime - ext4 /dev/vda rw
 22 21 0:21 / /proc rw - proc proc rw
@@ -114,7 +114,7 @@ class Clocks(unittest.TestCase):
             raw["last"] = next(now)
             return 5.0 + rate * raw["last"]
 
-        with mock.patch.object(machine.time, "clock_gettime", clock), mock.patch.object(machine.time, "sleep") as slept:
+        with mock.patch.object(time, "clock_gettime", clock), mock.patch.object(time, "sleep") as slept:
             found = machine.Clocks().error(3.0)
             slept.assert_called_once_with(2.5)
         return found
@@ -322,9 +322,9 @@ class Logs(unittest.TestCase):
 
     def test_allocations_that_use_an_id_again(self) -> None:
         """A frame may be 3,500 ms late, a session lasts 2,000 ms, and a clock goes wrong by less than 500 ms."""
-        for apart, time in ((0.1, 3200), (0.175, 5600)):
+        for apart, passed in ((0.1, 3200), (0.175, 5600)):
             said = self.allocations(apart)
-            soon = f"member 1 Allocation message: a transfer ID was used again after {time} ms"
+            soon = f"member 1 Allocation message: a transfer ID was used again after {passed} ms"
             self.assertRegex(said.written, rf"A8 +NOT SO: +{soon}")
         self.assertRegex(self.allocations(0.1875).written, r"A8 +ok: +transfer IDs came round later")
 

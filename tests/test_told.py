@@ -698,9 +698,10 @@ class WhatTheSystemTells(unittest.TestCase):
                 return machine.member_ends([1, 2])
 
     def test_how_members_ended(self) -> None:
-        lines = "".join(json.dumps({**JOURNAL, **it}) + "\n" for it in (
+        changes: List[Dict[str, str]] = [
             {}, {}, {"UNIT": "ssh.service"}, {"COMMAND": "ExecStopPost"}, {"EXIT_CODE": "killed", "EXIT_STATUS": "9"}
-        ))
+        ]
+        lines = "".join(json.dumps({**JOURNAL, **it}) + "\n" for it in changes)
         told = self.ends(systemctl=f"cat <<'END'\n{AWAY}\n{WELL}END", journalctl=f"cat <<'END'\n{lines}null\n[\nEND")
         self.assertEqual(told, {1: machine.End(18), 2: machine.End(17, 2)})
 

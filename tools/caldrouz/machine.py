@@ -249,7 +249,7 @@ def member_ends(members: Sequence[int]) -> Dict[int, End]:
     for line in (recent or "").splitlines():
         with contextlib.suppress(ValueError, KeyError, TypeError):
             entry = json.loads(line)
-            member, status = units[entry["UNIT"]], int(entry["EXIT_STATUS"])
-            if entry["EXIT_CODE"] == "exited" and entry.get("COMMAND", "ExecStart") == "ExecStart" and status:
-                found[member] = End(status, found.get(member, End(0)).times + 1)
+            member, ended = units[entry["UNIT"]], int(entry["EXIT_STATUS"])
+            if entry["EXIT_CODE"] == "exited" and entry.get("COMMAND", "ExecStart") == "ExecStart" and ended:
+                found[member] = End(ended, found.get(member, End(0)).times + 1)
     return found
