@@ -283,6 +283,10 @@ class Lab:
         for member in list(self.members.values()):
             if isinstance(member.end, SerialEnd) and member.process.poll() is not None:
                 self._ends(member)  # (whose line tells nothing, as this side holds both ends)
+        self.go_on()
+
+    def go_on(self) -> None:
+        """What devices do now, who is started again, and which node IDs are held."""
         for device in self.devices:
             for packet in device.sends():
                 self.put(device.place, packet)
