@@ -92,7 +92,7 @@ follows now me answered id = nat_eq id me || answered_lately now (answered id)
 abbrev pub is_followed : ℕ → ℕ → List ℕ → (ℕ → Option ℕ) → Bool
 is_followed now me ids answered = nat_lt (length ids) (2 * count_by (follows now me answered) ids)
 
--- ---- the same by all these answers, of a node at a reading, the newest first
+-- ---- who follows, by all answers that agreed and were handed on: each of a node at a reading, the newest first
 
 pub record AnswerAt : Type 0 where
   pub node : ℕ

@@ -1,6 +1,7 @@
 //! Laws of the definitions, each the contract of a function that does nothing.
 
-ghost use Rattle.std.specs.Prelude.{◌≡◌, ◌≢◌, ℕ, ◌+◌, ◌*◌, ◌<◌, ◌≤◌, ◌++◌, ◌∷◌, ◌⊎◌, ◌||◌, [], List, None, Option, Some, count_by, length, nat_eq, nat_le, replicate, take, true, false};
+ghost use Rattle.std.specs.Prelude.{◌≡◌, ◌≢◌, ℕ, ◌+◌, ◌*◌, ◌<◌, ◌≤◌, ◌++◌, ◌∷◌, ◌⊎◌, ◌||◌, [], List, None, Option, Some};
+ghost use Rattle.std.specs.Prelude.{count_by, length, nat_eq, nat_le, replicate, take, true, false};
 ghost use Rattle.alloc_spec.specs.Accepted.{is_of_members};
 ghost use Rattle.bus_spec.specs.Cluster.{is_member};
 ghost use Rattle.bus_spec.specs.Lawful.{is_forged};
@@ -24,10 +25,13 @@ ghost use Rattle.dsdl_codec.specs.declared.vote_answer.VoteAnswer.{VoteAnswer};
 ghost use Rattle.dsdl_codec.specs.declared.vote_request.VoteRequest.{VoteRequest};
 ghost use Rattle.outside.specs.declared.received.RawFrame.{RawFrame};
 ghost use Rattle.outside.specs.declared.received.Received.TheVariants.{Frame};
-ghost use Rattle.told_link.specs.Following.{AnswerAt, ComeBefore, agrees, answered_by, answered_of, gives_node_id, has_answered, is_followed, noted};
+ghost use Rattle.told_link.specs.Following.{AnswerAt, ComeBefore, agrees, answered_by, answered_of, gives_node_id};
+ghost use Rattle.told_link.specs.Following.{has_answered, is_followed, noted};
 ghost use Rattle.told_link.specs.Hearing.{wants_followers};
 ghost use Rattle.told_link.specs.Silence.{ComeSince, ComesBehindSilence, IsHeardOn, answer_counts, settling};
-ghost use Rattle.told_link.specs.Terms.{CallsOn, Coming, ComeUntil, between_rises, ceiling_above, ceiling_for, first_number, first_term, is_below_ceiling, between_calls, most_terms, takes_term, term_in, term_of, term_to};
+ghost use Rattle.told_link.specs.Terms.{CallsOn, Coming, ComeUntil, between_calls, between_rises, ceiling_above, ceiling_for};
+ghost use Rattle.told_link.specs.Terms.{first_number, first_term, is_below_ceiling, most_terms, takes_term, term_in, term_of};
+ghost use Rattle.told_link.specs.Terms.{term_to};
 ghost use Rattle.told_link.specs.Voice.{fields_of, is_of_uavcan, voice_of};
 ghost use Rattle.told_link.specs.declared.terms.Ceiling.{Ceiling};
 ghost use Rattle.told_link.specs.declared.voice.Voice.TheVariants.{Other, Stranger};
@@ -86,12 +90,13 @@ pub fn answers_count_again()
 /// Where a frame that gives a node ID goes out, more than half of the list answered lately that their logs agree, the
 /// leader counted.
 pub fn who_gives_node_ids_was_answered()
-    ensures { (now me : ℕ) (ids : List ℕ) (answers : List AnswerAt) → is_followed now me ids (answered_by answers) ≡ true →
+    ensures { (now me : ℕ) (ids : List ℕ) (answers : List AnswerAt) →
+        is_followed now me ids (answered_by answers) ≡ true →
         length ids < 2 * count_by (λ id. nat_eq id me || has_answered now answers id) ids }
 {}
 
-/// As long as more than half of the list answer so, the leader counted, nothing is withheld; from a member that is alone
-/// on its list, or is told none, nothing ever is.
+/// As long as more than half of the list answer so, the leader counted, nothing is withheld; from a member that is
+/// alone on its list, or is told none, nothing ever is.
 pub fn who_is_answered_withholds_nothing()
     ensures majority { (now me : ℕ) (ids : List ℕ) (answers : List AnswerAt) → ComeBefore now answers →
         length ids < 2 * count_by (λ id. nat_eq id me || has_answered now answers id) ids →
@@ -126,8 +131,8 @@ pub fn answers_are_noted()
     ensures others { (node now : ℕ) (all : List (Option ℕ)) → noted node now false all ≡ all }
 {}
 
-/// A term that is at most 1,000,000 above the first one that the member sent is taken, whatever came before. One that is
-/// further above it is not, within ten minutes.
+/// A term that is at most 1,000,000 above the first one that the member sent is taken, whatever came before. One that
+/// is further above it is not, within ten minutes.
 pub fn a_million_terms_are_taken()
     ensures taken { (own first : ℕ) (before : List Coming) (coming : Coming) → coming.term ≤ own + most_terms →
         takes_term (ceiling_above first own) before coming ≡ true }
@@ -139,8 +144,8 @@ pub fn a_million_terms_are_taken()
     ensures unsent_taken { (now term : ℕ) → term ≤ 1000000 → is_below_ceiling term (ceiling_for now term None) ≡ true }
 {}
 
-/// A term that is taken is above the first one of the member by 1,000,000, and by as much for each ten minutes since then
-/// at the most. So the highest term, 2^32 - 1, takes 29 days.
+/// A term that is taken is above the first one of the member by 1,000,000, and by as much for each ten minutes since
+/// then at the most. So the highest term, 2^32 - 1, takes 29 days.
 pub fn terms_go_up_slowly()
     ensures { (own first : ℕ) (before : List Coming) (coming : Coming) → ComeUntil coming.now before →
         first ≤ coming.now → takes_term (ceiling_above first own) before coming ≡ true →
@@ -158,8 +163,8 @@ pub fn who_calls_on_is_taken()
         takes_term ceiling before coming ≡ true }
 {}
 
-/// The term that is judged is the one that the member would read: the first frame of a payload has the number with which
-/// the payload begins, and with that each call and each answer begins.
+/// The term that is judged is the one that the member would read: the first frame of a payload has the number with
+/// which the payload begins, and with that each call and each answer begins.
 pub fn first_frames_have_the_term()
     ensures frames { (signature id : ℕ) (payload : List ℕ) (first : Piece) (rest : List Piece) →
         frames_of signature id payload ≡ first ∷ rest → term_of first ≡ first_number payload }
