@@ -122,7 +122,7 @@ class Emulated:
                 line = TERMINAL.sub("", line).rstrip("\n")
                 ends = re.fullmatch(r"the job ended with (\d+)", line)
                 if ends:
-                    code = int(ends[1])
+                    code, is_up = int(ends[1]), False
                 elif is_up or UP in line:
                     print(line if is_up else line[line.index(UP) :], flush=True)
                     is_up = True

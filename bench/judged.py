@@ -19,9 +19,9 @@ from caldrouz import report, table, texts, wire
 # What PREMISES asks, in milliseconds
 HOLD = 3_500  # A6
 REST = 5_500  # A8a
-ALLOCATIONS, CALLS = 6_000, 7_000  # A8b: Allocations; requests of Raft and responses of GetNodeInfo
+ALLOCATIONS, RESPONSES = 6_000, 7_000  # A8b: Allocations; responses of GetNodeInfo
 DRIFT, TURN, MINUTE = 499, 1_000, 60_000  # A10
-APART = {"alloc": ALLOCATIONS, "appq": CALLS, "voteq": CALLS, "info": CALLS}  # transfers of several frames
+APART = {"alloc": ALLOCATIONS, "info": RESPONSES}
 LONG_HELD = 3_000  # frames that come so late are counted
 BEGINS = ("part", "took", "bad", "drop:5", "drop:6", "drop:7")  # what is said of a first frame that was not passed over
 WRONG_CRC = "drop:5"

@@ -5,6 +5,7 @@ import subprocess
 from typing import List, Sequence
 
 ROWS = 1_000_000
+LONGER = 1_500  # ms that the highest member waits longer than the lowest, where they are told their list
 
 
 class Refused(Exception):
@@ -14,6 +15,11 @@ class Refused(Exception):
     def __init__(self, text: str, told: Sequence[List[str]] = ()) -> None:
         super().__init__(text)
         self.told = told
+
+
+def word_of(node: int, members: Sequence[int]) -> int:
+    """The word that `node` gives a member that is told this list."""
+    return LONGER * sum(other < node for other in members) // max(1, len(members) - 1)
 
 
 class Replay:

@@ -18,7 +18,7 @@ from dataclasses import dataclass, field
 from typing import Callable, Deque, Dict, List, NamedTuple, Optional, Tuple
 
 import scripts
-from replays import Replay
+from replays import Replay, word_of
 
 from caldrouz import asking, table, wire
 
@@ -195,7 +195,7 @@ class Member:
         return round(self.bus.now * self.pace / MS)
 
     def _word(self) -> int:
-        return self.bus.chance.randrange(1 << 31)
+        return word_of(self.node, MEMBERS)
 
     def _tick(self) -> None:
         if self.runs:
