@@ -5,12 +5,12 @@ import subprocess
 from typing import List, Sequence
 
 ROWS = 1_000_000
-LONGER = 1_500  # ms that the highest member waits longer than the lowest, where they are told their list
+LONGER = 1_500  # ms that the highest member of a list waits longer than the lowest
 
 
 class Refused(Exception):
-    """`replay` ended before the case did; the text is its last line. `told` has the words of the lines before it, of the
-    rows that were handed over with the one that ended it."""
+    """`replay` ended before the case did; the text is its last line. `told` has the words of the lines before it, of rows
+    that were handed over with the one that ended it."""
 
     def __init__(self, text: str, told: Sequence[List[str]] = ()) -> None:
         super().__init__(text)

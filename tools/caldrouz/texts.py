@@ -91,8 +91,8 @@ CAUSES: Dict[str, str] = {
     ),
     "no-majority": "most members are away, and which; or they do not answer the leader",
     "no-leader": (
-        "all are there, and nobody wins an election: frames between members are lost or late. Beside many calls a "
-        "second: the leader has another log"
+        "all are there, and nobody wins an election: frames between members are lost or late. Beside many "
+        "calls a second: the leader has another log"
     ),
     "not-committed": "the leader has entries that the others do not get",
     "another-log": (
