@@ -9,7 +9,7 @@ use outside::Failed;
 /// How many blocks a device has.
 pub const BLOCKS: usize = 4;
 
-/// How many bytes a block has. No page or block of a device that is lost as one is larger.
+/// How many bytes a block has. It is a premise that whatever a device loses as one lies within a block.
 pub const BLOCK: usize = 16384;
 
 /// How many bytes of a block are used, from its first on.

@@ -5,8 +5,9 @@
 //! of `disk_model`: a stop may leave any bytes in a block that was written since the last sync that succeeded. Blocks
 //! that were not written stay (`specs/Blocks.antt`).
 //!
-//! A block has 16,384 bytes: what such a device writes as one has mostly 4,096 to 16,384. Of a block 8,900 bytes are
-//! used. [`MemoryDevice`] is a device in memory, [`FileDevice`] one in a file, which tells nothing.
+//! A block has 16,384 bytes. That whatever a device loses as one lies within a block is a premise, and one that cards
+//! which erase larger units may break. Of a block 8,900 bytes are used. [`MemoryDevice`] is a device in memory,
+//! [`FileDevice`] one in a file, which tells nothing.
 #![tactic(auto)]
 
 mod device;

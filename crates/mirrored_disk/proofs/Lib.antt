@@ -1,0 +1,4 @@
+pub mod Found
+pub mod Records
+pub mod Synced
+pub mod Taken
