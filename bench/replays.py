@@ -9,8 +9,8 @@ LONGER = 1_500  # ms that the highest member of a list waits longer than the low
 
 
 class Refused(Exception):
-    """`replay` ended before the case did; the text is its last line. `told` has the words of the lines before it, of rows
-    that were handed over with the one that ended it."""
+    """`replay` ended before the case did; the text is its last line. `told` has the words of the lines before it that
+    are of rows handed over with the one that ended it."""
 
     def __init__(self, text: str, told: Sequence[List[str]] = ()) -> None:
         super().__init__(text)
