@@ -1,5 +1,5 @@
 -- Answers of a node to another one are made in the order of the calls, and behind the first frames of these.
-use Rattle.std.proofs.Common.{◌≡◌, ℕ, zero, suc, ◌+◌, ◌<◌, ◌≤◌, Bool, true, false, List, [], ◌∷◌, ◌++◌, length, length-append, map, refl, sym, ap, subst, ◌∙◌, arith, ◌⊎◌, inl, inr, Option, None, append_assoc}
+use Rattle.std.proofs.Common.{◌≡◌, ℕ, zero, suc, ◌+◌, ◌≤◌, Bool, true, false, List, [], ◌∷◌, ◌++◌, map, refl, sym, ap, subst, ◌∙◌, arith, ◌⊎◌, inl, inr, Option, None, append_assoc}
 use Rattle.std.specs.Prelude.{◌==◌, ◌&&◌, max, nat_eq, slice_index_or, if◌then◌else◌}
 use Rattle.std.proofs.lemmas.Bool.Decides.{eqb_tells}
 use Rattle.can_frame.specs.declared.identifier.Ident.{Ident}
@@ -8,8 +8,7 @@ use Rattle.can_frame.specs.declared.identifier.Kind.TheVariants.{Request, Respon
 use Rattle.can_frame.specs.declared.mark.Mark.{Mark}
 use Rattle.can_frame.specs.declared.step.Judged.TheVariants.{Fine}
 use Rattle.can_frame.specs.declared.step.What.{What}
-use Rattle.can_frame.specs.declared.step.What.TheVariants.{Alloc, App, Vote}
-use Rattle.can_frame.specs.declared.tail.Tail.{Tail}
+use Rattle.can_frame.specs.declared.step.What.TheVariants.{App, Vote}
 use Rattle.can_frame.specs.Cutting.{Piece, frames_before_last, frames_of as pieces_of, piece_from}
 use Rattle.can_frame.specs.Identifier.{identifier_number}
 use Rattle.can_frame.specs.Kinds.{is_anonymous}
@@ -35,7 +34,7 @@ use Rattle.alloc_spec.specs.Services.{is_listed}
 use Rattle.alloc_spec.specs.Step.{Event, step}
 use Rattle.alloc_spec.specs.Step.Event.{Rx as Receives}
 use Rattle.alloc_spec.specs.StepState.{StepState}
-use Rattle.alloc_spec.specs.Transfers.{Offer, SentTransfer, ident_of, kind_of, number_of, signature_of}
+use Rattle.alloc_spec.specs.Transfers.{Offer, SentTransfer, ident_of, kind_of, number_of}
 use Rattle.alloc_spec_laws.specs.Responses.{AnswersAsked, IsResponse, ResponsesAnswer}
 use Rattle.bus_spec.specs.declared.unlawful.Unlawful.{Unlawful}
 use Rattle.alloc_spec.specs.ClusterMembers.{AreMembers}
@@ -55,7 +54,7 @@ use Rattle.bus_agreement.proofs.Lists.{both, equal, in_append, in_back, in_front
 use Rattle.bus_agreement.proofs.MadeTransfers.{IsNew, made_when, still_made}
 use Rattle.bus_agreement.proofs.OneRow.{is_fine, stands}
 use Rattle.bus_agreement.proofs.OneRowMore.{lawful as one_more}
-use Rattle.bus_agreement.proofs.Pieces.{no_piece, piece_read, theirs}
+use Rattle.bus_agreement.proofs.Pieces.{no_piece}
 use Rattle.bus_agreement.proofs.RowsWithoutEvents.{is_one, past_first}
 use Rattle.bus_agreement.proofs.WholeTransfers.{IsFrom, from_bus, members_own}
 use Rattle.bus_rows.specs.Timed.{Timed}

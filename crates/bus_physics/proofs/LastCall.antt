@@ -1,6 +1,6 @@
 -- After a step the call that waits for a node that was called in it is the one of this step.
-use Rattle.std.proofs.Common.{◌≡◌, ℕ, ◌≤◌, Bool, true, false, List, [], ◌∷◌, refl, sym, ap, subst, ◌∙◌, arith, ◌⊎◌, inl, inr, Option, Some, None}
-use Rattle.std.specs.Prelude.{◌==◌, drop, length, if◌then◌else◌}
+use Rattle.std.proofs.Common.{◌≡◌, ℕ, ◌≤◌, Bool, true, false, List, [], ◌∷◌, refl, sym, ap, ◌∙◌, arith, ◌⊎◌, inl, inr, Option, Some, None}
+use Rattle.std.specs.Prelude.{◌==◌, drop, if◌then◌else◌}
 use Rattle.std.proofs.lemmas.Bool.Decides.{eqb_tells}
 use Rattle.can_frame.specs.declared.step.What.{What}
 use Rattle.can_frame.specs.declared.step.What.TheVariants.{AppQ, VoteQ}
@@ -13,15 +13,11 @@ use Rattle.raft_model.specs.Moves.{Move, memory_after}
 use Rattle.raft_model.specs.Moves.Leading.{append_request, memory_with_call, vote_request}
 use Rattle.raft_model.specs.Moves.Move.{CallForVote, CallToAppend}
 use Rattle.raft_model.specs.Server.{Memory}
-use Rattle.transfer_rx.specs.Reassembly.{Answer, Continues, Drops, Gives}
 use Rattle.alloc_spec.specs.Ending.{append_call_bytes, calls_all, calls_by, calls_owed, calls_peer, commit_phase, tell_phase, vote_call_bytes}
-use Rattle.alloc_spec.specs.Step.{Event, begin_phase, event_phase, moment_of, step, with_answer, with_sessions}
-use Rattle.alloc_spec.specs.Step.Event.{Rx, Tick}
+use Rattle.alloc_spec.specs.Step.{Event, begin_phase, event_phase, moment_of, step}
 use Rattle.alloc_spec.specs.StepState.{StepState, with_moves, with_transfer}
-use Rattle.alloc_spec.specs.Tick.{clock_phase}
 use Rattle.alloc_spec.specs.AllocatorState.{AllocatorState, members_of}
 use Rattle.alloc_spec.specs.Transfers.{Offer, has_room, id_of}
-use Rattle.alloc_spec_laws.specs.Apart.{AreAllApart}
 use Rattle.alloc_spec_laws.proofs.Choices.{either}
 use Rattle.alloc_spec_laws.proofs.DistinctTransfers.{rank, sent}
 use Rattle.alloc_spec_laws.proofs.EndOffers.{Told, tells}

@@ -31,6 +31,7 @@ pub mod HeardAnswers
 pub mod RoundCalls
 pub mod AnswerOrder
 pub mod AnswersHeard
+pub mod Bursts
 pub mod TurnedAnswers
 pub mod Scheduled
 pub mod Traced

@@ -9,7 +9,7 @@ use Rattle.transfer_rx.specs.Acceptance.{first_signature}
 use Rattle.transfer_tx.specs.Queue.{Queued}
 use Rattle.alloc_spec.specs.Accepted.{rows as accepted_rows}
 use Rattle.alloc_spec.specs.AllocatorState.{AllocatorState}
-use Rattle.alloc_spec.specs.Step.{Event, step}
+use Rattle.alloc_spec.specs.Step.{Event}
 use Rattle.alloc_spec.specs.Transfers.{number_of}
 use Rattle.alloc_spec_laws.specs.Responses.{ResponsesAnswer}
 use Rattle.alloc_spec.specs.ClusterMembers.{AreMembers}

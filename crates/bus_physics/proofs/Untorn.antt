@@ -45,11 +45,11 @@ use Rattle.bus_agreement.specs.LawsBelow.{FrameLaws}
 use Rattle.bus_agreement.specs.Shows.{Shows}
 use Rattle.bus_agreement.proofs.DeliveredTransfers.{HasTaken, IsOfKey}
 use Rattle.bus_agreement.proofs.Idents.{IsWanted, one_what, wanted_is}
-use Rattle.bus_agreement.proofs.Lists.{equal, in_append, never, tell}
+use Rattle.bus_agreement.proofs.Lists.{equal, in_append, in_back, in_front, never, tell}
 use Rattle.bus_agreement.proofs.OneRow.{stands}
 use Rattle.bus_agreement.proofs.WholeTransfers.{forged_allocation}
 use Rattle.bus_rows.specs.Timed.{Timed}
-use Rattle.bus_physics.specs.Physics.{AllocatesApart, AreApart, ComesInOrderToDevice, ComesInTime, HasKey, IsParted, GoesOn, Limits, WhereIts, Reading, now_of, time_of, IsRecent, window}
+use Rattle.bus_physics.specs.Physics.{AllocatesApart, AreApart, HasComeOf, ComesInOrderToDevice, ComesInTime, HasKey, IsParted, GoesOn, Limits, WhereIts, Reading, now_of, time_of, IsRecent, window}
 use Rattle.bus_physics.specs.Reuse.{AreOfOne, AreOfTwo, IsFrameOf}
 use Rattle.bus_physics.proofs.Devices.{IsKnown, IsTimely, StandsBefore, soon, IsClose}
 use Rattle.bus_physics.proofs.InTime.{AreClose, Heard, IsIdle, IsInTime, IsYoung, close_more, comes, filtered, found}
@@ -143,17 +143,24 @@ module _ (limits : Limits) (all : List Timed) (sane : limits.drift < 58000) (pas
   timed_taken session is = taken_by session is.own
       (comes (IsKnown limits all frames) (IsClose limits all limits.drift) past sessions inv arrival.moment key session is)
 
-  pub each_taken : (hs : List Heard) → ((h : Heard) → In h hs → IsKnown limits all frames key h) → (b : Arrival) → In b (map (λ (h : Heard). h.arrival) hs)
-      → CameFrom frames b × IsOfKey device.setting key b
-  each_taken hs each b i =
-      let r = map_in hs b i in
-      let known = each r.0 r.1 in
-      (subst (λ (c : Arrival). CameFrom frames c) r.2 known.came, subst (λ (c : Arrival). IsOfKey device.setting key c) r.2 known.of_key)
+  -- all of them stand among these
+  module _ (more : List Queued) (within : (f : Queued) → In f frames → In f more) where
+    came_from : (b : Arrival) → CameFrom frames b → CameFrom more b
+    came_from b c =
+        record { frame = c.frame; there = within c.frame c.there; id = c.id; bytes = c.bytes; mark = c.mark }
 
-  abbrev pub has : (session : Session) → IsIdleOrOf key (recent_sessions arrival.moment sessions) session → HasTaken frames device.setting key session
-  has session is = record {
+    pub each_taken : (hs : List Heard) → ((h : Heard) → In h hs → IsKnown limits all frames key h) → (b : Arrival) → In b (map (λ (h : Heard). h.arrival) hs)
+        → CameFrom more b × IsOfKey device.setting key b
+    each_taken hs each b i =
+        let r = map_in hs b i in
+        let known = each r.0 r.1 in
+        (subst (λ (c : Arrival). CameFrom more c) r.2 (came_from r.0.arrival known.came), subst (λ (c : Arrival). IsOfKey device.setting key c) r.2 known.of_key)
+
+  abbrev pub has : (more : List Queued) → ((f : Queued) → In f frames → In f more) → (session : Session)
+      → IsIdleOrOf key (recent_sessions arrival.moment sessions) session → HasTaken more device.setting key session
+  has more within session is = record {
     arrivals = map (λ (h : Heard). h.arrival) (timed_taken session is).heard;
-    each = each_taken (timed_taken session is).heard (timed_taken session is).each;
+    each = each_taken more within (timed_taken session is).heard (timed_taken session is).each;
     taken = (timed_taken session is).taken ∙ mapped piece_in (timed_taken session is).heard;
     marks = (timed_taken session is).marks ∙ mapped (λ (b : Arrival). b.mark) (timed_taken session is).heard;
   }
@@ -247,8 +254,9 @@ of_it {A} a is = by (a == a) refl is where
 
 module _ (laws : FrameLaws) (choice : ℕ → Bool) (made : List SentTransfer) (w : Cluster) (run : raft.World) (members : AreMembers w.ids)
     (shows : Shows choice made w run) (limits : Limits) (all : List Timed) (sane : limits.drift < 58000) (now : Timed) (a k ms word : ℕ)
-    (row : now.row ≡ ARx a k ms word) (back : limits.since ≤ now.at - window limits) (before : StandsBefore limits all a w now) (heard : List Queued)
-    (few : AreShortOf made) (Ordered : Type 0) (slowly : AllocatesApart limits all made heard Ordered) (order : Ordered → ComesInOrderToDevice limits all heard (frame_at w.frames k))
+    (row : now.row ≡ ARx a k ms word) (back : limits.since ≤ now.at - window limits) (heard : List Queued) (before : StandsBefore limits all a w heard now)
+    (on_bus : (f : Queued) → In f heard → In f w.frames)
+    (few : AreShortOf made) (Ordered : Type 0) (slowly : AllocatesApart limits all made heard (frame_at w.frames k) Ordered) (order : Ordered → ComesInOrderToDevice limits all heard (frame_at w.frames k))
     (follows : Ordered → KeptIn limits all a heard (w.allocatee a))
     (x : Device) (there : w.allocatee a ≡ Some x) (inside : In (frame_at w.frames k) w.frames) where
   abbrev coming : Arrival
@@ -288,12 +296,12 @@ module _ (laws : FrameLaws) (choice : ℕ → Bool) (made : List SentTransfer) (
       forged = forged_allocation w.ids d.ident allocation.0 allocation.1
 
       abbrev taken : (session : Session) → IsIdleOrOf (key_of d.ident) (recent_sessions coming.moment x.sessions) session
-          → TakenInTime limits all sane before.past now.at w.frames x.sessions (before.inv x there) coming goes (key_of d.ident) session
-      taken session is = timed_taken limits all sane before.past now.at w.frames x.sessions (before.inv x there) coming goes (key_of d.ident) session is
+          → TakenInTime limits all sane before.past now.at heard x.sessions (before.inv x there) coming goes (key_of d.ident) session
+      taken session is = timed_taken limits all sane before.past now.at heard x.sessions (before.inv x there) coming goes (key_of d.ident) session is
 
       abbrev kept : (session : Session) → IsIdleOrOf (key_of d.ident) (recent_sessions coming.moment x.sessions) session
           → HasTaken w.frames device.setting (key_of d.ident) session
-      kept session is = has limits all sane before.past now.at w.frames x.sessions (before.inv x there) coming goes (key_of d.ident) session is
+      kept session is = has limits all sane before.past now.at heard x.sessions (before.inv x there) coming goes (key_of d.ident) w.frames on_bus session is
 
       came : CameFrom w.frames coming
       came = record { frame = frame_at w.frames k; there = inside; id = refl; bytes = refl; mark = refl }
@@ -344,12 +352,47 @@ module _ (laws : FrameLaws) (choice : ℕ → Bool) (made : List SentTransfer) (
       piece_tail h i = tails_of (map (λ (g : Heard). g.arrival) hs ++ coming ∷ []) its.w.signature d.id d.payload cutting h.arrival
           (subst (λ (l : List Arrival). In h.arrival l) whole_list (in_mapped h (hs ++ last ∷ []) i))
 
-      offer_id : (y : SentTransfer) (h : Heard) → In y made → IsFrameOf y h.arrival → In h (hs ++ last ∷ []) → y.offer.id ≡ c.session.expected
-      offer_id y h made_there is i =
+      tail_is : (y : SentTransfer) (h : Heard) → In y made → IsFrameOf y h.arrival → (piece_in h.arrival).tail.id ≡ y.offer.id
+      tail_is y h made_there is =
           let place = piece_id (signature_of y.offer.what) y.offer.id y.offer.payload h.arrival.mark.place is.place in
           let read : piece_in h.arrival ≡ slice_index_or (pieces_of (signature_of y.offer.what) y.offer.id y.offer.payload) h.arrival.mark.place (piece_from []) =
           ap piece_from is.bytes ∙ laws.piece_read _ (subst (λ (m : ℕ). m < 32) (sym place) (shows.holds.transfers.ranges y made_there).id) in
-          sym place ∙ (ap (λ (p : Piece). p.tail.id) (sym read) ∙ (piece_tail h i ∙ (its.id ∙ expected)))
+          ap (λ (p : Piece). p.tail.id) read ∙ place
+
+      offer_id : (y : SentTransfer) (h : Heard) → In y made → IsFrameOf y h.arrival → In h (hs ++ last ∷ []) → y.offer.id ≡ c.session.expected
+      offer_id y h made_there is i = sym (tail_is y h made_there is) ∙ (piece_tail h i ∙ (its.id ∙ expected))
+
+      -- a frame of it came
+      has_come : (y : SentTransfer) (h : Heard) → In y made → IsFrameOf y h.arrival → In h (hs ++ last ∷ [])
+          → HasComeOf (heard ++ frame_at w.frames k ∷ []) y
+      has_come y h made_there is i = by (elim (in_append h hs (last ∷ []) i) [
+        | inl j ↦ let known = ((taken c.session same_key).each h j).came in
+            record {
+              frame = known.frame;
+              there = in_front known.frame heard (frame_at w.frames k ∷ []) known.there;
+              id = known.id;
+              bytes = known.bytes;
+              mark = known.mark;
+            }
+        | inr (inl e) ↦ subst (λ (g : Heard). CameFrom (heard ++ frame_at w.frames k ∷ []) g.arrival) (sym e)
+            (record {
+              frame = frame_at w.frames k;
+              there = in_back (frame_at w.frames k) heard (frame_at w.frames k ∷ []) (inl refl);
+              id = refl;
+              bytes = refl;
+              mark = refl;
+            })
+        | inr (inr j) ↦ absurd j
+      ])
+        where
+          by : CameFrom (heard ++ frame_at w.frames k ∷ []) h.arrival → HasComeOf (heard ++ frame_at w.frames k ∷ []) y
+          by from = record {
+            frame = from.frame;
+            came = from.there;
+            ident = sym from.id ∙ is.ident;
+            step = sym (ap (λ (m : Mark). m.step) from.mark) ∙ is.step;
+            id = sym (ap (λ (bytes : List ℕ). (piece_from bytes).tail.id) from.bytes) ∙ tail_is y h made_there is;
+          }
 
       in_sessions : (m : Mark) → In m c.session.marks → In c.session x.sessions
       in_sessions m j = by same_key.idle_or_there where
@@ -393,12 +436,12 @@ module _ (laws : FrameLaws) (choice : ℕ → Bool) (made : List SentTransfer) (
 
       of_two : AreOfTwo made d.ident coming (map (λ (h : Heard). h.arrival) hs ++ coming ∷ []) → ⊥
       of_two two = elim (lt_trichotomy two.first.step two.second.step) [
-        | inl less ↦ elim (slowly two.first two.second two.twice.first_made two.twice.second_made what (sym two.twice.what ∙ what) two.twice.by two.twice.id less first_recent second_recent) [
+        | inl less ↦ elim (slowly two.first two.second two.twice.first_made two.twice.second_made what (sym two.twice.what ∙ what) two.twice.by two.twice.id less first_recent second_recent first_come second_come) [
           | inl far ↦ near far
           | inr part ↦ parted two.first two.second two.twice.first_made first_recent part pair.first pair.first_in (subst (λ (b : Arrival). IsFrameOf two.first b) (sym pair.one_is) two.of_first)
         ]
         | inr more ↦ elim (slowly two.second two.first two.twice.second_made two.twice.first_made (sym two.twice.what ∙ what) what (sym two.twice.by) (sym two.twice.id)
-            (below (two.twice.apart) more) second_recent first_recent) [
+            (below (two.twice.apart) more) second_recent first_recent second_come first_come) [
               | inl (inl far) ↦ near (inr far)
               | inl (inr far) ↦ near (inl far)
               | inr part ↦ parted two.second two.first two.twice.second_made second_recent part pair.second pair.second_in (subst (λ (b : Arrival). IsFrameOf two.second b) (sym pair.next_is) two.of_second)
@@ -421,6 +464,12 @@ module _ (laws : FrameLaws) (choice : ℕ → Bool) (made : List SentTransfer) (
               → AreApart (limits.hold + 2000 + limits.drift) m n → ⊥
           apart_not m n p q a b c d e f (inl h) = absurd (omega (arith, a, b, c, d, e, f, h))
           apart_not m n p q a b c d e f (inr h) = absurd (omega (arith, a, b, c, d, e, f, h))
+
+          first_come : HasComeOf (heard ++ frame_at w.frames k ∷ []) two.first
+          first_come = has_come two.first pair.first two.twice.first_made (subst (λ (b : Arrival). IsFrameOf two.first b) (sym pair.one_is) two.of_first) pair.first_in
+
+          second_come : HasComeOf (heard ++ frame_at w.frames k ∷ []) two.second
+          second_come = has_come two.second pair.second two.twice.second_made (subst (λ (b : Arrival). IsFrameOf two.second b) (sym pair.next_is) two.of_second) pair.second_in
 
           first : IsTimely limits all pair.first.arrival pair.first.at
           first = timely pair.first pair.first_in
@@ -491,10 +540,11 @@ module _ (laws : FrameLaws) (choice : ℕ → Bool) (made : List SentTransfer) (
 
 pub no_torn_row : (laws : FrameLaws) (choice : ℕ → Bool) (made : List SentTransfer) (w : Cluster) (run : raft.World) (members : AreMembers w.ids)
     (shows : Shows choice made w run) (limits : Limits) (all : List Timed) → limits.drift < 58000 → (now : Timed) (a k ms word : ℕ)
-    → now.row ≡ ARx a k ms word → limits.since ≤ now.at - window limits → StandsBefore limits all a w now → (heard : List Queued) → AreShortOf made → (Ordered : Type 0) → AllocatesApart limits all made heard Ordered
+    → now.row ≡ ARx a k ms word → limits.since ≤ now.at - window limits → (heard : List Queued) → StandsBefore limits all a w heard now → ((f : Queued) → In f heard → In f w.frames) → AreShortOf made → (Ordered : Type 0)
+    → AllocatesApart limits all made heard (frame_at w.frames k) Ordered
     → (Ordered → ComesInOrderToDevice limits all heard (frame_at w.frames k)) → (Ordered → KeptIn limits all a heard (w.allocatee a)) → IsSingle w.ids w → cause w (ARx a k ms word) ≡ Some unlawful.Torn → ⊥
-no_torn_row laws choice made w run members shows limits all sane now a k ms word row back before heard few Ordered slowly order follows single e =
+no_torn_row laws choice made w run members shows limits all sane now a k ms word row back heard before on_bus few Ordered slowly order follows single e =
     let r : IsRefusedAt w a k ms Torn = refused_at unlawful.Torn Torn of_torn w a k ms word e in
     let b = torn_at_device r.x (arrival_at (frame_at w.frames k) ms) r.judgement in
-    never_torn laws choice made w run members shows limits all sane now a k ms word row back before heard few Ordered slowly order follows r.x r.there (stands w k r.frame_there)
+    never_torn laws choice made w run members shows limits all sane now a k ms word row back heard before on_bus few Ordered slowly order follows r.x r.there (stands w k r.frame_there)
     b.delivery b.gives b.is (marked_at_device r.x (arrival_at (frame_at w.frames k) ms) r.judgement) (single.bus (frame_at w.frames k) (stands w k r.frame_there))

@@ -1,5 +1,6 @@
 pub mod Physics
 pub mod Reuse
+pub mod Burst
 pub mod Example
 pub mod Schedule
 pub mod Processes

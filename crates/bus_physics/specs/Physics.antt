@@ -302,8 +302,8 @@ abbrev pub may_be_long : What → Bool
 may_be_long Alloc = true
 may_be_long what = is_long_to_member what
 
--- No member uses a transfer ID again so soon for transfers of this kind to member n. Or member n heard a transfer that
--- it made between the two.
+-- No member uses a transfer ID again so soon for transfers of this kind to member n, unless member n heard a transfer
+-- that was made between the two.
 abbrev pub UsesIdsApart : Limits → List Timed → List SentTransfer → List Queued → ℕ → What → Type 0
 UsesIdsApart limits all made heard n what = (x y : SentTransfer) → In x made → In y made → x.by ≡ y.by
     → x.offer.what ≡ what → y.offer.what ≡ what → x.offer.to ≡ n → y.offer.to ≡ n → x.offer.id ≡ y.offer.id
@@ -340,12 +340,21 @@ ComeInOrderToDevice limits all a heard w [] = ⊤
 ComeInOrderToDevice limits all a heard w (row ∷ rows) = IsInOrderToDevice limits all a heard w row
     × ComeInOrderToDevice limits all a (heard ++ device_heard_in a w row) (after_row w row) rows
 
--- No member uses a transfer ID of its Allocations again within the longest hold and two seconds, also where it was
--- started again in between; or frames come in order, and the allocatee heard an Allocation that the member made between
--- the two.
-abbrev pub AllocatesApart : Limits → List Timed → List SentTransfer → List Queued → Type 0 → Type 0
-AllocatesApart limits all made heard Ordered = (x y : SentTransfer) → In x made → In y made → x.offer.what ≡ Alloc
-    → y.offer.what ≡ Alloc → x.by ≡ y.by → x.offer.id ≡ y.offer.id → x.step < y.step
+-- a frame of this transfer came
+pub record HasComeOf (heard : List Queued) (x : SentTransfer) : Type 0 where
+  pub frame : Queued
+  pub came : In frame heard
+  pub ident : frame.id ≡ identifier_number (ident_of x.by x.offer.what x.offer.to)
+  pub step : frame.mark.step ≡ x.step
+  pub id : (piece_from frame.bytes).tail.id ≡ x.offer.id
+
+-- Where frames of two Allocations of a member come to an allocatee, it used no transfer ID for both within the longest
+-- hold and two seconds, also where it was started again in between; or frames come in order, and the allocatee heard an
+-- Allocation that the member made between the two. Of Allocations that do not come nothing is asked.
+abbrev pub AllocatesApart : Limits → List Timed → List SentTransfer → List Queued → Queued → Type 0 → Type 0
+AllocatesApart limits all made heard coming Ordered = (x y : SentTransfer) → In x made → In y made
+    → x.offer.what ≡ Alloc → y.offer.what ≡ Alloc → x.by ≡ y.by → x.offer.id ≡ y.offer.id → x.step < y.step
     → IsRecent limits all x.step → IsRecent limits all y.step
+    → HasComeOf (heard ++ coming ∷ []) x → HasComeOf (heard ++ coming ∷ []) y
     → AreApart (joining_span limits limits.drift) (time_of all x.step) (time_of all y.step)
     ⊎ (Ordered × IsParted heard x y)

@@ -1,5 +1,5 @@
 -- A run of `node` in a trace whose rows happen at times on a physical bus.
-use Rattle.std.specs.Prelude.{◌≡◌, ◌⊎◌, ℕ, List, [], ◌++◌}
+use Rattle.std.specs.Prelude.{◌≡◌, ◌⊎◌, ℕ, List, ◌++◌}
 use Rattle.alloc_spec.specs.Rules.{Rules}
 use Rattle.alloc_spec.specs.ClusterMembers.{AreMembers}
 use Rattle.bus_spec.specs.Cluster.{cluster}

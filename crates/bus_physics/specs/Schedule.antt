@@ -35,7 +35,7 @@ pub record MemberHears (limits : Limits) (ids : List ℕ) (before : List Timed) 
 pub record DeviceHears (limits : Limits) (ids : List ℕ) (before : List Timed) (now : Timed) (a k : ℕ) : Type 0 where
   pub comes : DeviceRowsArePhysical limits (before ++ now ∷ []) a [] (cluster ids) (before ++ now ∷ [])
   pub slow : AllocatesApart limits (before ++ now ∷ []) (transfers_of_rows (cluster ids) (rows_in before) [])
-      (device_heard_by a (cluster ids) (rows_in before))
+      (device_heard_by a (cluster ids) (rows_in before)) (frame_at (world_of ids (rows_in before)).frames k)
       (ComeInOrderToDevice limits (before ++ now ∷ []) a [] (cluster ids) (rows_in before)
       × ComesInOrderToDevice limits (before ++ now ∷ []) (device_heard_by a (cluster ids) (rows_in before))
       (frame_at (world_of ids (rows_in before)).frames k))

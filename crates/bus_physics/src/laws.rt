@@ -24,6 +24,7 @@ ghost use Rattle.bus_physics.specs.Physics.{ClockIsNotFast, HoldsAreShort, Limit
 ghost use Rattle.bus_physics.specs.Physics.{WaitsForAnswers, heard_by, lag, window};
 ghost use Rattle.bus_rows.specs.Timed.{rows_in};
 ghost use Rattle.bus_physics.specs.Physics.{is_long_to_member, may_be_long};
+ghost use Rattle.bus_physics.specs.Burst.{frame_numbered, frames_numbered, numbered_from, ticks_from};
 ghost use Rattle.bus_physics.specs.Example.{afterwards, at_allocatee, at_member, before as first_rows, everything};
 ghost use Rattle.bus_physics.specs.Example.{limits as some_limits, two, two_minutes_later, with_bad_minute};
 ghost use Rattle.bus_physics.specs.Reuse.{IsStaleAt, IsTornAt, IsTornAtDevice, LacksFrames};
@@ -82,16 +83,16 @@ pub fn other_transfers_have_one_frame()
 
 /// An allocatee on a physical bus, whatever frames are lost, come twice or overtake each other, takes nothing
 /// torn: where each frame comes after it was made and within the longest hold, where the allocatee's clock goes
-/// on with the time, and where no member uses a transfer ID of its Allocations again too soon; or where frames come in
-/// order, and the allocatee heard another Allocation between the two.
+/// on with the time, and where no member uses a transfer ID too soon for two Allocations of which frames come; or where
+/// frames come in order, and the allocatee heard another Allocation between the two.
 pub fn a_device_puts_nothing_together_of_two()
     ensures { (limits : Limits) (ids : List ℕ) (before : List Timed) (now : Timed) (a k ms word : ℕ) →
         AreMembers ids → limits.drift < 58000 → limits.since ≤ now.at - window limits → now.row ≡ ARx a k ms word →
         AreLawful (cluster ids) (rows_in before) →
         DeviceRowsArePhysical limits (before ++ now ∷ []) a [] (cluster ids) (before ++ now ∷ []) →
         AllocatesApart limits (before ++ now ∷ []) (transfers_of_rows (cluster ids) (rows_in before) [])
-        (device_heard_by a (cluster ids) (rows_in before)) (ComeInOrderToDevice limits
-        (before ++ now ∷ []) a [] (cluster ids) (rows_in before) ×
+        (device_heard_by a (cluster ids) (rows_in before)) (frame_at (world_of ids (rows_in before)).frames k)
+        (ComeInOrderToDevice limits (before ++ now ∷ []) a [] (cluster ids) (rows_in before) ×
         ComesInOrderToDevice limits (before ++ now ∷ []) (device_heard_by a (cluster ids) (rows_in before))
         (frame_at (world_of ids (rows_in before)).frames k)) →
         cause (world_of ids (rows_in before)) (ARx a k ms word) ≡ Some Torn → ⊥ }
@@ -217,8 +218,10 @@ pub fn a_member_puts_nothing_together_of_two()
 
 /// The premises can be met: in this cluster a member hears a frame of another one twice, as CAN repeats it, and an
 /// allocatee hears it too. Beyond a minute a clock may lose (`slow`) and gain (`quick`) more than the drift and a turn.
-/// A frame that comes a minute late breaks them (`bad`), as does the turn of 1,500 ms that takes it (`slow_turn`), and
-/// those of a frame that comes 13 s later hold (`healed`).
+/// A frame that comes a minute late breaks the premises (`bad`), and so does a turn of 1,500 ms (`slow_turn`). The
+/// premises of a frame that comes 13 s behind both hold (`healed`). Of forty Allocations within half a second an
+/// allocatee may hear the first thirty-two (`burst`), or the last (`last`); and where nothing is said of the order of
+/// their frames, not one more (`more`).
 pub fn premises_can_be_met()
     ensures lawful { AreLawful (cluster two) (rows_in first_rows) }
     ensures clock { ClockGoesOn some_limits 2 [] (cluster two) (first_rows ++ at_member ∷ []) }
@@ -246,6 +249,12 @@ pub fn premises_can_be_met()
     ensures slow_turn { ClockGoesOn some_limits 2 [] (cluster two) with_bad_minute → ⊥ }
     ensures but_lawful { AreLawful (cluster two) (rows_in (with_bad_minute ++ afterwards ∷ [])) }
     ensures healed { HappenOnBus some_limits two with_bad_minute (afterwards ∷ []) }
+    ensures burst { AllocatesApart some_limits (ticks_from 0 40) (numbered_from 0 40) (frames_numbered 0 31)
+        (frame_numbered 31) ⊥ }
+    ensures last { AllocatesApart some_limits (ticks_from 0 40) (numbered_from 0 40) (frames_numbered 8 31)
+        (frame_numbered 39) ⊥ }
+    ensures more { AllocatesApart some_limits (ticks_from 0 40) (numbered_from 0 40) (frames_numbered 0 32)
+        (frame_numbered 32) ⊥ → ⊥ }
 {}
 
 /// On a physical bus a schedule whose rows are otherwise lawful is lawful, whatever frames are lost: but for a row at

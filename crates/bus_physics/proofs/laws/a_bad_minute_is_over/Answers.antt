@@ -1,4 +1,4 @@
-use Rattle.std.proofs.Common.{◌<◌, ◌≤◌, arith, refl}
+use Rattle.std.proofs.Common.{◌<◌, arith, refl}
 use Rattle.std.specs.Prelude.{[], ◌∷◌, ◌++◌}
 use Rattle.bus_spec.specs.Cluster.{world_of}
 use Rattle.bus_rows.specs.Timed.{rows_in}

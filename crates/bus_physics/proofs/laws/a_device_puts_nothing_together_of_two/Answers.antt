@@ -10,6 +10,7 @@ use Rattle.bus_rows.specs.Timed.{rows_in}
 use Rattle.bus_physics.specs.Physics.{ComeInOrderToDevice, ComesInOrderToDevice, device_heard_by}
 use Rattle.bus_physics.proofs.FollowingDevices.{follow_device}
 use Rattle.bus_physics.proofs.Devices.{SessionLaws, along}
+use Rattle.bus_physics.proofs.HeardOnBus.{device_heard_on_bus}
 use Rattle.bus_physics.proofs.Single.{IsSingle, single}
 use Rattle.bus_physics.proofs.Torn.{of_its_key}
 use Rattle.bus_physics.proofs.Untorn.{no_torn_row}
@@ -23,8 +24,9 @@ returns c = λ limits ids before now a k ms word members sane back row lawful ph
     no_torn_row c.what_is_said_of_frames.ensures chosen.0 (transfers_of_rows (cluster ids) rows []) (world_of ids rows)
     (run (initial_world ids) (events chosen.0 (cluster ids) rows)) (subst AreMembers (sym (ids_stay (cluster ids) rows)) members)
     (c.rows_are_shown.ensures chosen.0 ids rows members (c.lawful_rows_do_no_harm.ensures (cluster ids) rows lawful) chosen.1).shows limits (before ++ now ∷ []) sane now a k ms word row back
-    (along limits (before ++ now ∷ []) laws (λ key b is. of_its_key device.setting key b is) sane a now before (cluster ids) []
-    (λ x is. absurd (cc (is))) physical lawful) (device_heard_by a (cluster ids) rows)
+    (device_heard_by a (cluster ids) rows)
+    (along limits (before ++ now ∷ []) laws (λ key b is. of_its_key device.setting key b is) sane a now before (cluster ids) [] []
+    (λ x is. absurd (cc (is))) physical) (λ f i. device_heard_on_bus a rows (cluster ids) lawful f i)
     (λ x there what. c.an_allocation_has_at_most_three_frames.ensures ids rows x members lawful there what)
     (ComeInOrderToDevice limits (before ++ now ∷ []) a [] (cluster ids) rows
     × ComesInOrderToDevice limits (before ++ now ∷ []) (device_heard_by a (cluster ids) rows) (frame_at (world_of ids rows).frames k)) slowly

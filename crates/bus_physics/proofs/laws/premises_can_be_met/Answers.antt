@@ -25,6 +25,7 @@ use Rattle.bus_physics.specs.Example.{afterwards, again, at_allocatee, at_member
 use Rattle.bus_rows.specs.Timed.{Timed, rows_in}
 use Rattle.bus_physics.specs.Physics.{AllComeInOrder, ClockIsNotFast, ComeInOrder, ComesInOrder, ComesInTime, GoesOn, IsNotFast, Limits, Reading, WhereIts, row_of, slack, time_of}
 use Rattle.bus_physics.specs.Schedule.{DeviceHears, LawfulButForBus, MemberHears, lately}
+use Rattle.bus_physics.proofs.Bursts.{one_more_breaks_it, thirty_two_heard}
 use Rattle.bus_physics.proofs.laws.premises_can_be_met.Goals as goal
 
 pub returns-clause-lawful : goal.returns-clause-lawful
@@ -295,7 +296,7 @@ device_hears = record {
       ),
     ),
   );
-  slow = λ x y i j what other by id less recent recent_too. absurd (omega (arith, made_last x i, made_last y j, less));
+  slow = λ x y i j what other by id less recent recent_too come come_too. absurd (omega (arith, made_last x i, made_last y j, less));
 }
 
 pub returns-clause-bus : goal.returns-clause-bus
@@ -456,3 +457,12 @@ healed_hears = record {
 
 pub returns-clause-healed : goal.returns-clause-healed
 returns-clause-healed c = (healed_hears, tt)
+
+pub returns-clause-burst : goal.returns-clause-burst
+returns-clause-burst c = thirty_two_heard 0
+
+pub returns-clause-last : goal.returns-clause-last
+returns-clause-last c = thirty_two_heard 8
+
+pub returns-clause-more : goal.returns-clause-more
+returns-clause-more c = one_more_breaks_it

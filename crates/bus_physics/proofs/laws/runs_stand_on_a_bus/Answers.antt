@@ -1,4 +1,4 @@
-use Rattle.std.proofs.Common.{◌++◌, List, inl, inr, subst, sym}
+use Rattle.std.proofs.Common.{List, inl, inr, subst, sym}
 use Rattle.bus_spec.specs.Cluster.{cluster}
 use Rattle.cmd_node_laws.specs.Traces.{Event, MayAllHappen}
 use Rattle.bus_physics.proofs.laws.runs_stand_on_a_bus.Goals as goal

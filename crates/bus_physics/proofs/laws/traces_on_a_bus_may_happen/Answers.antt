@@ -1,6 +1,5 @@
-use Rattle.std.proofs.Common.{◌<◌, ◌≤◌, arith, refl, inl, inr}
+use Rattle.std.proofs.Common.{◌<◌, arith, refl, inl, inr}
 use Rattle.std.specs.Prelude.{[], ◌∷◌, ◌++◌}
-use Rattle.bus_spec.specs.Cluster.{cluster}
 use Rattle.bus_physics.specs.Physics.{lag}
 use Rattle.bus_physics.specs.Processes.{after_events}
 use Rattle.bus_physics.specs.Schedule.{lately}
