@@ -23,19 +23,19 @@ has_image mid new bytes has size synced sound =
     let all : bytes ≡ new.seen = whole_image new bytes sound size (λ i low. ap (λ l. slice_index l (0 + i)) synced.seen ∙ has i low) in
     record { image_is = sym all; stable = synced.stable ∙ sym synced.seen; settled = synced.settled }
 
-module _ {D : Type 0} (ghosts : Ghosts D) (old mid : List (Option D)) (p : ℕ) (place : Option D) (same : length mid ≡ length old) (within : p < length old)
-    (made : (k : ℕ) → k < p → IsMadeAt ghosts old mid k) where
+module _ {D : Type 0} (ghosts : Ghosts D) (term : ℕ) (ids : List ℕ) (old mid : List (Option D)) (p : ℕ) (place : Option D) (same : length mid ≡ length old) (within : p < length old)
+    (made : (k : ℕ) → k < p → IsMadeAt ghosts term ids old mid k) where
   -- the store at this place too
-  pub made_more : ((before : D) → slice_index_or old p None ≡ Some before → IsMade ghosts before place)
-      → (k : ℕ) → k < p + 1 → IsMadeAt ghosts old (slice_set mid p place) k
-  made_more is k below before there = elim (eqb_tells k p) as (λ _. IsMade ghosts before (slice_index_or (slice_set mid p place) k None)) [
+  pub made_more : ((before : D) → slice_index_or old p None ≡ Some before → IsMade ghosts term (slice_index ids p) before place)
+      → (k : ℕ) → k < p + 1 → IsMadeAt ghosts term ids old (slice_set mid p place) k
+  made_more is k below before there = elim (eqb_tells k p) as (λ _. IsMade ghosts term (slice_index ids k) before (slice_index_or (slice_set mid p place) k None)) [
     | inl t ↦ rw (t.1, get_or-set_same mid p place None (omega (arith, within, same))) (is before (rw (sym t.1) there))
     | inr t ↦ rw (get_or-set_other mid p k place None t.1) (made k (omega (arith, below, t.1)) before there)
   ]
 
   -- the disk at this place failed
   pub fails_at : IsSome place → ((before after : D) → slice_index_or old p None ≡ Some before → place ≡ Some after → Rose (ghosts.faults before) (ghosts.faults after))
-      → ((k : ℕ) → p < k → slice_index_or mid k None ≡ slice_index_or old k None) → FailsAt ghosts old (slice_set mid p place) p
+      → ((k : ℕ) → p < k → slice_index_or mid k None ≡ slice_index_or old k None) → FailsAt ghosts term ids old (slice_set mid p place) p
   fails_at there rose behind = let here = get_or-set_same mid p place None (omega (arith, within, same)) in record {
     within = within;
     made = λ k below before was. rw (get_or-set_other mid p k place None (λ e. omega (arith, e, below))) (made k below before was);

@@ -2,3 +2,4 @@ pub mod Disks
 pub mod Looking
 pub mod Marking
 pub mod NewImage
+pub mod StoreAbove

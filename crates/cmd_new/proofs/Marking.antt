@@ -9,26 +9,27 @@ use Rattle.kv_store.specs.Image.{length_byte}
 use Rattle.outside.specs.Faults.{Rose}
 use Rattle.cmd_new.specs.Found.{HasNoVersion, IsFound}
 use Rattle.cmd_new.specs.Marked.{FailsToMark, IsKnown, IsKnownAt, IsMarked, MarksNew}
-use Rattle.cmd_new.specs.NewImage.{new_image}
+use Rattle.cmd_new.specs.NewImage.{IsNewImage}
 use Rattle.cmd_new.specs.declared.found.Found.{Found}
 use Rattle.cmd_new.specs.declared.found.Found.TheVariants.{NoStore, NewStore, UsedStore}
-use Rattle.cmd_new.proofs.NewImage.{length_byte_is, length_is, selector}
+use Rattle.cmd_new.proofs.NewImage.{length_byte_is}
+use Rattle.cmd_new.proofs.StoreAbove.{new_front}
 
 -- a new store has a version
-pub new_has : (image : List ℕ) → HasNoVersion image → image ≡ new_image → ⊥
+pub new_has : (image : List ℕ) → HasNoVersion image → IsNewImage image → ⊥
 new_has image none is =
-    let one : length_byte new_image 0 ≡ 1 = length_byte_is new_image (selector 8844 (omega arith)) ∙ length_is 8844 (omega arith) in
-    let two : length_byte image 0 ≡ length_byte new_image 0 = ap (λ l. length_byte l 0) is in omega (arith, one, two, none)
+    let has = new_front image is in
+    let one : length_byte image 0 ≡ 1 = length_byte_is image has.0 ∙ has.2 in omega (arith, one, none)
 
 -- what was found new is marked
 pub new_is_marked : (old mid new : Contents) (image : List ℕ) → image ≡ old.seen → IsFound image NewStore → mid ≡ old → IsMarked mid new → MarksNew old new
 new_is_marked old mid new image seen is same marked = record {
   marked = λ _. subst (λ disk. IsMarked disk new) same marked;
-  kept = λ other. absurd (other (sym seen ∙ is));
+  kept = λ other. absurd (other (subst IsNewImage seen is));
 }
 
 -- what was found is no new store
-pub not_new : (image : List ℕ) (found : Found) → IsFound image found → (found ≡ NewStore → ⊥) → image ≡ new_image → ⊥
+pub not_new : (image : List ℕ) (found : Found) → IsFound image found → (found ≡ NewStore → ⊥) → IsNewImage image → ⊥
 not_new image NoStore is other same = new_has image is same
 not_new image NewStore is other same = other refl
 not_new image UsedStore is other same = is.1 same
@@ -37,7 +38,7 @@ not_new image UsedStore is other same = is.1 same
 pub other_is_kept : (old new : Contents) (image : List ℕ) (found : Found) → image ≡ old.seen → IsFound image found → (found ≡ NewStore → ⊥) → new ≡ old
     → MarksNew old new
 other_is_kept old new image found seen is other same = record {
-  marked = λ e. absurd (not_new image found is other (seen ∙ e));
+  marked = λ e. absurd (not_new image found is other (subst IsNewImage (sym seen) e));
   kept = λ _. same;
 }
 

@@ -44,6 +44,12 @@ module _ (size : ℕ) (long : 36 ≤ size) where
     | inr t ↦ get_or-replicate size i 0 0 (omega (arith, t.1))
   ]
 
+  -- where the mark would stand
+  pub no_mark : get_or (image_of size) 1 0 ≡ 0
+  unfolding image_of
+  no_mark = get_or-set_other with_length 35 1 2 0 (λ e. omega (arith, e)) ∙ get_or-set_other with_selector 34 1 1 0 (λ e. omega (arith, e))
+      ∙ get_or-set_other zeros 0 1 1 0 (λ e. omega (arith, e)) ∙ zero 1
+
   pub others : (i : ℕ) → 36 ≤ i → get_or (image_of size) i 0 ≡ 0
   unfolding image_of
   others i behind = get_or-set_other with_length 35 i 2 0 (λ e. omega (arith, e, behind)) ∙ get_or-set_other with_selector 34 i 1 0 (λ e. omega (arith, e, behind))

@@ -4,7 +4,7 @@ use Rattle.std.specs.Io.KnownBytes.{Appends}
 use Rattle.cmd_io.specs.Output.{WritesFront}
 use Rattle.cmd_io.specs.declared.status.Status.{Status}
 use Rattle.cmd_io.specs.declared.status.Status.TheVariants.{Damaged, DiskFault, Done, WriteFault}
-use Rattle.cmd_new.specs.NewImage.{new_image}
+use Rattle.cmd_new.specs.NewImage.{made_image}
 use Rattle.disk_model.specs.Contents.{Contents, IsSettled}
 use Rattle.disk_model.specs.Device.{DeviceCall}
 use Rattle.disk_model.specs.Device.DeviceCall.{Write, Sync}
@@ -17,9 +17,9 @@ pub record HasImage (image : List ℕ) (disk : Contents) : Type 0 where
   pub stable : disk.stable ≡ disk.seen
   pub settled : IsSettled disk
 
--- the image of a new store, all of it stable
-abbrev pub IsNewStore : Contents → Type 0
-IsNewStore disk = HasImage new_image disk
+-- the image of a new store for this node above this term, all of it stable
+abbrev pub IsNewStore : ℕ → ℕ → Contents → Type 0
+IsNewStore term node disk = HasImage (made_image term node) disk
 
 -- the device calls by which an image is written
 abbrev pub image_calls : List ℕ → List DeviceCall
@@ -44,19 +44,21 @@ abbrev pub IsWritten : Status → List ℕ → Option (List ℕ) → Option (Lis
 IsWritten outcome line before now status =
     ((status ≡ outcome) × Appends before now line) ⊎ ((status ≡ WriteFault) × WritesFront before now line)
 
-module _ {D : Type 0} (ghosts : Ghosts D) where
-  -- a new store was made of a disk, which counted no fault
-  pub record IsMade (before : D) (place : Option D) : Type 0 where
+-- the term above which stores are made, and whose
+module _ {D : Type 0} (ghosts : Ghosts D) (term : ℕ) where
+  -- a new store of this node was made of a disk, which counted no fault
+  pub record IsMade (node : ℕ) (before : D) (place : Option D) : Type 0 where
     pub after : D
     pub is : place ≡ Some after
     pub tells : ghosts.tells after ≡ ghosts.tells before
-    pub store : ghosts.tells before ≡ true → IsNewStore (ghosts.contents after)
+    pub store : ghosts.tells before ≡ true → IsNewStore term node (ghosts.contents after)
     pub faults : ghosts.faults after ≡ ghosts.faults before
 
-  module _ (old new : List (Option D)) where
+  module _ (ids : List ℕ) (old new : List (Option D)) where
     -- of the disk at this index, where there is one
     abbrev pub IsMadeAt : ℕ → Type 0
-    IsMadeAt k = (before : D) → slice_index_or old k None ≡ Some before → IsMade before (slice_index_or new k None)
+    IsMadeAt k = (before : D) → slice_index_or old k None ≡ Some before →
+        IsMade (slice_index ids k) before (slice_index_or new k None)
 
     -- the disk at this place failed: new stores were made of those before it, and nothing of those behind it
     pub record FailsAt (place : ℕ) : Type 0 where
@@ -68,15 +70,15 @@ module _ {D : Type 0} (ghosts : Ghosts D) where
       pub behind : (k : ℕ) → place < k → slice_index_or new k None ≡ slice_index_or old k None
 
     -- how it ends while nothing of the sink fails
-    abbrev pub Comes : List ℕ → Status → Type 0
-    Comes ids Done = (k : ℕ) → k < length old → IsMadeAt k
-    Comes ids (DiskFault id) = (place : ℕ) × FailsAt place × (id ≡ slice_index ids place)
-    Comes ids _ = ⊥
+    abbrev pub Comes : Status → Type 0
+    Comes Done = (k : ℕ) → k < length old → IsMadeAt k
+    Comes (DiskFault id) = (place : ℕ) × FailsAt place × (id ≡ slice_index ids place)
+    Comes _ = ⊥
 
   -- all of a run over the disks of these nodes
   pub record MakesStores (ids : List ℕ) (old new : List (Option D)) (before now : Option (List ℕ)) (status : Status)
       : Type 0 where
     pub outcome : Status
-    pub comes : Comes old new ids outcome
+    pub comes : Comes ids old new outcome
     pub count : length new ≡ length old
     pub written : IsWritten outcome (line_of ids outcome) before now status

@@ -2,7 +2,7 @@
 use Rattle.std.specs.Prelude.{◌≡◌, ℕ, ◌<◌, ◌≤◌, true, List, [], ◌∷◌, length, slice_index, slice_index_or, Option, Some, None}
 use Rattle.cmd_io.specs.declared.status.Status.{Status}
 use Rattle.cmd_io.specs.declared.status.Status.TheVariants.{DiskFault}
-use Rattle.cmd_new.specs.NewImage.{new_image}
+use Rattle.cmd_new.specs.NewImage.{IsNewImage}
 use Rattle.disk_model.specs.Contents.{Contents, HasBytes, IsSettled}
 use Rattle.disk_model.specs.declared.disk.Disk.{Ghosts}
 use Rattle.outside.specs.Faults.{Rose}
@@ -24,8 +24,8 @@ pub record IsMarked (old new : Contents) : Type 0 where
 
 -- a new store is marked, and any other disk keeps what it has
 pub record MarksNew (old new : Contents) : Type 0 where
-  pub marked : old.seen ≡ new_image → IsMarked old new
-  pub kept : (old.seen ≡ new_image → ⊥) → new ≡ old
+  pub marked : IsNewImage old.seen → IsMarked old new
+  pub kept : (IsNewImage old.seen → ⊥) → new ≡ old
 
 module _ {D : Type 0} (ghosts : Ghosts D) where
   -- the disk is there still, marked where its store was new, and counted no fault

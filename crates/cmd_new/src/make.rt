@@ -5,25 +5,31 @@ ghost use Rattle.cmd_new.specs.Made.{FailsAt, HasImage, HasLine, IsMade, IsMadeA
 ghost use Rattle.disk_model.specs.Device.{Makes};
 ghost use Rattle.cmd_io.specs.Counting.{CountsFaults};
 
-use crate::image::new_image;
+use crate::image::made_image;
 use cmd_io::{Output, Status, number_line, numbers_line};
 use disk_model::{Disk, IMAGE};
 use outside::{Failed, Sink};
 use replay_text::Line;
 
-/// Makes a new store of each of these disks, one for each of these nodes, in order, up to the first that fails:
-/// its image is written over all of the disk, and synced. Then one line is written, with how many stores were made, or
-/// with the node whose disk failed.
+/// Makes a new store above this term of each of these disks, one for each of these nodes, in order, up to the first that
+/// fails: its image is written over all of the disk, and synced. Then one line is written, with how many stores were
+/// made, or with the node whose disk failed. Where the term is 0 a
+/// store has its version alone.
 ///
 /// With `Done` each disk has the image of a new store, all of it stable, and counted no fault. With `DiskFault` so have
 /// those before the named one, which counted one fault; those behind it are as before. Where the sink failed, a front
 /// of the line is written.
-pub fn make_stores<K: Sink, D: Disk>(ids: &[u8], disks: &mut [Option<D>], sink: &mut K) -> Status
+pub fn make_stores<K: Sink, D: Disk>(
+    term: u32,
+    ids: &[u8],
+    disks: &mut [Option<D>],
+    sink: &mut K,
+) -> Status
     requires five { length ids.now ≤ most_members }
     requires disks { length disks.old ≡ length ids.now }
     requires present { (i : ℕ) → i < length ids.now → IsSome (slice_index_or disks.old i None) }
     // What it comes to and writes, and how it leaves the disks.
-    ensures makes { MakesStores D.Disk ids.now disks.old disks.new
+    ensures makes { MakesStores D.Disk term ids.now disks.old disks.new
         (K.written sink.old) (K.written sink.new) result }
     ensures write_fault { result ≡ Status.WriteFault →
         Rose (K.faults sink.old) (K.faults sink.new) }
@@ -32,7 +38,7 @@ pub fn make_stores<K: Sink, D: Disk>(ids: &[u8], disks: &mut [Option<D>], sink: 
     ensures memory { result ≡ Status.Memory → ⊥ }
     ensures unread { result ≡ Status.ReadFault → ⊥ }
 {
-    match make_all(disks) {
+    match make_all(term, ids, disks) {
         Ok(()) => write_end(Status::Done, ids, sink),
         Err(place) => write_end(Status::DiskFault(ids[place]), ids, sink),
     }
@@ -72,14 +78,15 @@ fn end_line(outcome: Status, ids: &[u8]) -> Line
 }
 
 /// Makes a new store of each disk, in order, and answers the place of the first that fails.
-fn make_all<D: Disk>(disks: &mut [Option<D>]) -> Result<(), usize>
+fn make_all<D: Disk>(term: u32, ids: &[u8], disks: &mut [Option<D>]) -> Result<(), usize>
+    requires disks { length disks.old ≡ length ids.now }
     requires present { (i : ℕ) → i < length disks.old → IsSome (slice_index_or disks.old i None) }
     ensures count { length disks.new ≡ length disks.old }
-    ensures made { OnOk result ((k : ℕ) → k < length disks.old → IsMadeAt D.Disk disks.old disks.new k) }
-    ensures failed { IfErr result (λ place. FailsAt D.Disk disks.old disks.new place) }
+    ensures made { OnOk result ((k : ℕ) → k < length disks.old → IsMadeAt D.Disk term ids.now disks.old disks.new k) }
+    ensures failed { IfErr result (λ place. FailsAt D.Disk term ids.now disks.old disks.new place) }
 {
     for place in 0..disks.len() {
-        match make_place(&mut disks[place]) {
+        match make_place(term, ids[place], &mut disks[place]) {
             Ok(()) => {}
             Err(Failed) => return Err(place),
         }
@@ -88,26 +95,26 @@ fn make_all<D: Disk>(disks: &mut [Option<D>]) -> Result<(), usize>
 }
 
 /// Makes a new store of the disk at a place.
-fn make_place<D: Disk>(place: &mut Option<D>) -> Result<(), Failed>
+fn make_place<D: Disk>(term: u32, node: u8, place: &mut Option<D>) -> Result<(), Failed>
     requires { IsSome place.old }
-    ensures made { OnOk result ((before : D) → place.old ≡ Some before → IsMade D.Disk before place.new) }
+    ensures made { OnOk result ((before : D) → place.old ≡ Some before → IsMade D.Disk term node before place.new) }
     ensures there { IsSome place.new }
     ensures failed { IfErr result (λ _. (before after : D) → place.old ≡ Some before →
         place.new ≡ Some after → Rose (D.faults before) (D.faults after)) }
 {
     match place {
-        Some(disk) => make_store(disk),
+        Some(disk) => make_store(term, node, disk),
         None => unreachable!(),
     }
 }
 
 /// Makes a new store of a disk.
-fn make_store<D: Disk>(disk: &mut D) -> Result<(), Failed>
+fn make_store<D: Disk>(term: u32, node: u8, disk: &mut D) -> Result<(), Failed>
     ensures tells { D.tells disk.new ≡ D.tells disk.old }
-    ensures store { OnOk result (D.tells disk.old ≡ true → IsNewStore (D.contents disk.new)) }
+    ensures store { OnOk result (D.tells disk.old ≡ true → IsNewStore term node (D.contents disk.new)) }
     ensures faults { CountsFaults (D.faults disk.old) (D.faults disk.new) result }
 {
-    write_image(disk, &new_image())
+    write_image(disk, &made_image(term, node))
 }
 
 /// Writes an image over all of a disk, and syncs it. It fails only where the disk does. Then any part of the image may

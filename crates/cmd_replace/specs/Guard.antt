@@ -44,8 +44,8 @@ module _ (ids : List ℕ) (lost : ℕ) (stores : List Stored) where
   voted term node place = not (slice_index ids place == lost)
       && ((store_at stores place).term == term && (store_at stores place).vote == node)
 
-  -- the member at the second place supports the leader at the first: it voted for the leader, with the leader's term,
-  -- and has no log above the leader's
+  -- the member at a place supports the leader, by the place of the leader: it voted for the leader, with the leader's
+  -- term, and has no log above the leader's
   abbrev pub supports : ℕ → ℕ → Bool
   supports leader place = voted (store_at stores leader).term (slice_index ids leader) place
       && is_log_not_above (store_at stores place).entries.items (store_at stores leader).entries.items

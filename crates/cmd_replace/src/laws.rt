@@ -26,9 +26,9 @@ pub fn one_member_is_elected()
         (store_at stores a).term ≡ (store_at stores b).term }
 {}
 
-/// Where the guard allows a copy, the Raft model allows it, so runs go on safely behind it (`law_replacements` of
-/// `raft_replaced`): of any world in which those that support the leader have these stores, whatever the lost member
-/// and all others have stored.
+/// Where the guard allows a copy, the Raft model allows the copy, so runs go on safely behind it (`law_replacements` of
+/// `raft_replaced`). That is so in any world in which those that support the leader have these stores, whatever the
+/// lost member and all others have stored.
 pub fn the_model_allows_it()
     ensures { (world : World) (ids : List ℕ) (lost : ℕ) (stores : List Stored) →
         (place : ℕ) → HasTheStores world ids lost stores place → MayReplace ids lost stores place →

@@ -22,7 +22,7 @@ loop-place-preserved g c =
     let there = get_or_default disks p c.index-disks-place.result None within ∙ so_far.behind p (omega arith) in
     record {
       count = length-set disks p new ∙ so_far.count;
-      made = made_more g.D.Disk old disks p new so_far.count (omega (arith, within, so_far.count)) so_far.made (λ before was. c.in-Ok.ensures.made before (there ∙ was));
+      made = made_more g.D.Disk c.args.term c.args.ids.now old disks p new so_far.count (omega (arith, within, so_far.count)) so_far.made (λ before was. c.in-Ok.ensures.made before (there ∙ was));
       behind = λ k le. get_or-set_other disks p k new None (λ e. omega (arith, e, le)) ∙ so_far.behind k (omega (arith, le));
     }
 
@@ -34,5 +34,5 @@ returns-in-Err-clause-failed g c =
     let disks = c.loop-place.disks in
     let within : p < length disks = omega (arith, so_far.count) in
     let there = get_or_default disks p c.index-disks-place.result None within ∙ so_far.behind p (omega arith) in
-    fails_at g.D.Disk old disks p c.make_place.new.place so_far.count (omega (arith, within, so_far.count)) so_far.made c.make_place.ensures.there
+    fails_at g.D.Disk c.args.term c.args.ids.now old disks p c.make_place.new.place so_far.count (omega (arith, within, so_far.count)) so_far.made c.make_place.ensures.there
     (λ before after was now. c.in-Err.ensures.failed before after (there ∙ was) now) (λ k above. so_far.behind k (omega (arith, above)))

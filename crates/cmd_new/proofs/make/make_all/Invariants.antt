@@ -7,6 +7,6 @@ use Rattle.cmd_new.proofs.make.make_all.Given as goal
 abbrev pub invariant-loop-place : goal.invariant-loop-place
 invariant-loop-place g l = record {
   count : length l.disks ≡ length l.fn.disks;
-  made : (k : ℕ) → k < l.place → IsMadeAt g.D.Disk l.fn.disks l.disks k;
+  made : (k : ℕ) → k < l.place → IsMadeAt g.D.Disk l.term l.ids l.fn.disks l.disks k;
   behind : (k : ℕ) → l.place ≤ k → slice_index_or l.disks k None ≡ slice_index_or l.fn.disks k None;
 }

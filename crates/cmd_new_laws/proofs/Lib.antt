@@ -1,0 +1,3 @@
+pub mod AboveRows
+pub mod Elections
+pub mod Images
