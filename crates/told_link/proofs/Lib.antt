@@ -3,4 +3,5 @@ pub mod FirstFrames
 mod Followers
 pub mod Listed
 mod Silences
+mod Spellings
 mod WholeFrames

@@ -67,7 +67,7 @@ item_agrees Nothing = false
 
 -- A member follows for so long, in milliseconds, behind the last such answer of it that came. A leader calls each member
 -- 400 ms after the last call that was answered, and 1,000 ms after one that was not: so three lost calls in a row are
--- not enough to lose it. A member that is not called stands for election after 2,000 to 4,000 ms: so from 2,000 ms on
+-- not enough to lose it. A member that is not called stands for election after 3,000 ms or more: so from then on
 -- there may be another leader.
 abbrev pub following : ℕ
 following = 5000

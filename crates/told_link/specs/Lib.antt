@@ -1,3 +1,4 @@
+pub mod AllocatorUid
 pub mod Following
 pub mod Hearing
 pub mod Silence

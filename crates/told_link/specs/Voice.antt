@@ -1,5 +1,6 @@
--- Whose a frame is, to a member that is told the list of its cluster. The identifier alone says it.
-use Rattle.std.specs.Prelude.{ℕ, ◌&&◌, ◌^◌, nat_eq, nat_le, nat_lt, Bool, List, [], ◌∷◌, Option, Some, None, if◌then◌else◌}
+-- Whose a frame is, to a member that is told the list of its cluster. The identifier says it; of a frame of an
+-- allocator's answer to GetNodeInfo the bytes do (AllocatorUid.antt).
+use Rattle.std.specs.Prelude.{ℕ, ◌&&◌, ◌||◌, ◌^◌, nat_eq, nat_le, nat_lt, Bool, List, [], ◌∷◌, Option, Some, None, if◌then◌else◌}
 use Rattle.can_frame.specs.DataTypes.{append_entries}
 use Rattle.can_frame.specs.Identifier.{identifier_of}
 use Rattle.can_frame.specs.Kinds.{is_response}
@@ -11,6 +12,7 @@ use Rattle.cluster_discovery.specs.Members.{is_on_list}
 use Rattle.outside.specs.declared.received.RawFrame.{RawFrame}
 use Rattle.outside.specs.declared.received.Received.{Received}
 use Rattle.outside.specs.declared.received.Received.TheVariants.{Frame, Junk, Nothing}
+use Rattle.told_link.specs.AllocatorUid.{answers_as_allocator}
 use Rattle.told_link.specs.declared.voice.Voice.{Voice}
 use Rattle.told_link.specs.declared.voice.Voice.TheVariants.{Stranger, Answer, Member, Other}
 
@@ -30,26 +32,27 @@ is_answer_to me ident = is_response ident.kind && (nat_eq ident.number append_en
 abbrev pub voice_of_listed : ℕ → Ident → Voice
 voice_of_listed me ident = if is_answer_to me ident then Answer ident.source else Member ident.source
 
--- of a node that is not on it: a stranger where members alone send such frames
-abbrev pub voice_of_unlisted : Ident → Voice
-voice_of_unlisted ident = if is_of_members ident.kind ident.number then Stranger else Other
+-- of a node that is not on it: a stranger where members alone send such frames, or where it answers as an allocator
+abbrev pub voice_of_unlisted : ℕ → RawFrame → Ident → Voice
+voice_of_unlisted me raw ident =
+    if is_of_members ident.kind ident.number || answers_as_allocator me raw ident then Stranger else Other
 
 -- A link gives no member its own frames, so a frame with its node ID is of another node. An anonymous frame has no
 -- source: it is some device's.
-abbrev pub voice_by : ℕ → List ℕ → Kind → Ident → Voice
-voice_by me ids Anonymous ident = Other
-voice_by me ids kind ident = if nat_eq ident.source me then Stranger
-    else (if is_on_list ids ident.source then voice_of_listed me ident else voice_of_unlisted ident)
+abbrev pub voice_by : ℕ → List ℕ → RawFrame → Kind → Ident → Voice
+voice_by me ids raw Anonymous ident = Other
+voice_by me ids raw kind ident = if nat_eq ident.source me then Stranger
+    else (if is_on_list ids ident.source then voice_of_listed me ident else voice_of_unlisted me raw ident)
 
 -- what has no fields is nobody's
-abbrev pub voice_with : ℕ → List ℕ → Option Ident → Voice
-voice_with me ids None = Other
-voice_with me ids (Some ident) = voice_by me ids ident.kind ident
+abbrev pub voice_with : ℕ → List ℕ → RawFrame → Option Ident → Voice
+voice_with me ids raw None = Other
+voice_with me ids raw (Some ident) = voice_by me ids raw ident.kind ident
 
 -- whose a frame is to this member, which is told this list. One that is told no list knows nobody
 abbrev pub voice_of : ℕ → List ℕ → RawFrame → Voice
 voice_of me [] raw = Other
-voice_of me (first ∷ rest) raw = voice_with me (first ∷ rest) (fields_of raw)
+voice_of me (first ∷ rest) raw = voice_with me (first ∷ rest) raw (fields_of raw)
 
 -- whose an item of a link is
 abbrev pub voice_in : ℕ → List ℕ → Received → Voice

@@ -27,7 +27,8 @@ pub fn gives_node_id(frame: &RawFrame) -> bool
     tail.start && !tail.end && frame.bytes[2] >= 2
 }
 
-fn is_allocation(ident: Ident) -> bool
+/// Whether a frame with such an identifier is one of an Allocation of an allocator.
+pub fn is_allocation(ident: Ident) -> bool
     ensures { result ≡ followings.is_allocation (Some ident) }
 {
     match ident.kind {

@@ -1,74 +1,120 @@
 //! Laws of the definitions, each the contract of a function that does nothing.
 
-ghost use Rattle.std.specs.Prelude.{◌≡◌, ◌≢◌, ℕ, ◌+◌, ◌*◌, ◌<◌, ◌≤◌, ◌++◌, ◌∷◌, ◌⊎◌, ◌||◌, [], List, None, Option, Some};
-ghost use Rattle.std.specs.Prelude.{count_by, length, nat_eq, nat_le, replicate, take, true, false};
+ghost use Rattle.std.specs.Prelude.{◌≡◌, ◌≢◌, ℕ, ◌+◌, ◌*◌, ◌<◌, ◌≤◌, ◌++◌, ◌∷◌, ◌⊎◌, ◌||◌, true, false};
+ghost use Rattle.std.specs.Prelude.{[], List, None, Option, Some, count_by, drop, length, nat_eq, nat_le, replicate};
+ghost use Rattle.std.specs.Prelude.{slice_index_or, take};
 ghost use Rattle.alloc_spec.specs.Accepted.{is_of_members};
+ghost use Rattle.alloc_spec.specs.Services.{uid_of};
 ghost use Rattle.bus_spec.specs.Cluster.{is_member};
 ghost use Rattle.bus_spec.specs.Lawful.{is_forged};
 ghost use Rattle.can_frame.specs.Identifier.{identifier_of};
 ghost use Rattle.can_frame.specs.Kinds.{is_anonymous, is_service};
 ghost use Rattle.can_frame.specs.declared.identifier.Ident.{Ident};
-ghost use Rattle.can_frame.specs.Cutting.{Piece, frame_bytes, frames_of, piece_from};
-ghost use Rattle.can_frame.specs.DataTypes.{allocation};
+ghost use Rattle.can_frame.specs.Cutting.{Piece, frame_bytes, frames_before_last, frames_of, piece_from};
+ghost use Rattle.can_frame.specs.DataTypes.{allocation, get_node_info};
 ghost use Rattle.can_frame.specs.Sizes.{node_ids};
-ghost use Rattle.can_frame.specs.declared.identifier.Kind.TheVariants.{Message};
+ghost use Rattle.can_frame.specs.declared.identifier.Kind.TheVariants.{Message, Response};
 ghost use Rattle.cluster_discovery.specs.Members.{is_on_list};
 ghost use Rattle.dsdl_codec.specs.Allocation.{allocation_bytes};
 ghost use Rattle.dsdl_codec.specs.AppendAnswer.{append_answer_of};
 ghost use Rattle.dsdl_codec.specs.AppendRequest.{append_request_of};
+ghost use Rattle.dsdl_codec.specs.NodeInfo.{node_info_bytes};
 ghost use Rattle.dsdl_codec.specs.VoteAnswer.{vote_answer_of};
 ghost use Rattle.dsdl_codec.specs.VoteRequest.{vote_request_of};
 ghost use Rattle.dsdl_codec.specs.declared.allocation.Allocation.{Allocation};
 ghost use Rattle.dsdl_codec.specs.declared.append_answer.AppendAnswer.{AppendAnswer};
 ghost use Rattle.dsdl_codec.specs.declared.append_request.AppendRequest.{AppendRequest};
+ghost use Rattle.dsdl_codec.specs.declared.node_info.NodeInfo.{NodeInfo};
 ghost use Rattle.dsdl_codec.specs.declared.vote_answer.VoteAnswer.{VoteAnswer};
 ghost use Rattle.dsdl_codec.specs.declared.vote_request.VoteRequest.{VoteRequest};
 ghost use Rattle.outside.specs.declared.received.RawFrame.{RawFrame};
 ghost use Rattle.outside.specs.declared.received.Received.TheVariants.{Frame};
+ghost use Rattle.told_link.specs.AllocatorUid.{allocator_spelling, answers_as_allocator, spells_allocator};
 ghost use Rattle.told_link.specs.Following.{AnswerAt, ComeBefore, agrees, answered_by, answered_of, gives_node_id};
 ghost use Rattle.told_link.specs.Following.{has_answered, is_followed, noted};
 ghost use Rattle.told_link.specs.Hearing.{wants_followers};
 ghost use Rattle.told_link.specs.Silence.{ComeSince, ComesBehindSilence, IsHeardOn, answer_counts, settling};
-ghost use Rattle.told_link.specs.Terms.{CallsOn, Coming, ComeUntil, between_calls, between_rises, ceiling_above, ceiling_for};
-ghost use Rattle.told_link.specs.Terms.{first_number, first_term, is_below_ceiling, most_terms, takes_term, term_in, term_of};
-ghost use Rattle.told_link.specs.Terms.{term_to};
+ghost use Rattle.told_link.specs.Terms.{CallsOn, Coming, ComeUntil, between_calls, between_rises, ceiling_above};
+ghost use Rattle.told_link.specs.Terms.{ceiling_for, first_number, first_term, is_below_ceiling, most_terms};
+ghost use Rattle.told_link.specs.Terms.{takes_term, term_in, term_of, term_to};
 ghost use Rattle.told_link.specs.Voice.{fields_of, is_of_uavcan, voice_of};
 ghost use Rattle.told_link.specs.declared.terms.Ceiling.{Ceiling};
 ghost use Rattle.told_link.specs.declared.voice.Voice.TheVariants.{Other, Stranger};
 
-/// Which frames are a stranger's, to a member that is told a list: those with its own node ID, and those that members
-/// alone send, of a node that is not on the list.
+use can_frame::laws::{frames_in_order, frames_read_as_their_pieces};
+
+/// Which frames are a stranger's, to a member that is told a list: those with its own node ID; those that members alone
+/// send, of a node that is not on the list; and of such a node the frame that spells an allocator, in an answer to it.
 pub fn strangers_are_heard()
     ensures own { (me : ℕ) (ids : List ℕ) (raw : RawFrame) (ident : Ident) → ids ≢ [] → fields_of raw ≡ Some ident →
         is_anonymous ident.kind ≡ false → ident.source ≡ me → voice_of me ids raw ≡ Stranger }
     ensures unlisted { (me : ℕ) (ids : List ℕ) (raw : RawFrame) (ident : Ident) → ids ≢ [] →
         fields_of raw ≡ Some ident → is_of_members ident.kind ident.number ≡ true →
         is_on_list ids ident.source ≡ false → voice_of me ids raw ≡ Stranger }
+    ensures allocators { (me : ℕ) (ids : List ℕ) (raw : RawFrame) (ident : Ident) → ids ≢ [] →
+        fields_of raw ≡ Some ident → answers_as_allocator me raw ident ≡ true →
+        is_on_list ids ident.source ≡ false → voice_of me ids raw ≡ Stranger }
 {}
 
-/// Frames of devices without a node ID, of the other members, and of anybody else that are of no type that members
-/// alone send, are no stranger's. To a member that is told no list none is.
+/// Frames of devices without a node ID and of the other members are no stranger's. Nor are those of anybody else that
+/// are of no type that members alone send, and spell no allocator in an answer to this member. To a member that is told
+/// no list none is.
 pub fn others_are_no_strangers()
     ensures devices { (me : ℕ) (ids : List ℕ) (raw : RawFrame) (ident : Ident) → fields_of raw ≡ Some ident →
         is_anonymous ident.kind ≡ true → voice_of me ids raw ≡ Other }
     ensures members { (me : ℕ) (ids : List ℕ) (raw : RawFrame) (ident : Ident) → fields_of raw ≡ Some ident →
         is_on_list ids ident.source ≡ true → ident.source ≢ me → voice_of me ids raw ≢ Stranger }
     ensures nodes { (me : ℕ) (ids : List ℕ) (raw : RawFrame) (ident : Ident) → fields_of raw ≡ Some ident →
-        is_of_members ident.kind ident.number ≡ false → ident.source ≢ me → voice_of me ids raw ≢ Stranger }
+        is_of_members ident.kind ident.number ≡ false → answers_as_allocator me raw ident ≡ false →
+        ident.source ≢ me → voice_of me ids raw ≢ Stranger }
     ensures untold { (me : ℕ) (raw : RawFrame) → voice_of me [] raw ≡ Other }
 {}
 
-/// A lawful frame from outside is no stranger's to a member that is on its list. A forged one is a stranger's, or it is
-/// of another member of the list.
+/// A lawful frame from outside is no stranger's to a member that is on its list, but for one that spells an allocator
+/// in an answer to this member: that is a stranger's. A forged frame is a stranger's, or is of another member of the
+/// list.
 #[tactic(auto, using(crate::proofs::Listed::is_a_member))]
 pub fn forged_frames_are_heard()
     ensures lawful { (me : ℕ) (ids : List ℕ) (raw : RawFrame) → is_member ids me ≡ true →
-        is_forged ids (identifier_of raw.id) ≡ false → voice_of me ids raw ≢ Stranger }
+        is_forged ids (identifier_of raw.id) ≡ false →
+        ((ident : Ident) → fields_of raw ≡ Some ident → answers_as_allocator me raw ident ≡ false) →
+        voice_of me ids raw ≢ Stranger }
+    ensures excepted { (me : ℕ) (ids : List ℕ) (raw : RawFrame) (ident : Ident) → ids ≢ [] →
+        is_forged ids (identifier_of raw.id) ≡ false → fields_of raw ≡ Some ident →
+        answers_as_allocator me raw ident ≡ true → voice_of me ids raw ≡ Stranger }
     ensures forged { (me : ℕ) (ids : List ℕ) (raw : RawFrame) → ids ≢ [] → is_of_uavcan raw ≡ true →
         is_forged ids (identifier_of raw.id) ≡ true → (voice_of me ids raw ≡ Stranger)
         ⊎ ((ident : Ident) × (fields_of raw ≡ Some ident) × (is_on_list ids ident.source ≡ true)
         × (ident.source ≢ me)) }
-{}
+{
+    strangers_are_heard();
+}
+
+/// Frames of an answer spell an allocator where they have VCAN-AL from byte 12, 26, 40 and so on of its payload, in
+/// steps of 14, and another frame comes behind them; no other frames do. So the fifth frame does of an answer to
+/// GetNodeInfo that has the unique ID of an allocator.
+pub fn allocators_answers_are_known()
+    ensures spelt { (signature id j : ℕ) (payload : List ℕ) (d : Piece) →
+        2 + 2 * j < frames_before_last signature payload →
+        take 7 (drop (12 + 14 * j) payload) ≡ allocator_spelling →
+        spells_allocator (slice_index_or (frames_of signature id payload) (2 + 2 * j) d) ≡ true }
+    ensures only { (signature id place : ℕ) (payload : List ℕ) (d : Piece) →
+        place ≤ frames_before_last signature payload →
+        spells_allocator (slice_index_or (frames_of signature id payload) place d) ≡ true →
+        (j : ℕ) × (place ≡ 2 + 2 * j) × (place < frames_before_last signature payload)
+        × (take 7 (drop (12 + 14 * j) payload) ≡ allocator_spelling) }
+    ensures fifth { (signature id node : ℕ) (info : NodeInfo) (d : Piece) → info.uid ≡ uid_of node →
+        spells_allocator (slice_index_or (frames_of signature id (node_info_bytes info)) 4 d) ≡ true }
+    // What a frame made of such a piece is to the member that asked; and to whom alone it is that.
+    ensures heard { (me : ℕ) (raw : RawFrame) (ident : Ident) (piece : Piece) → ident.kind ≡ Response →
+        ident.number ≡ get_node_info.number → ident.dest ≡ me → piece.tail.id < 32 →
+        take raw.len raw.bytes ≡ frame_bytes piece → answers_as_allocator me raw ident ≡ spells_allocator piece }
+    ensures others { (me : ℕ) (raw : RawFrame) (ident : Ident) → answers_as_allocator me raw ident ≡ true →
+        (ident.kind ≡ Response) × (ident.number ≡ get_node_info.number) × (ident.dest ≡ me) }
+{
+    frames_in_order();
+    frames_read_as_their_pieces();
+}
 
 /// An answer that comes within half a second behind a silence counts for nothing, whatever came meanwhile.
 pub fn no_answer_counts_behind_a_silence()

@@ -18,10 +18,11 @@ use can_frame::sizes::{MOST_MEMBERS, NODE_IDS};
 use outside::{Clock, Failed, Link, RawFrame, Received};
 
 /// A link over another one, for a member that is told the list of its cluster. Once it has heard a stranger, each call
-/// fails: a frame with the member's own node ID, or one that members alone send, of a node that is not on the list. An
-/// answer to a call of AppendEntries that comes shortly behind a silence of its sender is junk: it may have been held
-/// since an earlier call. A frame by which a leader gives a node ID goes out only where, with itself, more than half of
-/// the list follow it. A member that is told no list has an empty one: all is handed on, and no clock is read.
+/// fails: a frame with the member's own node ID; or one of a node that is not on the list, which members alone send, or
+/// by which the node answers this member as an allocator. An answer to a call of AppendEntries that comes shortly
+/// behind a silence of its sender is junk: it may have been held since an earlier call. A frame by which a leader gives
+/// a node ID goes out only where, with itself, more than half of the list follow it. A member that is told no list has
+/// an empty one: all is handed on, and no clock is read.
 ///
 /// It tells no contents; its clauses say what it makes of those of the link and the clock below.
 #[derive(Drop)]

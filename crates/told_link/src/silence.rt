@@ -4,7 +4,8 @@ ghost use Rattle.told_link.specs.Silence as silences;
 use crate::past::is_past;
 
 /// A silence is at least so long, in milliseconds. Transfer IDs have 5 bits, and a call that is not answered is given
-/// up after 1,000 ms: so they come round after 32 s, and this is a third of it. Members that are heard speak each second.
+/// up after 1,000 ms: so they come round after 32 s, and this is a third of it. Members that are heard speak each
+/// second.
 pub const SHORTEST_SILENCE: u64 = 10_000;
 
 /// For so long behind a silence, in milliseconds, no answer counts. A queue of an interface is empty long before, and

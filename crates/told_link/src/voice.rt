@@ -3,6 +3,7 @@ ghost use Rattle.can_frame.specs.Sizes.{node_ids};
 ghost use Rattle.told_link.specs.Voice as voices;
 ghost use Rattle.told_link.specs.declared.voice.Voice.TheVariants.{Answer, Member};
 
+use crate::allocator_uid::answers_as_allocator;
 use alloc_spec::is_of_members;
 use can_frame::{APPEND_ENTRIES, Ident};
 use outside::RawFrame;
@@ -16,7 +17,7 @@ const MOST_DATA: u8 = 8;
 /// Whose a frame is, to a member that is told the list of its cluster.
 #[derive(Clone, Copy, Debug, PartialEq, Eq)]
 pub enum Voice {
-    /// It proves that somebody's list is wrong, or that a member runs twice.
+    /// It shows that a premise is broken: that lists differ, say, or that a member runs twice.
     Stranger,
 
     /// It answers a call of AppendEntries of this member, and is of the other member with this node ID.
@@ -39,7 +40,7 @@ pub fn voice_of(me: u8, ids: &[u8], frame: &RawFrame) -> Voice
         return Voice::Other;
     }
     match fields_of(frame) {
-        Some(ident) => voice_with(me, ids, ident),
+        Some(ident) => voice_with(me, ids, frame, ident),
         None => Voice::Other,
     }
 }
@@ -56,9 +57,10 @@ pub fn fields_of(frame: &RawFrame) -> Option<Ident>
     Ident::read(frame.id)
 }
 
-fn voice_with(me: u8, ids: &[u8], ident: Ident) -> Voice
-    requires { ident.source < node_ids }
-    ensures voice { result ≡ voices.voice_by me ids.now ident.kind ident }
+fn voice_with(me: u8, ids: &[u8], frame: &RawFrame, ident: Ident) -> Voice
+    requires source { ident.source < node_ids }
+    requires size { (0 < frame.now.len) × (frame.now.len ≤ 8) }
+    ensures voice { result ≡ voices.voice_by me ids.now frame.now ident.kind ident }
     ensures answer { (id : ℕ) → result ≡ Answer id → id < node_ids }
     ensures member { (id : ℕ) → result ≡ Member id → id < node_ids }
 {
@@ -71,7 +73,7 @@ fn voice_with(me: u8, ids: &[u8], ident: Ident) -> Voice
     if ids.contains(&ident.source) {
         voice_of_listed(me, ident)
     } else {
-        voice_of_unlisted(ident)
+        voice_of_unlisted(me, frame, ident)
     }
 }
 
@@ -85,10 +87,11 @@ fn voice_of_listed(me: u8, ident: Ident) -> Voice
     }
 }
 
-fn voice_of_unlisted(ident: Ident) -> Voice
-    ensures { result ≡ voices.voice_of_unlisted ident }
+fn voice_of_unlisted(me: u8, frame: &RawFrame, ident: Ident) -> Voice
+    requires { (0 < frame.now.len) × (frame.now.len ≤ 8) }
+    ensures { result ≡ voices.voice_of_unlisted me frame.now ident }
 {
-    if is_of_members(ident.kind, ident.number) {
+    if is_of_members(ident.kind, ident.number) || answers_as_allocator(me, frame, ident) {
         Voice::Stranger
     } else {
         Voice::Other
