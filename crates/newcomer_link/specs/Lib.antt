@@ -1,0 +1,6 @@
+pub mod Admission
+pub mod Approach
+pub mod Logs
+pub mod Partials
+pub mod Run
+pub mod Standing
