@@ -17,7 +17,7 @@ pub record HasHeadlineAlong (ids : List ℕ) (items : List Item) : Type 0 where
       → AgreesAlong choice (cluster ids) (first ++ more)
       → Headline choice (world_along ids first) (world_along ids (first ++ more))
   -- a frame that ever was on the bus, and whose identifier reads as an Allocation of the source n, is of a member n,
-  -- and of an Allocation that n made by then; where that one gives a node ID, its pair is in n's committed log
+  -- and of an Allocation that n made by then. Where that Allocation gives a node ID, the pair is in n's committed log
   pub bus : (first rest : List Item) (choice : ℕ → Bool) → items ≡ first ++ rest
       → AgreesAlong choice (cluster ids) first
       → (frame : Queued) (n : ℕ) → In frame (world_along ids first).frames → IsOfAllocation frame n

@@ -1,6 +1,6 @@
 -- Reading a socket ends what is on its way only by its echo.
-use Rattle.std.specs.Prelude.{◌≡◌, ◌⊎◌, [], ◌∷◌, ℕ, List, Option, Some, None, refl}
-use Rattle.std.proofs.Common.{sym, ◌∙◌, ap, subst, inl, inr}
+use Rattle.std.specs.Prelude.{◌≡◌, [], ◌∷◌, ℕ, List, Option, Some, None, refl}
+use Rattle.std.proofs.Common.{sym, ◌∙◌, subst, inl, inr}
 use Rattle.outside.specs.Contents.{WhereTold}
 use Rattle.outside.specs.Traffic.{next_item, items_behind}
 use Rattle.outside.specs.declared.received.RawFrame.{RawFrame}

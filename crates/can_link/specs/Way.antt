@@ -1,14 +1,19 @@
 -- The frame of this process that is on its way to the bus: there is one, or none.
-use Rattle.std.specs.Prelude.{◌≡◌, ℕ, ◌+◌, ◌<◌, ◌⊎◌, ◌∷◌, [], ◌++◌, List, Option, Some, None}
+use Rattle.std.specs.Prelude.{◌≡◌, ℕ, ◌+◌, ◌<◌, ◌≤◌, ◌⊎◌, ◌∷◌, [], ◌++◌, List, Option, Some, None}
 use Rattle.can_link.specs.Packet.{IsSameFrame}
 use Rattle.can_link.specs.declared.bus.Sent.{Sent}
 use Rattle.outside.specs.declared.received.RawFrame.{RawFrame}
 use Rattle.outside.specs.declared.received.Received.{Received}
 use Rattle.outside.specs.declared.received.Received.TheVariants.{Frame, Junk, Nothing}
 
--- in milliseconds: an echo that is later than this ends the member
-abbrev pub late : ℕ
-late = 500
+-- in bits a second: a bus that has no more is slow
+abbrev pub slow : ℕ
+slow = 125000
+
+-- on a bus with this bit rate, where it is known, an echo that is later than so many milliseconds ends the member
+abbrev pub IsLatest : Option ℕ → ℕ → Type 0
+IsLatest None late = late ≡ 500
+IsLatest (Some rate) late = ((rate ≤ slow) × (late ≡ 1000)) ⊎ ((slow < rate) × (late ≡ 500))
 
 -- in milliseconds: a frame is not written where more has passed since the bus was used before
 abbrev pub longest_pause : ℕ
@@ -21,10 +26,10 @@ Echoes frame (Some sent) sender after =
     (IsSameFrame frame sent.frame × (sender ≡ Some sent.place) × (after ≡ None))
     ⊎ ((IsSameFrame frame sent.frame → ⊥) × (sender ≡ None) × (after ≡ Some sent))
 
--- at this reading the echo of the frame on its way is late
-abbrev pub IsLate : ℕ → Option Sent → Type 0
-IsLate now None = ⊥
-IsLate now (Some sent) = sent.since + late < now
+-- at this reading the echo of the frame on its way is late, where that is so after so many milliseconds
+abbrev pub IsLate : (late now : ℕ) → Option Sent → Type 0
+IsLate late now None = ⊥
+IsLate late now (Some sent) = sent.since + late < now
 
 -- what was on its way is so still, or nothing is
 abbrev pub StaysOrEnds : Option Sent → Option Sent → Type 0

@@ -1,6 +1,6 @@
 ghost use Rattle.std.specs.Prelude.{◌≡◌, ◌↔◌, ◌⊎◌, ◌≤◌, ◌+◌, true, List};
 ghost use Rattle.can_link.specs.Packet.{IsSameFrame};
-ghost use Rattle.can_link.specs.Way.{Clears, Echoes, Gone, IsClear, IsLate, MayBeWritten, StaysOrEnds, longest_pause};
+ghost use Rattle.can_link.specs.Way.{Clears, Echoes, Gone, IsClear, IsLate, IsLatest, MayBeWritten, StaysOrEnds, longest_pause};
 ghost use Rattle.can_link.specs.Socket.{Gives};
 ghost use Rattle.outside.specs.Contents.{WhereTold};
 ghost use Rattle.outside.specs.declared.received.RawFrame.{RawFrame};
@@ -18,6 +18,12 @@ const READS: u8 = 64;
 /// An echo that is later than this, in milliseconds, ends the member: nobody acknowledges, and what the interface holds
 /// may come out at any time.
 const LATE: u64 = 500;
+
+/// The same on a slow bus, where others that go first may have the wire for longer.
+const LATE_WHERE_SLOW: u64 = 1000;
+
+/// A bus with no more bits in a second is slow.
+const SLOW: u32 = 125_000;
 
 /// A frame is lost where more milliseconds have passed since the bus was used before: its process was stopped between the
 /// look at the clock that let it pass and here.
@@ -48,13 +54,18 @@ pub struct CanBus<S, C> {
 
     /// The reading at the last call.
     last: u64,
+
+    /// After so many milliseconds an echo is late.
+    late: u64,
 }
 
 impl<S: Socket, C: Clock> CanBus<S, C> {
-    /// The bus behind this socket, whose echoes are waited for by this clock. Nothing is on its way.
-    pub fn new(socket: S, mut clock: C) -> CanBus<S, C>
+    /// The bus behind this socket, whose echoes are waited for by this clock: for longer where the bit rate is known to be
+    /// low. Nothing is on its way.
+    pub fn new(socket: S, mut clock: C, bit_rate: Option<u32>) -> CanBus<S, C>
         ensures socket { result.socket ≡ socket }
         ensures way { result.on_its_way ≡ None }
+        ensures late { IsLatest bit_rate result.late }
     {
         let last = clock.now();
         CanBus {
@@ -63,15 +74,16 @@ impl<S: Socket, C: Clock> CanBus<S, C> {
             inboxes: Inboxes::new(),
             on_its_way: None,
             last,
+            late: latest(bit_rate),
         }
     }
 
     /// Whether the echo of a frame was late at the last call.
     pub fn is_late(&self) -> bool
-        ensures { (result ≡ true) ↔ IsLate self.now.last self.now.on_its_way }
+        ensures { (result ≡ true) ↔ IsLate self.now.late self.now.last self.now.on_its_way }
     {
         match self.on_its_way {
-            Some(sent) => self.last.saturating_sub(sent.since) > LATE,
+            Some(sent) => self.last.saturating_sub(sent.since) > self.late,
             None => false,
         }
     }
@@ -84,8 +96,9 @@ impl<S: Socket, C: Clock> CanBus<S, C> {
             (S.coming self.old.socket) (S.coming self.new.socket) }
         ensures way { StaysOrEnds self.old.on_its_way self.new.on_its_way }
         ensures taken { S.taken self.new.socket ≡ S.taken self.old.socket }
+        ensures limit { self.new.late ≡ self.old.late }
         // Where nothing came, no echo is late.
-        ensures late { result ≡ Some Nothing → IsLate self.new.last self.new.on_its_way → ⊥ }
+        ensures late { result ≡ Some Nothing → IsLate self.new.late self.new.last self.new.on_its_way → ⊥ }
     {
         self.last = self.clock.now();
         if let Some(frame) = self.inboxes.next(place) {
@@ -121,6 +134,7 @@ impl<S: Socket, C: Clock> CanBus<S, C> {
         ensures clear { (S.taken self.new.socket ≡ S.taken self.old.socket)
             ⊎ WhereTold {A = List Received} (IsClear self.old.on_its_way)
             (S.coming self.old.socket) (S.coming self.new.socket) }
+        ensures limit { self.new.late ≡ self.old.late }
     {
         let before = self.last;
         if !self.clear_the_way() {
@@ -152,6 +166,7 @@ impl<S: Socket, C: Clock> CanBus<S, C> {
             (S.coming self.old.socket) (S.coming self.new.socket) }
         ensures taken { S.taken self.new.socket ≡ S.taken self.old.socket }
         ensures last { self.new.last ≡ self.old.last }
+        ensures limit { self.new.late ≡ self.old.late }
     {
         for _ in 0..READS {
             if self.on_its_way.is_none() {
@@ -173,6 +188,7 @@ impl<S: Socket, C: Clock> CanBus<S, C> {
         ensures way { Gone result self.old.on_its_way self.new.on_its_way }
         ensures taken { S.taken self.new.socket ≡ S.taken self.old.socket }
         ensures last { self.new.last ≡ self.old.last }
+        ensures limit { self.new.late ≡ self.old.late }
     {
         let received = self.socket.read()?;
         if let Received::Frame(frame) = received {
@@ -180,6 +196,16 @@ impl<S: Socket, C: Clock> CanBus<S, C> {
             self.inboxes.hand_on(&frame, sender);
         }
         Some(received)
+    }
+}
+
+/// After how many milliseconds an echo is late, on a bus with this bit rate, if it is known.
+fn latest(bit_rate: Option<u32>) -> u64
+    ensures { IsLatest bit_rate result }
+{
+    match bit_rate {
+        Some(rate) if rate <= SLOW => LATE_WHERE_SLOW,
+        _ => LATE,
     }
 }
 

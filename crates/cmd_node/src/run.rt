@@ -38,26 +38,35 @@ use std::alloc::Global;
 /// opened, takes `turns` turns, and is stopped; its disk is put back. The report goes to the sink at the
 /// end.
 ///
-/// `LinkFault`, `DiskFault` and `WriteFault` come only where the link or the disk of that node, or the
-/// sink, counted a fault; `Damaged` where the store of that node is damaged, first at that key, before
-/// any turn. Then one line is all that is written, what was sent is a beginning of what a run to its end
-/// sends, and each store that was opened holds what it then held. At most one link or disk counts a
-/// fault, and the status names it, unless the sink fails too. Where nothing fails it comes to `Done`, `Damaged` or
-/// `AnotherLog`; where the disks tell what they hold, a damaged one ends the run so. All memory is taken before anything else, that for the last steps at the end: with `Memory` nothing
-/// was touched.
+/// `LinkFault`, `DiskFault` and `WriteFault` come only where the link or the disk of that node, or the sink, counted a
+/// fault; `Damaged` where the store of that node is damaged, first at that key, before any turn. Then one line is all
+/// that is written, what was sent is a beginning of what a run to its end sends, and each store that was opened holds
+/// what it then held. At most one link or disk counts a fault, and the status names it, unless the sink fails too.
+/// Where nothing fails it comes to `Done`, `Damaged` or `AnotherLog`; where the disks tell what they hold, a damaged
+/// one ends the run so. All memory is taken before anything else, that for the last steps at the end: with `Memory`
+/// nothing was touched.
 ///
-/// The table has the fields of `RunsNodes`. What is left and written stands in `leaves`, by the answer; `written` is a
-/// field of its record `Leaves`. "Told" means: where links, disks and the clock tell what they have.
+/// The list has the fields of `RunsNodes`: by the answer where alone it comes, what is left, and what is written. The
+/// latter two stand in `leaves`; `written` is a field of its record `Leaves`. "Told" means: where links, disks and the
+/// clock tell what they have.
 ///
-/// | answer | comes only where | what is left | what is written |
-/// |---|---|---|---|
-/// | `Done` | no disk was damaged, and, told, no call of another log came | told: frames sent, items and readings left are exactly those of the abstract allocators, and whatever a stop leaves of each disk stands for what its allocator has stored, with the origin of each entry (`LeavesAll`) | told: exactly the report |
-/// | `LinkFault(id)` | the count of that link rose, and no disk was damaged | told: in which turn the run ended, what was sent, which items and readings are left, what is stored (`IsCutInTurn`) | one line |
-/// | `DiskFault(id)` | the count of that disk rose | told, where it was in a turn and no disk was damaged: as above (`IsCutInTurn`); at an opening: the links are as before, and readings and disks as `IsCutAtOpening` says | one line |
-/// | `Damaged(id, key)` | that disk, if it tells its bytes, is damaged first at that key, and those before it are not | the links are as before; readings and disks as `IsCutAtOpening` says | one line |
-/// | `AnotherLog(id, node)` | no disk was damaged; told: such a call came | told: in which turn of node id a call of the member `node` came that contradicts what id has committed, the first such call of the run (`IsCalledIn`); and as with `LinkFault` (`IsCutWhere`) | one line |
-/// | `WriteFault` | the count of the sink rose | as a run leaves it that ends with one of the others, but for `Memory` | a prefix of the one line of that run, or, told, of its report; of the one line also where nothing is told |
-/// | `Memory` | free: no clause ties it to a cause | all as it was | nothing |
+/// - `Done`: only where no disk was damaged, and, told, no call of another log came. Left, told: frames sent, items and
+///   readings left are exactly those of the abstract allocators, and whatever a stop leaves of each disk stands for
+///   what its allocator has stored, with the origin of each entry (`LeavesAll`). Written, told: exactly the report.
+/// - `LinkFault(id)`: only where the count of that link rose, and no disk was damaged. Left, told: in which turn the
+///   run ended, what was sent, which items and readings are left, what is stored (`IsCutInTurn`). Written: one line.
+/// - `DiskFault(id)`: only where the count of that disk rose. Left, told, of one in a turn, where no disk was damaged:
+///   as with `LinkFault`; of one at an opening: the links are as before, and readings and disks as `IsCutAtOpening`
+///   says. Written: one line.
+/// - `Damaged(id, key)`: only where that disk, if it tells its bytes, is damaged first at that key, and those before it
+///   are not. Left: the links are as before; readings and disks as `IsCutAtOpening` says. Written: one line.
+/// - `AnotherLog(id, node)`: only where no disk was damaged; told: such a call came. Left, told: in which turn of node
+///   id a call of the member `node` came that contradicts what id has committed, the first such call of the run
+///   (`IsCalledIn`); and as with `LinkFault` (`IsCutWhere`). Written: one line.
+/// - `WriteFault`: only where the count of the sink rose. Left: as a run leaves it that ends with one of the others,
+///   but for `Memory`. Written: a prefix of the one line of that run, or, told, of its report; of the one line also
+///   where nothing is told.
+/// - `Memory`: no clause ties it to a cause. All is left as it was, and nothing is written.
 ///
 /// Told, in a run that was cut off in a turn (`AreCutTurns`) all nodes had taken so many turns, fewer than the run was
 /// to take, and those before the node one more. Then:
@@ -77,8 +86,8 @@ use std::alloc::Global;
 /// Every disk is there again. But for `WriteFault`, no count of a link or a disk rises that the answer does not name,
 /// told or not (`quiet_links`, `quiet_disks`); with `WriteFault` none rises that the other answer does not name. Told,
 /// what each link was sent is a prefix of what it is sent in a run to its end (`begins`). Where no count rises, the
-/// answer is `Done`, `Damaged`, `AnotherLog` or `Memory` (`finishes`); where the disks up to the first damaged one tell their bytes,
-/// it is `Damaged` with that one, or `Memory` (`refuses`).
+/// answer is `Done`, `Damaged`, `AnotherLog` or `Memory` (`finishes`); where the disks up to the first damaged one tell
+/// their bytes, it is `Damaged` with that one, or `Memory` (`refuses`).
 pub fn node<K: Sink, L: Link, D: Disk, C: Clock>(
     alloc: Global,
     size: u8,

@@ -4,8 +4,11 @@ ghost use Rattle.cmd_node.specs.Words.{next_words, own_words, rank, word_by_rank
 
 use cmd_io::Draws;
 
+/// The word of the lowest member, where the members are told their list.
+const LEAST_WORD: usize = 1_000;
+
 /// By so much the highest member waits longer than the lowest, in milliseconds.
-const MOST_LONGER: usize = 1_500;
+const MOST_LONGER: usize = 1_000;
 
 /// The words of a member, which choose how long it waits before it stands for election.
 #[derive(Drop)]
@@ -48,7 +51,7 @@ fn word_by_rank(members: &[u8], id: u8) -> u32
     ensures { result ≡ word_by_rank members.now id }
 {
     let shares = members.len().saturating_sub(1).max(1);
-    (rank(members, id) * MOST_LONGER / shares) as u32
+    (LEAST_WORD + rank(members, id) * MOST_LONGER / shares) as u32
 }
 
 /// How many of these members have a lower node ID.

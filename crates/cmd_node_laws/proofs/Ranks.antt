@@ -6,7 +6,7 @@ use Rattle.std.proofs.lemmas.Nat.{le-div}
 use Rattle.raft_model.specs.Lists.{In}
 use Rattle.can_frame.specs.Sizes.{most_members}
 use Rattle.can_frame.specs.Timing.{election_spread, election_wait}
-use Rattle.cmd_node.specs.Words.{next_words, own_words, rank, word_of}
+use Rattle.cmd_node.specs.Words.{least_word, next_words, own_words, rank, word_of}
 
 -- a higher node ID has no lower rank
 rank_le : (members : List ℕ) (low high : ℕ) → low ≤ high → rank members low ≤ rank members high
@@ -29,37 +29,46 @@ rank_within (m ∷ ms) id (inr in_rest) = let rest = rank_within ms id in_rest i
 
 -- what is shared out among up to five members: the shares of two ranks
 module _ (d : ℕ) (least : 1 ≤ d) (most : d ≤ 4) where
-  pub share_within : (r : ℕ) → r ≤ d → r * 1500 / d ≤ 1500
+  pub share_within : (r : ℕ) → r ≤ d → r * 1000 / d ≤ 1000
   share_within r le =
-      let less : r * 1500 ≤ d * 1500 = omega (arith, le) in
+      let less : r * 1000 ≤ d * 1000 = omega (arith, le) in
       div-le_of_le-mul d less
 
-  pub shares_apart : (r s : ℕ) → r + 1 ≤ s → r * 1500 / d + 375 ≤ s * 1500 / d
+  pub shares_apart : (r s : ℕ) → r + 1 ≤ s → r * 1000 / d + 250 ≤ s * 1000 / d
   shares_apart r s le =
-      let share = r * 1500 / d in
-      let whole : share * d ≤ r * 1500 = div-mul-le_self (r * 1500) d in
-      let both : (share + 375) * d ≡ share * d + 375 * d = add-mul share 375 d in
-      le-div (share + 375) (s * 1500) d least (omega (arith, whole, both, most, le))
+      let share = r * 1000 / d in
+      let whole : share * d ≤ r * 1000 = div-mul-le_self (r * 1000) d in
+      let both : (share + 250) * d ≡ share * d + 250 * d = add-mul share 250 d in
+      le-div (share + 250) (s * 1000) d least (omega (arith, whole, both, most, le))
 
 pub one_word : (members : List ℕ) (id : ℕ) → 0 < length members → next_words (own_words members id) ≡ own_words members id
 one_word [] id some = let none : ⊥ = omega (arith, some) in elim none [ ]
 one_word (m ∷ ms) id some = refl
 
-word_within : (members : List ℕ) (id : ℕ) → In id members → length members ≤ most_members → word_of (own_words members id) ≤ 1500
+word_within : (members : List ℕ) (id : ℕ) → In id members → length members ≤ most_members → word_of (own_words members id) ≤ 2000
 word_within [] id is few = elim is [ ]
 word_within (m ∷ ms) id is few =
     let within = rank_within (m ∷ ms) id is in
-    share_within (max 1 (length (m ∷ ms) - 1)) (grind arith) (grind arith) (rank (m ∷ ms) id) (grind arith)
+    let share = share_within (max 1 (length (m ∷ ms) - 1)) (grind arith) (grind arith) (rank (m ∷ ms) id) (grind arith) in
+    omega (arith, share)
+
+word_from : (members : List ℕ) (id : ℕ) → In id members → least_word ≤ word_of (own_words members id)
+word_from [] id is = elim is [ ]
+word_from (m ∷ ms) id is = omega arith
 
 pub word_below : (members : List ℕ) (id : ℕ) → In id members → length members ≤ most_members → word_of (own_words members id) < election_spread
 word_below members id is few = let within = word_within members id is few in omega (arith, within)
 
-pub word_shorter : (members : List ℕ) (id : ℕ) → In id members → length members ≤ most_members → word_of (own_words members id) + 500 ≤ election_wait
-word_shorter members id is few = let within = word_within members id is few in omega (arith, within)
+pub words_shorter : (members : List ℕ) (low high : ℕ) → In low members → In high members → length members ≤ most_members →
+    election_wait + word_of (own_words members high) + 2000 ≤ 2 * (election_wait + word_of (own_words members low))
+words_shorter members low high is_low is_high few =
+    let within = word_within members high is_high few in
+    let from = word_from members low is_low in
+    omega (arith, within, from)
 
 pub words_apart : (members : List ℕ) (low high : ℕ) → In low members → In high members → low < high → length members ≤ most_members →
-    word_of (own_words members low) + 375 ≤ word_of (own_words members high)
+    word_of (own_words members low) + 250 ≤ word_of (own_words members high)
 words_apart [] low high is_low is_high lt few = elim is_low [ ]
 words_apart (m ∷ ms) low high is_low is_high lt few =
-    shares_apart (max 1 (length (m ∷ ms) - 1)) (grind arith) (grind arith) (rank (m ∷ ms) low) (rank (m ∷ ms) high)
-    (rank_below (m ∷ ms) low high is_low lt)
+    let apart = shares_apart (max 1 (length (m ∷ ms) - 1)) (grind arith) (grind arith) (rank (m ∷ ms) low) (rank (m ∷ ms) high)
+    (rank_below (m ∷ ms) low high is_low lt) in omega (arith, apart)

@@ -1,5 +1,6 @@
 -- What holds of a trace under its premises.
-use Rattle.std.specs.Prelude.{◌≡◌, ℕ, ◌<◌, ◌≤◌, ◌⊎◌, List, [], ◌++◌, length, Option, None, Some, slice_index, slice_index_or}
+use Rattle.std.specs.Prelude.{◌≡◌, ℕ, ◌<◌, ◌≤◌, ◌⊎◌, List, [], ◌++◌, length, Option, None, Some}
+use Rattle.std.specs.Prelude.{slice_index, slice_index_or}
 use Rattle.disk_model.specs.declared.disk.Disk.{Ghosts}
 use Rattle.disk_model.specs.Contents.{MayLeave}
 use Rattle.outside.specs.declared.received.RawFrame.{RawFrame}
@@ -19,7 +20,8 @@ use Rattle.bus_spec.specs.Members.MemberStatus.{Down}
 use Rattle.cmd_node.specs.Opening.{RunInput, readings_after}
 use Rattle.cmd_node.specs.Turn.{Running}
 use Rattle.cmd_node.specs.Turns.{Together}
-use Rattle.cmd_node_laws.specs.Traces.{Came, Event, DiesInTurn, DiesAtOpening, MayAllHappen, MayHappen, Silence, all_rows, rows_of}
+use Rattle.cmd_node_laws.specs.Traces.{Came, Event, DiesInTurn, DiesAtOpening, MayAllHappen, MayHappen, Silence}
+use Rattle.cmd_node_laws.specs.Traces.{all_rows, rows_of}
 use Rattle.cmd_node_laws.specs.Alike.{Alike, HoldsAlike, Likeness}
 use Rattle.cmd_node_laws.specs.Mirrored.{Carries, raw_by}
 use Rattle.cmd_node_laws.specs.Processes.{GoesOn, HasStoredAt, IsWaiting, Opening, Point, StandsAt, running_at}

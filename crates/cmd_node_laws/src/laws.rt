@@ -1,6 +1,6 @@
 //! Laws of the definitions, each the contract of a function that does nothing.
 
-ghost use Rattle.std.specs.Prelude.{◌≡◌, ◌<◌, ◌≤◌, ◌+◌, ◌++◌, ◌∷◌, [], ℕ, List, Option, length};
+ghost use Rattle.std.specs.Prelude.{◌≡◌, ◌<◌, ◌≤◌, ◌+◌, ◌*◌, ◌++◌, ◌∷◌, [], ℕ, List, Option, length};
 ghost use Rattle.outside.specs.Traffic.{next_item};
 ghost use Rattle.raft_core.specs.StoredPuts.{store_of, stored_puts};
 ghost use Rattle.raft_log.specs.Rules.{StandsForState};
@@ -39,9 +39,9 @@ use raft_core::laws::an_opening_keeps_the_store;
 use raft_log::laws::an_image_stands_for_one_state;
 use transfer_rx::laws::deliveries_are_whole_transfers;
 
-/// Members that are told their list have the same word in each turn. The words of two differ by 375 or more, and are
-/// within the spread of waits: so their waits for an election differ by 375 ms or more. The longest is less than twice
-/// the shortest, so the member that has it stands before another one stands twice.
+/// Members that are told their list have the same word in each turn. The words of two differ by 250 or more, and are
+/// within the spread of waits: so their waits for an election differ by 250 ms or more. The longest wait is less than
+/// twice the shortest, by 2,000 ms or more: so the member that has it stands well before another one stands twice.
 pub fn members_wait_apart()
     ensures same { (members : List ℕ) (id : ℕ) → 0 < length members →
         next_words (own_words members id) ≡ own_words members id }
@@ -49,9 +49,10 @@ pub fn members_wait_apart()
         word_of (own_words members id) < election_spread }
     ensures apart { (members : List ℕ) (low high : ℕ) → In low members → In high members → low < high →
         length members ≤ most_members →
-        word_of (own_words members low) + 375 ≤ word_of (own_words members high) }
-    ensures shorter { (members : List ℕ) (id : ℕ) → In id members → length members ≤ most_members →
-        word_of (own_words members id) + 500 ≤ election_wait }
+        word_of (own_words members low) + 250 ≤ word_of (own_words members high) }
+    ensures shorter { (members : List ℕ) (low high : ℕ) → In low members → In high members →
+        length members ≤ most_members → election_wait + word_of (own_words members high) + 2000
+        ≤ 2 * (election_wait + word_of (own_words members low)) }
 {}
 
 /// Every trace of a cluster of processes that meets the premises stands for a list of rows that do no harm. So along

@@ -10,7 +10,7 @@ pub record KeepsNewest (device : Blocks) (head : List ℕ) (latest : Newest) (im
   pub newest : IsNewestRecord 4 head device.stable latest image
   pub unwritten : (block : ℕ) → block / 2 ≡ latest.block / 2 → device.written block ≡ false
 
--- both blocks of the newest record's pair have it; any other record is older, or has the same image
+-- both blocks of the newest record's pair have this record; any other record is older, or has its image
 pub record IsTwice (device : Blocks) (head : List ℕ) (newest : Newest) (image : List ℕ) : Type 0 where
   pub twice : (block : ℕ) → block / 2 ≡ newest.block / 2 → device.stable block ≡ device.stable newest.block
   pub others : (block : ℕ) → block < 4 → HasRecord head (device.stable block) →

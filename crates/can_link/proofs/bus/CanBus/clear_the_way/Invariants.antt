@@ -10,4 +10,5 @@ invariant-loop g l = record {
   clears : WhereTold {A = List Received} (Clears l.fn.self.on_its_way l.self.on_its_way) (g.S.Socket.coming l.fn.self.socket) (g.S.Socket.coming l.self.socket);
   taken : g.S.Socket.taken l.self.socket ≡ g.S.Socket.taken l.fn.self.socket;
   last : l.self.last ≡ l.fn.self.last;
+  limit : l.self.late ≡ l.fn.self.late;
 }
