@@ -29,8 +29,8 @@
  * Store. A node keeps its vote and its list in CALDROUZ_STORE_BYTES bytes behind a descriptor. The library calls
  *   pread(), pwrite() and fdatasync() on it: those of POSIX, or the caller's own (examples/c/array_store.c and
  *   examples/c/fram_store.c). What was written before fdatasync() answered 0 has to survive a loss of power. A store
- *   belongs to one member for ever: it is never deleted, copied or put back. It is made once, by caldrouz_new_store(),
- *   and looked at before each opening, by caldrouz_find_store().
+ *   belongs to one member for ever: it is never deleted, copied or put back. It is made once, by
+ *   caldrouz_new_store_above(), and looked at before each opening, by caldrouz_find_store().
  */
 #ifndef CALDROUZ_H
 #define CALDROUZ_H
@@ -217,7 +217,8 @@ static inline caldrouz_entry caldrouz_entry_at(caldrouz *node, uint8_t place) {
  *
  * The library opens zeros as an empty store, and zeros are how a lost block reads. So the caller looks before:
  *
- *     caldrouz_new_store(image);            // once in the life of the member; then all bytes are written, and synced
+ *     caldrouz_new_store_above(image, id, random_word() % CALDROUZ_HIGHEST_START + 1);
+ *                                           // once in the life of the member; then all bytes are written, and synced
  *
  *     switch (caldrouz_find_store(image)) { // at each start, of the bytes of the store
  *     case CALDROUZ_NO_STORE: do not open it; the member is replaced, as a machine
@@ -227,7 +228,7 @@ static inline caldrouz_entry caldrouz_entry_at(caldrouz *node, uint8_t place) {
  */
 enum caldrouz_found {
     CALDROUZ_NO_STORE = 0,  /* it has no version: none was made, or the block was lost that has it */
-    CALDROUZ_NEW_STORE = 1, /* what caldrouz_new_store() makes: no member ran with it */
+    CALDROUZ_NEW_STORE = 1, /* what the two calls below make: no member ran with it */
     CALDROUZ_USED_STORE = 2 /* a member ran with it, or it is damaged, as its opening tells */
 };
 
@@ -236,12 +237,34 @@ enum caldrouz_found {
 #define CALDROUZ_MARK_PLACE 1
 #define CALDROUZ_MARK {1, 2}
 
+/* The highest term above which a store is made. */
+#define CALDROUZ_HIGHEST_START 500000
+
 /* The byte of a new store at a place below CALDROUZ_STORE_BYTES: the version 2 in copy B of its key, and no more. */
 static inline uint8_t caldrouz_new_byte(size_t place) {
     return place == 0 || place == 34 ? 1 : place == 35 ? 2 : 0;
 }
 
-/* Makes the image of a new store, as `allocator new` does, in the CALDROUZ_STORE_BYTES bytes at `image`. */
+/* The same of the member `id` above a term, which stands in copy A of its key, as a vote for `id` does. */
+static inline uint8_t caldrouz_new_byte_above(size_t place, uint8_t id, uint32_t term) {
+    switch (place) {
+    case 68:
+        return 4;
+    case 69:
+    case 70:
+    case 71:
+    case 72:
+        return (uint8_t)(term >> (8 * (place - 69)));
+    case 135:
+        return 1;
+    case 136:
+        return id;
+    default:
+        return caldrouz_new_byte(place);
+    }
+}
+
+/* Makes the image of a new store, as the program's `new <id>` does, in the CALDROUZ_STORE_BYTES bytes at `image`. */
 static inline void caldrouz_new_store(uint8_t *image) {
     size_t place;
     for (place = 0; place < CALDROUZ_STORE_BYTES; place++) {
@@ -249,18 +272,31 @@ static inline void caldrouz_new_store(uint8_t *image) {
     }
 }
 
+/* The same for the member `id` above a term of 1 to CALDROUZ_HIGHEST_START, as `new above <term> <id>` does. Where the
+ * term is drawn by chance, logs of two clusters are told apart, should these meet. */
+static inline void caldrouz_new_store_above(uint8_t *image, uint8_t id, uint32_t term) {
+    size_t place;
+    for (place = 0; place < CALDROUZ_STORE_BYTES; place++) {
+        image[place] = caldrouz_new_byte_above(place, id, term);
+    }
+}
+
 /* What the CALDROUZ_STORE_BYTES bytes of a store are. */
 static inline enum caldrouz_found caldrouz_find_store(const uint8_t *image) {
+    const uint32_t term = (uint32_t)image[69] | (uint32_t)image[70] << 8 | (uint32_t)image[71] << 16 |
+                          (uint32_t)image[72] << 24;
+    const uint8_t id = image[136];
+    int is_plain = 1;
+    int is_above = 1 <= term && term <= CALDROUZ_HIGHEST_START && 1 <= id && id <= 125;
     size_t place;
     if (image[image[0] % 2 == 0 ? 1 : 34] == 0) {
         return CALDROUZ_NO_STORE;
     }
     for (place = 0; place < CALDROUZ_STORE_BYTES; place++) {
-        if (image[place] != caldrouz_new_byte(place)) {
-            return CALDROUZ_USED_STORE;
-        }
+        is_plain = is_plain && image[place] == caldrouz_new_byte(place);
+        is_above = is_above && image[place] == caldrouz_new_byte_above(place, id, term);
     }
-    return CALDROUZ_NEW_STORE;
+    return is_plain || is_above ? CALDROUZ_NEW_STORE : CALDROUZ_USED_STORE;
 }
 
 /* ---- Ages of frames ----

@@ -1,6 +1,6 @@
 /* One allocator on a SocketCAN interface:
  *
- *     socketcan_node new STORE                         once in the life of a member
+ *     socketcan_node new STORE ID                      once in the life of a member
  *     socketcan_node INTERFACE ID MEMBERS STORE
  *
  * STORE is a file of 8,844 bytes, as that of `allocator node`. The first form makes it, and fails where it is there
@@ -119,15 +119,16 @@ static int open_folder(const char *path) {
     return open(name, O_RDONLY | O_DIRECTORY | O_CLOEXEC);
 }
 
-/* A new store, synced, and its name in the folder too. Answers 0, or -1 where it is there already or cannot be made. */
-static int make_store(const char *path) {
+/* A new store of this member, synced, and its name in the folder too. Answers 0, or -1 where it is there already or
+ * cannot be made. */
+static int make_store(const char *path, uint8_t id) {
     static uint8_t image[CALDROUZ_STORE_BYTES];
     const int folder = open_folder(path);
     const int fd = folder < 0 ? -1 : open(path, O_RDWR | O_CREAT | O_EXCL | O_CLOEXEC, 0600);
     if (fd < 0) {
         return -1;
     }
-    caldrouz_new_store(image);
+    caldrouz_new_store_above(image, id, random_word() % CALDROUZ_HIGHEST_START + 1);
     if (pwrite(fd, image, sizeof image, 0) != (ssize_t)sizeof image || fsync(fd) != 0 || fsync(folder) != 0) {
         unlink(path);
         return -1;
@@ -280,15 +281,15 @@ int main(int count, char **words) {
     uint32_t status;
     enum caldrouz_found found;
     int store;
-    if (count == 3 && strcmp(words[1], "new") == 0) {
-        if (make_store(words[2]) != 0) {
+    if (count == 4 && strcmp(words[1], "new") == 0) {
+        if (make_store(words[2], (uint8_t)atoi(words[3])) != 0) {
             fprintf(stderr, "%s is there already, or cannot be made\n", words[2]);
             return NOT_OPENED;
         }
         return 0;
     }
     if (count != 5) {
-        fprintf(stderr, "socketcan_node new STORE\nsocketcan_node INTERFACE ID MEMBERS STORE\n");
+        fprintf(stderr, "socketcan_node new STORE ID\nsocketcan_node INTERFACE ID MEMBERS STORE\n");
         return WRONG_WORDS;
     }
     size = read_members(words[3], members);

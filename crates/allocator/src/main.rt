@@ -3,17 +3,18 @@
 //! The source is standard input, the sink is standard output, the clock is the system's, and the exit code is that of
 //! the status. For the words of `node` each member has its link over UDP, and its disk in the file `alloc-<id>.store`.
 //! The words of `can` are those of `node` without a base, and `can <members> <id>` takes the most turns: standard input
-//! is a raw CAN socket then (`can_link`), and the links of all members are on it. Where the members are told a list of
-//! them, links are strict, take no term that is far ahead ([`TermLink`]) and listen for strangers ([`ToldLink`]). A
-//! missing file is refused then, and so is one that others may write, or without a version, as one of zeros
-//! ([`look_for_stores`]), or whose log has an ID of the list ([`told_of_listed`]). Their stores are watched
-//! ([`WatchedDisk`]), and a process whose members ran before rests first ([`Told::rest`]). Where they are told a
-//! number, a missing file is made, and nothing rests. The words of `new` have the disks alone, in files that are made
-//! for them: where one is there already, or `run` does not come to its end, none of those that were made stays. Those
-//! of `replace` have the disk of the lost member alone so, and those of the others as `audit` has them. The words of
-//! `audit` have the disks alone, in files that are there, and only read them. Where one of these cannot be opened the
-//! exit code is 12. A standard stream that is closed stays so for `run`: its descriptor never becomes that of a link or
-//! a disk. A word that is not UTF-8 is none that the program reads.
+//! is a raw CAN socket then (`can_link`), and the links of all members are on it; the environment may tell the bit rate
+//! of the bus ([`told_bit_rate`]). Where the members are told a list of them, links are strict, let newcomers in slowly
+//! behind a burst ([`NewcomerLink`]), take no term that is far ahead ([`TermLink`]), send Allocations apart
+//! ([`SpacedLink`]) and listen for strangers ([`ToldLink`]). A missing file is refused then, and so is one that others
+//! may write, or without a version, as one of zeros ([`look_for_stores`]), or whose log has an ID of the list
+//! ([`told_of_listed`]). Their stores are watched ([`WatchedDisk`]), and a process whose members ran before rests first
+//! ([`Told::rest`]). Where they are told a number, a missing file is made, and nothing rests. The words of `new` have the
+//! disks alone, in files that are made for them: where one is there already, or `run` does not come to its end, none of
+//! those that were made stays. Those of `replace` have the disk of the lost member alone so, and those of the others as
+//! `audit` has them. The words of `audit` have the disks alone, in files that are there, and only read them. Where one of
+//! these cannot be opened the exit code is 12. A standard stream that is closed stays so for `run`: its descriptor never
+//! becomes that of a link or a disk. A word that is not UTF-8 is none that the program reads.
 #![tactic(auto)]
 
 ghost use Rattle.std.specs.Prelude.{◌≡◌, ◌≤◌, ℕ, length, IfErr, IfOk, OnOk};
@@ -22,11 +23,13 @@ ghost use Rattle.listed_entry.specs.Listed.{IsFoundIn, IsInNone};
 ghost use Rattle.allocator.specs.declared.refusal.Refusal.TheVariants.{Listed, Stranger};
 ghost use Rattle.store_audit.specs.Reads.{AllStay};
 
+mod bit_rate;
 mod can_words;
 mod opened;
 mod refusal;
 mod stranger;
 
+use crate::bit_rate::told_bit_rate;
 use crate::can_words::words_of_node;
 use crate::opened::{
     held_streams, known_stores, link_of, listening_link, made_stores, old_stores, stores_but_lost,
@@ -77,7 +80,7 @@ fn answer(rt: &HostRuntime) -> Result<Status, Refusal> {
                 ..
             },
         ) => run_over_udp(rt, &words, &told, base, &ids),
-        Some(Plan::New { ids }) => run_on_new_stores(rt, &words, &ids),
+        Some(Plan::New { ids, .. }) => run_on_new_stores(rt, &words, &ids),
         Some(Plan::Replace { lost, ids }) => run_on_lost_store(rt, &words, lost, &ids),
         Some(Plan::Audit { ids }) => run_on_old_stores(rt, &words, &ids),
         _ => Ok(follow::<UdpLink, FileDisk>(rt, &words, &mut [], &mut [], &Cell::new(0))),
@@ -109,13 +112,14 @@ fn run_over_udp(
     for id in ids {
         let link = link_of(rt, told, base, *id, ids)?;
         let link = TimelyLink::new(link, StdClock::new(rt), &idle);
-        links.push(listening_link(rt, link, told, *id))?;
+        links.push(listening_link(rt, link, told, *id)?)?;
     }
     let status = run_members(rt, words, told, ids, &mut links, &idle)?;
     told_of_strangers(rt, status, &links)
 }
 
-/// Runs these members, with their links on the CAN bus of the socket, until the echo of a frame is late.
+/// Runs these members, with their links on the CAN bus of the socket, until the echo of a frame is late: later where the
+/// environment tells that the bus is slow.
 fn run_on_can(
     rt: &HostRuntime,
     words: &[String],
@@ -124,11 +128,12 @@ fn run_on_can(
 ) -> Result<Status, Refusal> {
     let _streams = held_streams(rt)?;
     let idle = Cell::new(0);
-    let bus = RefCell::new(CanBus::new(RawSocket::new(SOCKET), StdClock::new(rt)));
+    let bus = CanBus::new(RawSocket::new(SOCKET), StdClock::new(rt), told_bit_rate(rt));
+    let bus = RefCell::new(bus);
     let mut links = Vec::new(rt.alloc());
     for (place, id) in ids.iter().enumerate() {
         let link = TimelyLink::new(CanLink::new(&bus, place), StdClock::new(rt), &idle);
-        links.push(listening_link(rt, link, told, *id))?;
+        links.push(listening_link(rt, link, told, *id)?)?;
     }
     let status = run_members(rt, words, told, ids, &mut links, &idle)?;
     let status = told_of_strangers(rt, status, &links)?;

@@ -1,4 +1,4 @@
-ghost use Rattle.std.specs.Prelude.{◌≡◌, ◌≤◌, [], length, IfErr, IfOk, IfSome, IsSome, Ok};
+ghost use Rattle.std.specs.Prelude.{◌≡◌, ◌≤◌, ◌↔◌, [], length, true, IfErr, IfOk, IfSome, IsSome, Ok};
 ghost use Rattle.can_frame.specs.Sizes.{most_members};
 ghost use Rattle.allocator_app.specs.Told.{list_of};
 ghost use Rattle.cmd_new.specs.Looks.{HaveStores};
@@ -8,7 +8,9 @@ use crate::refusal::Refusal;
 use allocator_app::{Status, Told};
 use cmd_new::{look_for_stores, mark_new_stores};
 use disk_model::{Disk, FileDisk};
+use newcomer_link::NewcomerLink;
 use outside::{Failed, Link, StdClock};
+use spaced_link::SpacedLink;
 use std::alloc::{AllocError, Global};
 use std::fs;
 use std::fs::{File, Permissions};
@@ -23,9 +25,12 @@ type WatchedStore<'a> = WatchedDisk<FileDisk, FileAtPath<'a, HostRuntime>>;
 
 /// The link of a member over another one.
 type ListeningLink<'a, L> = ToldLink<
-    TermLink<L, StdClock<&'a HostRuntime>>,
+    SpacedLink<TermLink<StoreLink<'a, L>, StdClock<&'a HostRuntime>>, StdClock<&'a HostRuntime>>,
     StdClock<&'a HostRuntime>,
 >;
+
+/// The link that reads the store of its member.
+type StoreLink<'a, L> = NewcomerLink<L, StdClock<&'a HostRuntime>, FileDisk>;
 
 /// The descriptors of the standard streams are those below this.
 const STREAMS: usize = 3;
@@ -77,32 +82,50 @@ fn or_refusal(opened: Result<UdpLink, Failed>) -> Result<UdpLink, Refusal>
     }
 }
 
-/// The link of a member over this one. Where the member is told the list of its cluster, it takes no term that is far
-/// ahead, and listens for strangers.
-pub fn listening_link<'a, L: Link>(
+/// The link of a member over this one. Where the member is told the list of its cluster, newcomers come slowly behind a
+/// burst, it takes no term that is far ahead, sends Allocations apart, and listens for strangers. Its store is there
+/// already then.
+pub fn listening_link<'a, L: Link + Drop>(
     rt: &'a HostRuntime,
     link: L,
     told: &Told,
     id: u8,
-) -> ListeningLink<'a, L>
-    ensures link { result.link.link ≡ link }
-    ensures me { (result.me ≡ id) × (result.link.me ≡ id) }
-    ensures list { (result.ids.items ≡ list_of told.now) × (result.link.ids.items ≡ list_of told.now) }
+) -> Result<ListeningLink<'a, L>, Refusal>
+    ensures link { IfOk result (λ over. over.link.link.link.link ≡ link) }
+    ensures me { IfOk result (λ over. (over.me ≡ id) × (over.link.link.me ≡ id)) }
+    ensures list { IfOk result (λ over. (over.ids.items ≡ list_of told.now)
+        × (over.link.link.ids.items ≡ list_of told.now) × (over.link.link.link.ids.items ≡ list_of told.now)) }
+    ensures is_told { IfOk result (λ over. (over.link.is_told ≡ true) ↔ (list_of told.now ≡ [] → ⊥)) }
+    ensures store { IfOk result (λ over. (list_of told.now ≡ [] → ⊥) → IsSome over.link.link.link.place) }
 {
     match told {
-        Told::Size(_) => over(rt, link, id, &[]),
-        Told::Members(members) => over(rt, link, id, members),
+        Told::Size(_) => Ok(over(rt, link, None, id, &[])),
+        Told::Members(members) => {
+            let store = old_store(rt, id)?;
+            Ok(over(rt, link, Some(store), id, members))
+        }
     }
 }
 
 /// The same, for a member that is told this list. An empty one stands for none.
-fn over<'a, L: Link>(rt: &'a HostRuntime, link: L, id: u8, list: &[u8]) -> ListeningLink<'a, L>
+fn over<'a, L: Link>(
+    rt: &'a HostRuntime,
+    link: L,
+    store: Option<FileDisk>,
+    id: u8,
+    list: &[u8],
+) -> ListeningLink<'a, L>
     requires { length list.now ≤ most_members }
-    ensures link { result.link.link ≡ link }
-    ensures me { (result.me ≡ id) × (result.link.me ≡ id) }
-    ensures list { (result.ids.items ≡ list.now) × (result.link.ids.items ≡ list.now) }
+    ensures link { result.link.link.link.link ≡ link }
+    ensures me { (result.me ≡ id) × (result.link.link.me ≡ id) }
+    ensures list { (result.ids.items ≡ list.now) × (result.link.link.ids.items ≡ list.now)
+        × (result.link.link.link.ids.items ≡ list.now) }
+    ensures is_told { (result.link.is_told ≡ true) ↔ (list.now ≡ [] → ⊥) }
+    ensures store { result.link.link.link.place ≡ store }
 {
+    let link = NewcomerLink::new(link, StdClock::new(rt), store, list);
     let link = TermLink::new(link, StdClock::new(rt), id, list);
+    let link = SpacedLink::new(link, StdClock::new(rt), !list.is_empty());
     ToldLink::new(link, StdClock::new(rt), id, list)
 }
 

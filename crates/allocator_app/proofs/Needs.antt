@@ -5,7 +5,7 @@ use Rattle.std.proofs.lemmas.Bool.{true≢false}
 use Rattle.allocator_app.specs.declared.plans.Plan.{Plan}
 use Rattle.allocator_app.specs.declared.plans.Plan.TheVariants.{Replay, Node, Soak, New, Replace, Audit, Watch, Convert, Decode}
 use Rattle.allocator_app.specs.Words.{AreGiven, AreNone, AreStored, HasObjects, IsPlan, UsesDisks, UsesLinks}
-use Rattle.allocator_app.proofs.OnePlan.{only}
+use Rattle.allocator_app.proofs.OnePlan.{only, start_of}
 
 some_given : {L D : Type 0} (ids : List ℕ) (links : List L) (disks : List (Option D)) → 1 ≤ length ids → AreGiven ids links disks → AreNone links disks → ⊥
 some_given ids links disks some given none =
@@ -23,7 +23,7 @@ pub no_links_used : {L D : Type 0} (plan : Plan) (words : List (List ℕ)) (link
 no_links_used (Replay rows ids) words links disks planned uses has none = uses
 no_links_used (Node told base turns ids) words links disks planned uses has none = some_given ids.items links disks planned.members.some has none
 no_links_used (Soak told seed rounds size) words links disks planned uses has none = uses
-no_links_used (New ids) words links disks planned uses has none = uses
+no_links_used (New term ids) words links disks planned uses has none = uses
 no_links_used (Replace lost ids) words links disks planned uses has none = uses
 no_links_used (Audit ids) words links disks planned uses has none = uses
 no_links_used (Watch form lines ids) words links disks planned uses has none = uses
@@ -35,7 +35,7 @@ pub no_disks_used : {L D : Type 0} (plan : Plan) (words : List (List ℕ)) (link
 no_disks_used (Replay rows ids) words links disks planned uses has none = uses
 no_disks_used (Node told base turns ids) words links disks planned uses has none = some_given ids.items links disks planned.members.some has none
 no_disks_used (Soak told seed rounds size) words links disks planned uses has none = uses
-no_disks_used (New ids) words links disks planned uses has none = some_stored ids.items links disks planned.members.some has none
+no_disks_used (New term ids) words links disks planned uses has none = some_stored ids.items links disks (start_of term ids.items planned.rest planned.start).0.some has none
 no_disks_used (Replace lost ids) words links disks planned uses has none = some_stored ids.items links disks planned.members.some has none
 no_disks_used (Audit ids) words links disks planned uses has none = some_stored ids.items links disks planned.members.some has none
 no_disks_used (Watch form lines ids) words links disks planned uses has none = uses

@@ -2,7 +2,9 @@
 use Rattle.std.proofs.Common.{◌≡◌, ◌≤◌, ◌<◌, ◌^◌, ℕ, zero, suc, Bool, true, false, codes, inl, inr, List, [], ◌∷◌, refl, sym, ◌∙◌, ap, subst, arith, decimal, length, map}
 use Rattle.std.specs.List.{Contains}
 use Rattle.std.specs.Prelude.{◌==◌, if◌then◌else◌, slice_index_or}
-use Rattle.std.proofs.lemmas.Fmt.{decimal_injective}
+use Rattle.std.specs.Str.Parse.{AllDigits}
+use Rattle.std.proofs.lemmas.Fmt.{decimal_injective, decimal_is_IsNumeral}
+use Rattle.std.proofs.lemmas.Str.Parse.{digit_from_value}
 use Rattle.arrayvec.specs.ArrayVec.{ArrayVec}
 use Rattle.raft_model.specs.Lists.{In}
 use Rattle.can_logs.specs.declared.form.Form.{Form}
@@ -13,7 +15,7 @@ use Rattle.alloc_spec.specs.ClusterMembers.{AreMembers}
 use Rattle.allocator_app.specs.declared.told.Told.{Told}
 use Rattle.allocator_app.specs.declared.told.Told.TheVariants.{Members, Size}
 use Rattle.allocator_app.specs.Told.{IsCluster, Spells, size_of}
-use Rattle.allocator_app.specs.Words.{AreFew, IsAudit, IsConvert, IsDecode, IsNew, IsNode, IsPlan, IsReplace, IsReplay, IsSize, IsSoak, IsSound, IsWatch, SpellsPayload}
+use Rattle.allocator_app.specs.Words.{AreFew, AreOfNew, IsAudit, IsConvert, IsDecode, IsNew, IsNode, IsPlan, IsReplace, IsReplay, IsSize, IsSoak, IsSound, IsWatch, SpellsPayload}
 use Rattle.allocator_app.specs.declared.plans.Plan.{Plan}
 use Rattle.allocator_app.proofs.Listing.{same_numbers, same_told}
 use Rattle.allocator_app.specs.declared.plans.Plan.TheVariants.{Replay, Node, Soak, New, Replace, Audit, Watch, Convert, Decode}
@@ -23,11 +25,16 @@ sizes : (told : Told) → IsCluster told → (1 ≤ size_of told) × (size_of to
 sizes (Size size) h = h
 sizes (Members members) h = (h.some, h.few)
 
+-- whose stores are made, and above which term
+pub start_of : (term : ℕ) (ids : List ℕ) (words : List (List ℕ)) → AreOfNew term ids words → AreMembers ids × (term ≤ 500000)
+start_of term ids words (inl above) = (above.members, above.term_most)
+start_of term ids words (inr plain) = let none = plain.0 in (plain.1.members, omega (arith, none))
+
 pub sound : (plan : Plan) (words : List (List ℕ)) → IsPlan plan words → IsSound plan
 sound (Replay rows ids) words h = (h.rows_most, h.members)
 sound (Node told base turns ids) words h = let size = sizes told h.cluster in (size.0, size.1, h.turns_most, h.members)
 sound (Soak told seed rounds size) words h = (h.rounds_most, h.sized.least, h.sized.most)
-sound (New ids) words h = h.members
+sound (New term ids) words h = let start = start_of term ids.items h.rest h.start in (start.1, start.0)
 sound (Replace lost ids) words h = (h.members, h.may)
 sound (Audit ids) words h = h.members
 sound (Watch form lines ids) words h = (h.lines_least, h.lines_most, h.nodes)
@@ -37,13 +44,13 @@ sound (Decode name part payload) words h = (h.named, h.part_least, h.part_most, 
 -- words that have no plan by any mode have none
 pub unplanned : (words : List (List ℕ)) → ((rows : ℕ) (ids : List ℕ) → IsReplay rows ids words → ⊥)
     → ((told : Told) (base turns : ℕ) (ids : List ℕ) → IsNode told base turns ids words → ⊥) → ((told : Bool) (seed rounds size : ℕ) → IsSoak told seed rounds size words → ⊥)
-    → ((ids : List ℕ) → IsNew ids words → ⊥) → ((lost : ℕ) (ids : List ℕ) → IsReplace lost ids words → ⊥) → ((ids : List ℕ) → IsAudit ids words → ⊥) → ((form : Form) (lines : ℕ) (ids : List ℕ) → IsWatch form lines ids words → ⊥)
+    → ((term : ℕ) (ids : List ℕ) → IsNew term ids words → ⊥) → ((lost : ℕ) (ids : List ℕ) → IsReplace lost ids words → ⊥) → ((ids : List ℕ) → IsAudit ids words → ⊥) → ((form : Form) (lines : ℕ) (ids : List ℕ) → IsWatch form lines ids words → ⊥)
     → ((from to : Form) (lines : ℕ) → IsConvert from to lines words → ⊥)
     → ((name : List ℕ) (part : ℕ) (payload : List ℕ) → IsDecode name part payload words → ⊥) → (plan : Plan) → IsPlan plan words → ⊥
 unplanned words no_replay no_node no_soak no_new no_replace no_audit no_watch no_convert no_decode (Replay rows ids) is = no_replay rows ids.items is
 unplanned words no_replay no_node no_soak no_new no_replace no_audit no_watch no_convert no_decode (Node told base turns ids) is = no_node told base turns ids.items is
 unplanned words no_replay no_node no_soak no_new no_replace no_audit no_watch no_convert no_decode (Soak told seed rounds size) is = no_soak told seed rounds size is
-unplanned words no_replay no_node no_soak no_new no_replace no_audit no_watch no_convert no_decode (New ids) is = no_new ids.items is
+unplanned words no_replay no_node no_soak no_new no_replace no_audit no_watch no_convert no_decode (New term ids) is = no_new term ids.items is
 unplanned words no_replay no_node no_soak no_new no_replace no_audit no_watch no_convert no_decode (Replace lost ids) is = no_replace lost ids.items is
 unplanned words no_replay no_node no_soak no_new no_replace no_audit no_watch no_convert no_decode (Audit ids) is = no_audit ids.items is
 unplanned words no_replay no_node no_soak no_new no_replace no_audit no_watch no_convert no_decode (Watch form lines ids) is = no_watch form lines ids.items is
@@ -67,7 +74,7 @@ abbrev mode : Plan → Mode
 mode (Replay rows ids) = replaying
 mode (Node told base turns ids) = running
 mode (Soak told seed rounds size) = soaking
-mode (New ids) = making
+mode (New term ids) = making
 mode (Replace lost ids) = replacing
 mode (Audit ids) = auditing
 mode (Watch form lines ids) = watching
@@ -94,7 +101,7 @@ mode_is : (plan : Plan) (words : List (List ℕ)) → IsPlan plan words → mode
 mode_is (Replay rows ids) words h = ap mode_of h.spelled
 mode_is (Node told base turns ids) words h = ap mode_of h.spelled
 mode_is (Soak told seed rounds size) words h = ap mode_of h.spelled
-mode_is (New ids) words h = ap mode_of h.spelled
+mode_is (New term ids) words h = ap mode_of h.spelled
 mode_is (Replace lost ids) words h = ap mode_of h.spelled
 mode_is (Audit ids) words h = ap mode_of h.spelled
 mode_is (Watch form lines ids) words h = ap mode_of h.spelled
@@ -106,7 +113,7 @@ abbrev IsOf : Mode → Plan → Type 0
 IsOf replaying plan = (rows : ℕ) × (ids : ArrayVec ℕ) × (plan ≡ Replay rows ids)
 IsOf running plan = (told : Told) × (base turns : ℕ) × (ids : ArrayVec ℕ) × (plan ≡ Node told base turns ids)
 IsOf soaking plan = (told : Bool) × (seed rounds size : ℕ) × (plan ≡ Soak told seed rounds size)
-IsOf making plan = (ids : ArrayVec ℕ) × (plan ≡ New ids)
+IsOf making plan = (term : ℕ) × (ids : ArrayVec ℕ) × (plan ≡ New term ids)
 IsOf replacing plan = (lost : ℕ) × (ids : ArrayVec ℕ) × (plan ≡ Replace lost ids)
 IsOf auditing plan = (ids : ArrayVec ℕ) × (plan ≡ Audit ids)
 IsOf watching plan = (form : Form) × (lines : ℕ) × (ids : ArrayVec ℕ) × (plan ≡ Watch form lines ids)
@@ -117,7 +124,7 @@ is_of : (plan : Plan) → IsOf (mode plan) plan
 is_of (Replay rows ids) = (rows, ids, refl)
 is_of (Node told base turns ids) = (told, base, turns, ids, refl)
 is_of (Soak told seed rounds size) = (told, seed, rounds, size, refl)
-is_of (New ids) = (ids, refl)
+is_of (New term ids) = (term, ids, refl)
 is_of (Replace lost ids) = (lost, ids, refl)
 is_of (Audit ids) = (ids, refl)
 is_of (Watch form lines ids) = (form, lines, ids, refl)
@@ -191,7 +198,7 @@ third e = cc
 fourth : {a b c d x y z w : List ℕ} {l m : List (List ℕ)} → a ∷ b ∷ c ∷ d ∷ l ≡ x ∷ y ∷ z ∷ w ∷ m → d ≡ w
 fourth e = cc
 
-after_one : {a x : List ℕ} {l m : List (List ℕ)} → a ∷ l ≡ x ∷ m → l ≡ m
+pub after_one : {a x : List ℕ} {l m : List (List ℕ)} → a ∷ l ≡ x ∷ m → l ≡ m
 after_one e = cc
 
 pub after_two : {a b x y : List ℕ} {l m : List (List ℕ)} → a ∷ b ∷ l ≡ x ∷ y ∷ m → l ≡ m
@@ -215,6 +222,26 @@ same_size false false n m words p q =
     let low = p.most in let high = q.most in
     let same = sym p.spelled ∙ q.spelled in
     (refl, one_number n m (omega (arith, low)) (omega (arith, high)) (first same))
+
+-- the word `above` is no number
+no_number : (n : ℕ) → n ≤ 125 → decimal n ≡ codes "above" → ⊥
+no_number n most e =
+    let digits = subst (AllDigits 10) e (decimal_is_IsNumeral n (omega (arith, most))).0.1 in omega (arith, digit_from_value 97 digits.0)
+
+-- the word `above` begins no list of members
+no_members : (ids : List ℕ) (words : List (List ℕ)) → AreMembers ids → codes "above" ∷ words ≡ map decimal ids → ⊥
+no_members [] words members e = cc
+no_members (n ∷ ids) words members e = no_number n (members.nodes n (inl refl)).1 (sym (first e))
+
+-- the words behind `new` spell one term, and one list of members
+same_start : (a b : ℕ) (xs ys : List ℕ) (words : List (List ℕ)) → AreOfNew a xs words → AreOfNew b ys words → (a ≡ b) × (xs ≡ ys)
+same_start a b xs ys words (inl p) (inl q) =
+    let same = sym p.spelled ∙ q.spelled in
+    let low = p.term_most in let high = q.term_most in
+    (one_number a b (omega (arith, low)) (omega (arith, high)) (second same), same_members xs ys p.members q.members (after_two same))
+same_start a b xs ys words (inl p) (inr q) = absurd (no_members ys _ q.1.members (sym p.spelled ∙ q.1.spelled))
+same_start a b xs ys words (inr p) (inl q) = absurd (no_members xs _ p.1.members (sym q.spelled ∙ p.1.spelled))
+same_start a b xs ys words (inr p) (inr q) = (p.0 ∙ sym q.0, same_members xs ys p.1.members q.1.members (sym p.1.spelled ∙ q.1.spelled))
 
 -- ---- the plan of the words of each mode
 
@@ -255,11 +282,13 @@ module _ (plan : Plan) (words : List (List ℕ)) (planned : IsPlan plan words) w
       ∙ ap (λ n. Soak own.0 seed n own.3) (one_number own.2 rounds (omega (arith, a)) (omega (arith, b)) (third same))
       ∙ ap (λ k. Soak k seed rounds own.3) cluster.0 ∙ ap (λ n. Soak told seed rounds n) cluster.1
 
-  pub only_new : (ids : List ℕ) → IsNew ids words → plan ≡ New (kept ids)
-  only_new ids asks =
-      let own = of_mode plan (New (kept ids)) words planned asks in
-      let is = by (New own.0) own.1 in
-      own.1 ∙ ap (λ l. New (kept l)) (same_members own.0.items ids is.members asks.members (after_one (sym is.spelled ∙ asks.spelled)))
+  pub only_new : (term : ℕ) (ids : List ℕ) → IsNew term ids words → plan ≡ New term (kept ids)
+  only_new term ids asks =
+      let own = of_mode plan (New term (kept ids)) words planned asks in
+      let is = by (New own.0 own.1) own.2 in
+      let rest = after_one (sym is.spelled ∙ asks.spelled) in
+      let same = same_start own.0 term own.1.items ids asks.rest (subst (AreOfNew own.0 own.1.items) rest is.start) asks.start in
+      own.2 ∙ ap (λ n. New n own.1) same.0 ∙ ap (λ l. New term (kept l)) same.1
 
   pub only_replace : (lost : ℕ) (ids : List ℕ) → IsReplace lost ids words → plan ≡ Replace lost (kept ids)
   only_replace lost ids asks =
@@ -313,7 +342,7 @@ module _ (plan : Plan) (words : List (List ℕ)) (planned : IsPlan plan words) w
   only (Replay rows ids) asks = only_replay rows ids.items asks
   only (Node told base turns ids) asks = only_node told base turns ids.items asks
   only (Soak told seed rounds size) asks = only_soak told seed rounds size asks
-  only (New ids) asks = only_new ids.items asks
+  only (New term ids) asks = only_new term ids.items asks
   only (Replace lost ids) asks = only_replace lost ids.items asks
   only (Audit ids) asks = only_audit ids.items asks
   only (Watch form lines ids) asks = only_watch form lines ids.items asks

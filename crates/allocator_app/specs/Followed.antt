@@ -28,7 +28,7 @@ module _ {L D : Type 0} (coming : L → Option (List Received)) (sent : L → Op
   IsFollowed (Node told base turns ids) = RunsNodes coming sent link_faults disk (told_rules told) turns ids.items
       links_old links disks_old disks readings_old readings sink_old sink before now status
   IsFollowed (Soak told seed rounds size) = Soaks told seed rounds size sink_old sink before now status
-  IsFollowed (New ids) = MakesStores disk ids.items disks_old disks before now status
+  IsFollowed (New term ids) = MakesStores disk term ids.items disks_old disks before now status
   IsFollowed (Replace lost ids) = Replaces disk ids.items lost disks_old disks before now status
   IsFollowed (Audit ids) = Audits disk ids.items disks_old disks before now status
   IsFollowed (Watch form lines ids) =

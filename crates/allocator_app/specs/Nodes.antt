@@ -45,8 +45,8 @@ module _ {L D : Type 0} (coming : L → Option (List Received)) (sent : L → Op
     pub promise : KeepsInTraces (Opening opening.place)
 
   -- The run, of so many turns, was cut off in a turn of the member with this ID: all had taken some of the turns, those
-  -- before its place one more. In each trace what was sent and is stored is what the world of its rows says, with a kill
-  -- in that turn
+  -- before its place one more. In each trace what was sent and is stored is what the world of the rows of the trace
+  -- says, with a kill in that turn
   pub record IsCutInTraces (turns id : ℕ) : Type 0 where
     pub taken : ℕ
     pub fewer : taken < turns
@@ -55,26 +55,28 @@ module _ {L D : Type 0} (coming : L → Option (List Received)) (sent : L → Op
     pub id_is : slice_index mine place ≡ id
     pub in_world : (ids : List ℕ) (before during : List Event) →
         IsRunIn ids before during rules mine given (Turning taken place) → let w = world_after ids before in
-        IsCutAsInWorld coming sent disk links disks mine given w (world_after ids (before ++ during)) (all_rows during w)
-        (together_at rules mine given taken place) place
+        IsCutAsInWorld coming sent disk links disks mine given w (world_after ids (before ++ during))
+        (all_rows during w) (together_at rules mine given taken place) place
     pub promise : KeepsInTraces (Turning taken place)
 
--- what it leaves and writes; and, where links, disks and the clock tell what they have, what it is in the traces of a
--- cluster. A run that was cut off at an opening touched no link; one whose output failed is what one of the others says.
--- Where the rows of a trace happen on a physical bus, the run stands in it without a premise on what is torn or stale
+-- What a run leaves and writes; and, where links, disks and the clock tell what they have, what it is in the traces of
+-- a cluster. A run that was cut off at an opening touched no link; one whose output failed is what one of the others
+-- says. Where the rows of a trace happen on a physical bus, the run stands in it without a premise on what is torn or
+-- stale
 pub record RunsInTraces {L D : Type 0} (coming : L → Option (List Received)) (sent : L → Option (List RawFrame))
     (link_faults : L → ℕ) (disk : Ghosts D) (rules : Rules) (turns : ℕ) (ids : List ℕ) (links_old links : List L)
     (disks_old disks : List (Option D)) (readings_old readings : Option (List ℕ)) (faults_old faults : ℕ)
     (before now : Option (List ℕ)) (status : Status) : Type 0 where
-  pub runs : RunsNodes coming sent link_faults disk rules turns ids links_old links disks_old disks readings_old readings
-      faults_old faults before now status
+  pub runs : RunsNodes coming sent link_faults disk rules turns ids links_old links disks_old disks readings_old
+      readings faults_old faults before now status
   pub done : (given : RunInput) → Tell coming sent disk links_old disks_old readings_old given → status ≡ Done →
       IsDoneInTraces coming sent disk links disks rules ids given turns
   pub cut : (given : RunInput) (id : ℕ) → Tell coming sent disk links_old disks_old readings_old given →
       RunEndsAtNode id status →
       IsCutOpeningInTraces coming sent disk links disks rules ids given links_old disks_old readings_old readings id
       ⊎ IsCutInTraces coming sent disk links disks rules ids given turns id
-  pub output_failed : (given : RunInput) → Tell coming sent disk links_old disks_old readings_old given → status ≡ WriteFault →
+  pub output_failed : (given : RunInput) → Tell coming sent disk links_old disks_old readings_old given →
+      status ≡ WriteFault →
       IsDoneInTraces coming sent disk links disks rules ids given turns
       ⊎ ((id : ℕ) × (IsCutOpeningInTraces coming sent disk links disks rules ids given links_old disks_old readings_old
       readings id ⊎ IsCutInTraces coming sent disk links disks rules ids given turns id))

@@ -1,5 +1,5 @@
 -- The numbers that are stated for a vehicle, in milliseconds.
-use Rattle.std.specs.Prelude.{ℕ, ◌+◌, ◌*◌, true}
+use Rattle.std.specs.Prelude.{ℕ, ◌+◌, ◌*◌, ◌-◌, ◌≤◌, true}
 use Rattle.host_pace.specs.Timely.{longest_wait}
 use Rattle.bus_physics.specs.Physics.{Limits}
 use Rattle.allocator_app.specs.declared.told.Told.{Told}
@@ -26,3 +26,18 @@ vehicle_limits told = record {
   turn = longest_turn;
   since = 0;
 }
+
+-- ---- two Allocations of a member that is told the list
+
+-- When one was made, when its first frame went out to the link below, and what the member's clock read then. It went
+-- out behind its making. It waited no longer than a link lets a frame wait, by a clock that may be wrong.
+pub record GoneOut : Type 0 where
+  pub made : ℕ
+  pub out : ℕ
+  pub reading : ℕ
+  pub after : made ≤ out
+  pub soon : out ≤ made + longest_wait + most_drift
+
+-- the clock of the member does not run fast from the first one to the second
+abbrev pub KeepsPace : GoneOut → GoneOut → Type 0
+KeepsPace x y = (x.out ≤ y.out) × (y.out ≤ x.out + 60000 → y.reading ≤ x.reading + (y.out - x.out) + most_drift)

@@ -7,6 +7,7 @@ use Rattle.can_logs.specs.Forms.{form_word}
 use Rattle.dsdl_text.specs.Words.{is_name}
 use Rattle.replay_text.specs.Words.{IsHex}
 use Rattle.alloc_spec.specs.ClusterMembers.{AreMembers}
+use Rattle.cmd_new.specs.NewImage.{highest_start}
 use Rattle.allocator_app.specs.declared.plans.Plan.{Plan}
 use Rattle.allocator_app.specs.declared.told.Told.{Told}
 use Rattle.allocator_app.specs.Told.{AreAmong, IsCluster, Spells, size_of}
@@ -52,10 +53,27 @@ pub record IsSoak (told : Bool) (seed rounds size : ℕ) (words : List (List ℕ
   pub seed_most : seed < 2 ^ 64
   pub rounds_most : rounds ≤ 20000
 
--- the words `new <id>..`: whose stores are made
-pub record IsNew (ids : List ℕ) (words : List (List ℕ)) : Type 0 where
-  pub spelled : words ≡ codes "new" ∷ map decimal ids
+-- the words `above <term> <id>..`: the term above which stores are made, and whose they are
+pub record IsNewAbove (term : ℕ) (ids : List ℕ) (words : List (List ℕ)) : Type 0 where
+  pub spelled : words ≡ codes "above" ∷ decimal term ∷ map decimal ids
+  pub term_least : 1 ≤ term
+  pub term_most : term ≤ highest_start
   pub members : AreMembers ids
+
+-- the words `<id>..`: whose stores are made
+pub record IsNewPlain (ids : List ℕ) (words : List (List ℕ)) : Type 0 where
+  pub spelled : words ≡ map decimal ids
+  pub members : AreMembers ids
+
+-- one of the two; without a term stores are made above 0
+abbrev pub AreOfNew : ℕ → List ℕ → List (List ℕ) → Type 0
+AreOfNew term ids words = IsNewAbove term ids words ⊎ ((term ≡ 0) × IsNewPlain ids words)
+
+-- the words `new <id>..` or `new above <term> <id>..`
+pub record IsNew (term : ℕ) (ids : List ℕ) (words : List (List ℕ)) : Type 0 where
+  pub rest : List (List ℕ)
+  pub spelled : words ≡ codes "new" ∷ rest
+  pub start : AreOfNew term ids rest
 
 -- one of two members or more
 pub record MayLose (ids : List ℕ) (lost : ℕ) : Type 0 where
@@ -112,7 +130,7 @@ abbrev pub IsPlan : Plan → List (List ℕ) → Type 0
 IsPlan (Replay rows ids) words = IsReplay rows ids.items words
 IsPlan (Node told base turns ids) words = IsNode told base turns ids.items words
 IsPlan (Soak told seed rounds size) words = IsSoak told seed rounds size words
-IsPlan (New ids) words = IsNew ids.items words
+IsPlan (New term ids) words = IsNew term ids.items words
 IsPlan (Replace lost ids) words = IsReplace lost ids.items words
 IsPlan (Audit ids) words = IsAudit ids.items words
 IsPlan (Watch form lines ids) words = IsWatch form lines ids.items words
@@ -125,7 +143,7 @@ IsSound (Replay rows ids) = (rows ≤ 1000000) × AreMembers ids.items
 IsSound (Node told base turns ids) =
     (1 ≤ size_of told) × (size_of told ≤ most_members) × (turns ≤ 1000000000) × AreMembers ids.items
 IsSound (Soak told seed rounds size) = (rounds ≤ 20000) × (1 ≤ size) × (size ≤ most_members)
-IsSound (New ids) = AreMembers ids.items
+IsSound (New term ids) = (term ≤ highest_start) × AreMembers ids.items
 IsSound (Replace lost ids) = AreMembers ids.items × MayLose ids.items lost
 IsSound (Audit ids) = AreMembers ids.items
 IsSound (Watch form lines ids) = (1 ≤ lines) × (lines ≤ 1000000) × AreFew ids.items
@@ -161,7 +179,7 @@ pub record AreStored {L D : Type 0} (ids : List ℕ) (links : List L) (disks : L
 -- the objects that a plan needs
 abbrev pub HasObjects : {L D : Type 0} → Plan → List L → List (Option D) → Type 0
 HasObjects (Node told base turns ids) links disks = AreGiven ids.items links disks
-HasObjects (New ids) links disks = AreStored ids.items links disks
+HasObjects (New term ids) links disks = AreStored ids.items links disks
 HasObjects (Replace lost ids) links disks = AreStored ids.items links disks
 HasObjects (Audit ids) links disks = AreStored ids.items links disks
 HasObjects _ links disks = AreNone links disks
@@ -176,7 +194,7 @@ pub record IsAsked {L D : Type 0} (words : List (List ℕ)) (links : List L) (di
 abbrev pub Reads : Plan → Type 0
 Reads (Node told base turns ids) = ⊥
 Reads (Soak told seed rounds size) = ⊥
-Reads (New ids) = ⊥
+Reads (New term ids) = ⊥
 Reads (Replace lost ids) = ⊥
 Reads (Audit ids) = ⊥
 Reads _ = Unit {0}
@@ -187,7 +205,7 @@ UsesLinks _ = ⊥
 
 abbrev pub UsesDisks : Plan → Type 0
 UsesDisks (Node told base turns ids) = Unit {0}
-UsesDisks (New ids) = Unit {0}
+UsesDisks (New term ids) = Unit {0}
 UsesDisks (Replace lost ids) = Unit {0}
 UsesDisks (Audit ids) = Unit {0}
 UsesDisks _ = ⊥

@@ -1,15 +1,16 @@
 //! What holds of every run, each the contract of a function that does nothing.
 
-ghost use Rattle.std.specs.Prelude.{◌≡◌, ◌≢◌, [], ℕ, List, Option};
+ghost use Rattle.std.specs.Prelude.{◌≡◌, ◌≢◌, ◌+◌, ◌≤◌, [], ℕ, List, Option};
 ghost use Rattle.bus_spec.specs.Cluster.{Cluster};
 ghost use Rattle.allocator_app.specs.InPart.{IsWrittenInPart};
 ghost use Rattle.cmd_io.specs.Output.{WritesFront};
-ghost use Rattle.bus_physics.specs.Physics.{HoldsAreShort};
+ghost use Rattle.bus_physics.specs.Physics.{AreApart, HoldsAreShort, joining_span};
 ghost use Rattle.allocator_app.specs.Told.{list_of};
-ghost use Rattle.allocator_app.specs.Vehicle.{vehicle_limits};
+ghost use Rattle.allocator_app.specs.Vehicle.{GoneOut, KeepsPace, vehicle_limits};
 ghost use Rattle.allocator_app.specs.declared.told.Told.{Told};
 ghost use Rattle.allocator_app.specs.Report.{IsReport};
 ghost use Rattle.cmd_io.specs.declared.status.Status.{Status};
+ghost use Rattle.spaced_link.specs.Spacing.{between_uses};
 
 use replay_text::laws::a_line_has_one_row;
 
@@ -32,8 +33,16 @@ pub fn what_was_written_begins_the_report()
     a_line_has_one_row();
 }
 
-/// The rest of a process that was told its members, the longest way of a frame and the most that clocks may be off, as
-/// they are stated for a vehicle, are such that no answer to an earlier call counts (`bus_physics`).
+/// The rest of a process that was told its members, the longest way of a frame, the longest turn and the most that clocks
+/// may be off, as they are stated for a vehicle, keep the bounds that `bus_physics` asks of them.
 pub fn the_numbers_of_a_vehicle_are_enough()
     ensures { (told : Told) → list_of told ≢ [] → HoldsAreShort (vehicle_limits told) }
+{}
+
+/// Where the first frames of two Allocations of one process go out as far apart as `spaced_link` lets those with one
+/// transfer ID, and each waited no longer than a link lets a frame wait, the two were made so far apart that nobody joins
+/// their frames. That these are the Allocations of a trace is not proved.
+pub fn what_goes_out_apart_was_made_apart()
+    ensures { (told : Told) (x y : GoneOut) → KeepsPace x y → x.reading + between_uses ≤ y.reading →
+        AreApart (joining_span (vehicle_limits told) (vehicle_limits told).drift) x.made y.made }
 {}

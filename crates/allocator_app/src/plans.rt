@@ -34,8 +34,10 @@ pub enum Plan {
         size: u8,
     },
 
-    /// To make new stores for these nodes, 1 to 5 of 1 to 125 each.
+    /// To make new stores for these nodes, 1 to 5 of 1 to 125 each, above this term, at most 500,000. It is 0 where
+    /// the words have none.
     New {
+        term: u32,
         ids: ArrayVec<u8, MOST_MEMBERS>,
     },
 

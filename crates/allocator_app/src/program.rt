@@ -77,7 +77,8 @@ use store_audit::audit_stores;
 /// of the trace's rows says (`Traces` and `Stands` of `cmd_node_laws`).
 ///
 /// `new <id>..` makes a new store of each of the disks that are handed in, one for each of these members: an
-/// image with its version alone, synced (`MakesStores` of `cmd_new`).
+/// image with its version alone, synced (`MakesStores` of `cmd_new`). With `above <term>` before the members each image
+/// also has this term, and a vote for its own member.
 ///
 /// `replace <lost> <id>..` makes the store of the lost one of these members from the leader's, where the stores of the
 /// others allow it, a disk for each; only that of the lost one is written (`Replaces` of `cmd_replace`). Else it is
@@ -184,8 +185,8 @@ pub fn run<S: Source, K: Sink, L: Link, D: Disk, C: Clock>(
         links.old links.new disks.old disks.new (C.readings clock.old) (C.readings clock.new)
         (K.faults sink.old) (K.faults sink.new) (K.written sink.old) (K.written sink.new) result }
     // Stores that are made: what is written, and that each disk has the image of a new store then, all of it stable.
-    ensures new { (ids : List ℕ) → IsNew ids (map string_bytes words.now) →
-        (result ≡ Status.Usage) ⊎ MakesStores D.Disk ids disks.old disks.new
+    ensures new { (term : ℕ) (ids : List ℕ) → IsNew term ids (map string_bytes words.now) →
+        (result ≡ Status.Usage) ⊎ MakesStores D.Disk term ids disks.old disks.new
         (K.written sink.old) (K.written sink.new) result }
     // A store that is made from the leader's: what is written, or what stands in the way.
     ensures replace { (lost : ℕ) (ids : List ℕ) → IsReplace lost ids (map string_bytes words.now) →
@@ -238,7 +239,7 @@ fn has_objects<L: Link, D: Disk>(plan: &Plan, links: &[L], disks: &[Option<D>]) 
 {
     match plan {
         Plan::Node { ids, .. } => are_given(ids, links, disks),
-        Plan::New { ids } => are_stored(ids, links, disks),
+        Plan::New { ids, .. } => are_stored(ids, links, disks),
         Plan::Replace { ids, .. } => are_stored(ids, links, disks),
         Plan::Audit { ids } => are_stored(ids, links, disks),
         Plan::Replay { .. }
@@ -333,7 +334,7 @@ fn follow<S: Source, K: Sink, L: Link, D: Disk, C: Clock>(
             rounds,
             size,
         } => soak(alloc, told, seed, rounds, size, sink),
-        Plan::New { ids } => make_stores(&ids, disks, sink),
+        Plan::New { term, ids } => make_stores(term, &ids, disks, sink),
         Plan::Replace { lost, ids } => replace(&ids, lost, disks, sink),
         Plan::Audit { ids } => audit_stores(&ids, disks, sink),
         Plan::Watch { form, lines, ids } => watch(form, lines, &ids, source, sink),

@@ -14,8 +14,8 @@ use replay_text::read_number;
 /// How long a process that is told its members, and ran one of them before, rests before its first turn, in
 /// milliseconds. It counts its transfer IDs from 0, as the one before it did, and calls nobody for the first 2,000 ms
 /// after its opening. A call of the one before and the answer to it are on their way for 3,500 ms each at most: 1,000 ms
-/// in the link of each process, 500 in the bridge of each, and 500 on the bus. So both are over by then, with 500 ms to
-/// spare for clocks.
+/// in the link of each process, and 1,500 in bridges and on the bus. So both are over by then, with 500 ms to spare for
+/// clocks.
 pub const REST: u64 = 5500;
 
 /// What the members of a cluster are told of it.

@@ -5,7 +5,7 @@ ghost use Rattle.dsdl_text.specs.Words as text_words;
 ghost use Rattle.raft_model.specs.Lists.{In};
 ghost use Rattle.alloc_spec.specs.ClusterMembers.{AreMembers};
 ghost use Rattle.allocator_app.specs.declared.told.Told.{Told};
-ghost use Rattle.allocator_app.specs.Words.{AreFew, IsAudit, IsConvert, IsDecode, IsNew, IsNode, IsPlan, IsReplace, IsReplay, IsSize, IsSoak, IsWatch, MayLose, SpellsPayload};
+ghost use Rattle.allocator_app.specs.Words.{AreFew, AreOfNew, IsAudit, IsConvert, IsDecode, IsNew, IsNewAbove, IsNode, IsPlan, IsReplace, IsReplay, IsSize, IsSoak, IsWatch, MayLose, SpellsPayload};
 
 use crate::plans::Plan;
 use crate::told::read_told;
@@ -18,8 +18,9 @@ use replay_text::{read_bytes, read_number};
 
 /// The plan of the words, without the program's name; `None` where they are none of
 /// `replay <rows> <id>..`, `node <members> <base> <turns> <id>..`, `soak <seed> <rounds> <size>`,
-/// `soak <seed> <rounds> configured <size>`, `new <id>..`, `replace <lost> <id>..`, `audit <id>..`,
-/// `watch <format> <lines> <id>..`, `convert <format> <format> <lines>` and `decode <name> <part> <hex>`.
+/// `soak <seed> <rounds> configured <size>`, `new <id>..`, `new above <term> <id>..`, `replace <lost> <id>..`,
+/// `audit <id>..`, `watch <format> <lines> <id>..`, `convert <format> <format> <lines>` and
+/// `decode <name> <part> <hex>`.
 pub fn plan(words: &[String]) -> Option<Plan>
     ensures some { IfSome result (λ plan. IsPlan plan (map string_bytes words.now)) }
     ensures none { IsNone result → (plan : Plan) → IsPlan plan (map string_bytes words.now) → ⊥ }
@@ -137,17 +138,47 @@ fn read_cluster(words: &[String]) -> Option<(bool, u8)>
 
 fn new_plan(words: &[String]) -> Option<Plan>
     ensures some { IfSome result (λ plan. IsPlan plan (map string_bytes words.now)) }
-    ensures none { IsNone result → (ids : List ℕ) →
-        IsNew ids (map string_bytes words.now) → ⊥ }
+    ensures none { IsNone result → (term : ℕ) (ids : List ℕ) →
+        IsNew term ids (map string_bytes words.now) → ⊥ }
 {
-    let [mode, ids @ ..] = words else {
+    let [mode, stores @ ..] = words else {
         return None;
     };
     if mode.as_str() != "new" {
         return None;
     }
+    let (term, ids) = read_start(stores)?;
+    Some(Plan::New { term, ids })
+}
+
+/// The term above which stores are made, 0 where the words have none, and whose they are.
+fn read_start(words: &[String]) -> Option<(u32, ArrayVec<u8, MOST_MEMBERS>)>
+    ensures some { IfSome result (λ read. AreOfNew read.0 read.1.items (map string_bytes words.now)) }
+    ensures none { IsNone result → (term : ℕ) (ids : List ℕ) →
+        AreOfNew term ids (map string_bytes words.now) → ⊥ }
+{
+    if let Some(above) = read_above(words) {
+        return Some(above);
+    }
+    let ids = read_members(words)?;
+    Some((0, ids))
+}
+
+/// The term that the words have, and the members behind it.
+fn read_above(words: &[String]) -> Option<(u32, ArrayVec<u8, MOST_MEMBERS>)>
+    ensures some { IfSome result (λ read. IsNewAbove read.0 read.1.items (map string_bytes words.now)) }
+    ensures none { IsNone result → (term : ℕ) (ids : List ℕ) →
+        IsNewAbove term ids (map string_bytes words.now) → ⊥ }
+{
+    let [word, term, ids @ ..] = words else {
+        return None;
+    };
+    if word.as_str() != "above" {
+        return None;
+    }
+    let term = number_within(term.as_bytes(), 1, 500_000)? as u32;
     let ids = read_members(ids)?;
-    Some(Plan::New { ids })
+    Some((term, ids))
 }
 
 fn replace_plan(words: &[String]) -> Option<Plan>

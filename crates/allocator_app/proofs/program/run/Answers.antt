@@ -1,13 +1,24 @@
-use Rattle.std.proofs.Common.{inl, inr, refl}
+use Rattle.std.proofs.Common.{inl, inr, refl, sym, subst, ◌∙◌}
+use Rattle.std.proofs.lemmas.Bool.{true≢false}
 use Rattle.bus_spec.specs.Cluster.{cluster}
 use Rattle.allocator_app.specs.Promise.{KeepsPromise}
 use Rattle.allocator_app.specs.Told.{told_rules}
+use Rattle.allocator_app.specs.Words.{HasObjects}
 use Rattle.allocator_app.specs.declared.plans.Plan.TheVariants.{Replay}
 use Rattle.allocator_app.proofs.Ending.{all_lawful, completed, holds_along}
 use Rattle.allocator_app.proofs.Needs.{no_disks_used, no_links_used}
-use Rattle.allocator_app.proofs.OnePlan.{only_audit, only_convert, only_decode, only_new, only_node, only_replace, only_replay, only_soak, only_watch}
+use Rattle.allocator_app.proofs.OnePlan.{only, only_audit, only_convert, only_decode, only_new, only_node, only_replace, only_replay, only_soak, only_watch}
 use Rattle.allocator_app.proofs.Traces.{in_traces}
 use Rattle.allocator_app.proofs.program.run.Goals as goal
+
+pub returns-then-not-has_objects-clause-usage : goal.returns-then-not-has_objects-clause-usage
+returns-then-not-has_objects-clause-usage g c = (
+  λ e asked.
+      let same = only c.in-Some.plan _ c.in-Some.ensures.some asked.plan asked.is in
+      let objects = subst (λ plan. HasObjects plan c.args.links.now c.args.disks.now) (sym same) asked.objects in
+      true≢false (sym (c.has_objects.ensures.1 objects) ∙ c.if-not-has_objects.true),
+  λ other. refl,
+)
 
 pub returns-clause-schedule : goal.returns-clause-schedule
 returns-clause-schedule g c = λ limit nodes asks.
@@ -65,8 +76,8 @@ returns-clause-nodes g c = λ told base turns ids asks.
     }) (c.runs_stand_on_a_bus.ensures (told_rules told) ids) (rw (only_node c.in-Some.plan _ c.in-Some.ensures.some told base turns ids asks) at c.follow.ensures.followed))
 
 pub returns-clause-new : goal.returns-clause-new
-returns-clause-new g c = λ ids asks.
-    inr (rw (only_new c.in-Some.plan _ c.in-Some.ensures.some ids asks) at c.follow.ensures.followed)
+returns-clause-new g c = λ term ids asks.
+    inr (rw (only_new c.in-Some.plan _ c.in-Some.ensures.some term ids asks) at c.follow.ensures.followed)
 
 pub returns-clause-replace : goal.returns-clause-replace
 returns-clause-replace g c = λ lost ids asks.
