@@ -8,14 +8,17 @@
     bus = buses.Stamped("can0", [1, 2])   # what the allocators with these node IDs take or send, with its moments
     buses.is_base("5000")                 # whether a word is a base port
     buses.tells_what_is_out("can0")       # whether the driver gives a frame back once it was on the bus
+    buses.bit_rate("can0")                # its bits a second, or None where it has no wire or does not tell
+    buses.late_echo(125_000)              # after how many seconds an echo is late there, or where the rate is None
 """
 from __future__ import annotations
 
 import errno
 import socket
 import struct
+import sys
 import time
-from typing import Dict, Iterator, List, Optional, Sequence, Tuple, Union
+from typing import Dict, Iterator, List, MutableMapping, Optional, Sequence, Tuple, Union
 
 from . import table, texts, wire
 
@@ -30,7 +33,9 @@ IFF_ECHO = 1 << 18  # of linux/if.h
 WITHOUT_A_WIRE = "vcan", "vxcan"  # what is sent on these is out at once
 MESSAGE = struct.Struct("=IHHIIBxHiII")  # a struct nlmsghdr and a struct ifinfomsg of Linux
 GET_LINK, NEW_LINK, IS_REQUEST = 18, 16, 1
-LINK_INFO, INFO_KIND = 18, 1
+LINK_INFO, INFO_KIND, INFO_DATA, BIT_TIMING = 18, 1, 2, 1
+NESTED = 1 << 15  # may stand in the kind of an attribute
+BIT_RATE = "CALDROUZ_BIT_RATE"  # in the environment of a member: the bit rate of the bus behind its socket
 CAN_FILTER = struct.Struct("=II")
 SOURCE = 0x7F  # of an identifier
 SO_TIMESTAMPNS, TIMESPEC = 35, struct.Struct("@ll")  # the time of arrival, in seconds and nanoseconds
@@ -43,26 +48,68 @@ def is_base(word: str) -> bool:
 def tells_what_is_out(channel: str) -> Optional[bool]:
     """Whether a frame comes back on this interface once it was on the bus, and no sooner; None where the system does
     not tell. Where the driver has no echo of its own, the kernel gives a frame back before the driver has it."""
+    return has_true_echo(_described(channel))
+
+
+def bit_rate(channel: str) -> Optional[int]:
+    """The bit rate of this interface; None where it has none, or the system does not tell."""
+    return told_bit_rate(_described(channel))
+
+
+def late_echo(rate: Optional[int]) -> float:
+    """After how many seconds an echo is late, for a member of `can`, on a bus with this bit rate."""
+    is_slow = rate is not None and rate <= table.CAN_SLOW
+    return (table.CAN_LATE_WHERE_SLOW if is_slow else table.CAN_LATE) / 1000
+
+
+def tell_bit_rate(environment: MutableMapping[str, str], rate: Optional[int]) -> None:
+    """Puts the bit rate into the environment of a member, and nothing where it is not known."""
+    environment.pop(BIT_RATE, None)
+    if rate:
+        environment[BIT_RATE] = str(rate)
+
+
+def _described(channel: str) -> bytes:
+    """The kernel's description of an interface; empty where the system gives none."""
     try:
         with socket.socket(socket.AF_NETLINK, socket.SOCK_RAW, 0) as link:
             link.settimeout(1.0)
             number = socket.if_nametoindex(channel)
             link.send(MESSAGE.pack(MESSAGE.size, GET_LINK, IS_REQUEST, 1, 0, 0, 0, number, 0, 0))
-            answer = link.recv(1 << 16)
+            return link.recv(1 << 16)
     except OSError:
-        return None
-    return has_true_echo(answer)
+        return b""
 
 
 def has_true_echo(answer: bytes) -> Optional[bool]:
     """What the kernel's description of an interface says of its echo; None where it is none."""
+    described = _flags_and_info(answer)
+    if described is None:
+        return None
+    flags, info = described
+    return bool(flags & IFF_ECHO) or _kind(info) in WITHOUT_A_WIRE
+
+
+def told_bit_rate(answer: bytes) -> Optional[int]:
+    """The bit rate that the kernel's description of an interface has; None where it has none."""
+    described = _flags_and_info(answer)
+    if described is None or _kind(described[1]) != "can":
+        return None
+    timing = _attributes(described[1].get(INFO_DATA, b"")).get(BIT_TIMING, b"")
+    return int.from_bytes(timing[:4], sys.byteorder) or None
+
+
+def _flags_and_info(answer: bytes) -> Optional[Tuple[int, Dict[int, bytes]]]:
     if len(answer) < MESSAGE.size:
         return None
     _, kind, _, _, _, _, _, _, flags, _ = MESSAGE.unpack_from(answer)
     if kind != NEW_LINK:
         return None
-    info = _attributes(_attributes(answer[MESSAGE.size:]).get(LINK_INFO, b""))
-    return bool(flags & IFF_ECHO) or info.get(INFO_KIND, b"").rstrip(b"\0").decode() in WITHOUT_A_WIRE
+    return flags, _attributes(_attributes(answer[MESSAGE.size:]).get(LINK_INFO, b""))
+
+
+def _kind(info: Dict[int, bytes]) -> str:
+    return info.get(INFO_KIND, b"").rstrip(b"\0").decode()
 
 
 def _attributes(data: bytes) -> Dict[int, bytes]:
@@ -71,7 +118,7 @@ def _attributes(data: bytes) -> Dict[int, bytes]:
         length, kind = struct.unpack_from("=HH", data)
         if length < 4:
             break
-        found[kind] = data[4:length]
+        found[kind & ~NESTED] = data[4:length]
         data = data[length + 3 & ~3:]
     return found
 

@@ -6,7 +6,7 @@ const $ = id => document.getElementById(id);
 let facts, first, last, lanes, rows, lines, moments, count, outside_used;
 const esc = text => String(text).replace(/[&<>"]/g, c => ({"&": "&amp;", "<": "&lt;", ">": "&gt;", '"': "&quot;"}[c]));
 const coded = text => esc(text).replace(/`([^`]*)`/g, "<code>$1</code>");
-const LEFT = 112, RIGHT = 44, TOP = 42, BAR = 26, GRAPH = 24, GAP = 30, LONG_PAUSE = 10000;
+const NARROW = 500, RIGHT = 44, TOP = 42, BAR = 26, GRAPH = 24, GAP = 30, LONG_PAUSE = 10000;
 let current = 0, scale = 1, fitted = true, axis = "time", places_of = [], end_of_axis = 1, breaks = [], drawn = {y: []};
 
 // --- the axis: where a row stands, from 0
@@ -24,7 +24,8 @@ function set_axis() {
 const place = r => r <= first ? (axis === "row" ? .5 : 0) : r > last ? end_of_axis : places_of[r - first];
 const edge = r => axis === "row" ? Math.min(Math.max(r - first, 0), count) : place(r);
 const width = () => Math.max(300, $("strip").clientWidth);
-const room = () => width() - LEFT - RIGHT;
+const left = w => w < NARROW ? 80 : 112; // where the lanes begin, behind their names
+const room = () => width() - left(width()) - RIGHT;
 function fit() { scale = room() / end_of_axis; if (axis === "row") scale = Math.min(scale, 26); }
 
 // --- what a row says
@@ -51,8 +52,26 @@ const role_words = what => facts.roles[what] || ({never: "not there yet", wait: 
 function shown_lanes() {
   return lanes.map((lane, i) => i).filter(i => lanes[i].kind === "member" || (lanes[i].kind === "outside" ? outside_used : $("devices").checked));
 }
+/* The labels of the marks at which node IDs are told, by the mark: where it stands, and what it says. Where labels would lie over
+   one another, there is one for all of them, behind the last. */
+function labels_of_ids(x_of, y, w) {
+  const found = new Map(), told = facts.marks.filter(mark => (mark[2] === "told" || mark[2] === "hold") && y[mark[1]] !== undefined);
+  for (const i of new Set(told.map(mark => mark[1]))) {
+    const marks = told.filter(mark => mark[1] === i).map(mark => [x_of(mark[0]), mark]).sort((a, b) => a[0] - b[0]);
+    let from = 0;
+    marks.forEach(([at, mark], n) => {
+      const ids = [...new Set(marks.slice(from, n + 1).map(one => one[1][3]))];
+      const words = ids.length > 3 ? `${ids[0]} … ${ids[ids.length - 1]}` : ids.join(", "), long = 7 * words.length + 9;
+      if (n + 1 < marks.length && marks[n + 1][0] - at < long + 9) return;
+      found.set(mark, [at + long <= w ? `x="${at + 9}"` : `x="${marks[from][0] - 9}" text-anchor="end"`, words]);
+      from = n + 1;
+    });
+  }
+  return found;
+}
 function draw(whole) {
   const strip = $("strip"), scroll = whole ? 0 : strip.scrollLeft, w = whole ? 1040 : width();
+  const LEFT = left(w);
   if (whole) { scale = (w - LEFT - RIGHT) / end_of_axis; }
   const x = p => LEFT + p * scale - scroll, out = [], y = [];
   let down = TOP + 6;
@@ -134,7 +153,9 @@ function draw(whole) {
   }
   out.push(...names);
   // the marks
-  for (const [r, i, what, text] of facts.marks) {
+  const labels = labels_of_ids(r => x(place(r)), y, w);
+  for (const mark of facts.marks) {
+    const [r, i, what, text] = mark;
     if (y[i] === undefined) continue;
     const at = x(place(r)); if (!see(at, at)) continue;
     const top = y[i], low = lanes[i].kind === "member" ? 19 : 14, title = `<title>${esc(`row ${r}: ${says(r)}`)}</title>`;
@@ -145,7 +166,8 @@ function draw(whole) {
     else if (what === "full") out.push(`<rect class="failed" x="${at - 1.5}" y="${top + BAR}" width="3" height="6">${title}</rect>`);
     else if (what === "told" || what === "hold") {
       const high = lanes[i].kind === "member" ? top - 12 : top;
-      out.push(`<path class="told" d="M${at} ${high - 1}l7 9l-7 9l-7 -9z">${title}</path><text class="toldtext" x="${at + 9}" y="${high + 7}">${esc(text)}</text>`);
+      out.push(`<path class="told" d="M${at} ${high - 1}l7 9l-7 9l-7 -9z">${title}</path>`);
+      if (labels.has(mark)) out.push(`<text class="toldtext" ${labels.get(mark)[0]} y="${high + 7}">${esc(labels.get(mark)[1])}</text>`);
     } else if (what === "commit") out.push(`<circle class="dot" cx="${at}" cy="${top + BAR + GRAPH - 3 - (GRAPH - 6) * text / peak}" r="3">${title}</circle>`);
   }
   // the names stand over what is below the left edge
@@ -153,7 +175,7 @@ function draw(whole) {
   for (const i of shown_lanes()) {
     const lane = lanes[i], device = lane.kind === "device" || lane.kind === "heard";
     out.push(`<text class="${device ? "small" : "name"}" x="6" y="${y[i] + (lane.kind === "member" ? 17 : 13)}">${esc(short_name(lane))}<title>${esc(device ? "the device " + lane.name : lane.name)}</title></text>`);
-    if (lane.kind === "member") out.push(`<text class="small" x="6" y="${y[i] + BAR + 15}">log: 0 to ${peak} entries</text>`);
+    if (lane.kind === "member") out.push(`<text class="small" x="6" y="${y[i] + BAR + 15}">log: 0 to ${peak}${w < NARROW ? "" : " entries"}</text>`);
   }
   const now = x(place(current));
   if (now >= LEFT) out.push(`<line class="now" id="now" x1="${now}" x2="${now}" y1="${TOP - 10}" y2="${bottom}"/>`);
@@ -167,7 +189,7 @@ function draw(whole) {
 function zoom(by) {
   const centre = place(current); fitted = by === 0;
   if (fitted) fit(); else scale = Math.min(Math.max(scale * by, room() / end_of_axis), axis === "row" ? 40 : 4);
-  $("long").style.width = LEFT + end_of_axis * scale + RIGHT + "px";
+  $("long").style.width = left(width()) + end_of_axis * scale + RIGHT + "px";
   $("strip").scrollLeft = centre * scale - room() / 2; draw();
 }
 
@@ -177,8 +199,8 @@ function show(r, bring) {
   if (!count) { draw(); $("state_head").textContent = "No row was taken"; return; }
   $("slide").value = current; $("row").value = current;
   if (bring) {
-    const at = LEFT + place(current) * scale, strip = $("strip");
-    if (at < strip.scrollLeft + LEFT + 30 || at > strip.scrollLeft + width() - 40) strip.scrollLeft = at - width() / 2;
+    const begin = left(width()), at = begin + place(current) * scale, strip = $("strip");
+    if (at < strip.scrollLeft + begin + 30 || at > strip.scrollLeft + width() - 40) strip.scrollLeft = at - width() / 2;
   }
   draw();
   $("state_head").textContent = `After row ${current.toLocaleString("en")}, at ${moments[current - first].toLocaleString("en")} ms`;
@@ -243,7 +265,7 @@ $("less").onclick = () => zoom(.5); $("more").onclick = () => zoom(2); $("fit").
 $("axis").onchange = () => { axis = $("axis").value; set_axis(); zoom(0); };
 for (const id of ["all", "dropped", "lost", "devices"]) $(id).onchange = () => draw();
 $("picture").onclick = e => {
-  const box = $("picture").getBoundingClientRect(), at = (e.clientX - box.left + drawn.scroll - LEFT) / scale;
+  const box = $("picture").getBoundingClientRect(), at = (e.clientX - box.left + drawn.scroll - left(width())) / scale;
   let low = 0, high = count - 1;
   while (low < high) { const middle = (low + high) >> 1; if (places_of[middle] < at - (axis === "row" ? .5 : 0)) low = middle + 1; else high = middle; }
   show(first + low);

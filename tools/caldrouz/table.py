@@ -68,8 +68,17 @@ LAST = 125  # The highest node ID that has a port.
 # How long a frame may wait in a link, in ms (host_pace)
 LONGEST_WAIT = 1000
 
+# When an echo is late on a CAN bus, in ms (can_link)
+CAN_LATE = 500
+CAN_LATE_WHERE_SLOW = 1000  # The same on a slow bus, where others that go first may have the wire for longer.
+CAN_SLOW = 125000  # A bus with no more bits in a second is slow.
+
 # How long a process rests before its first turn, in ms (allocator_app)
 REST = 5500
+
+# Words of members that are told their list (cmd_node)
+LEAST_WORD = 1000  # The word of the lowest member, where the members are told their list.
+MOST_LONGER = 1000  # By so much the highest member waits longer than the lowest, in milliseconds.
 
 # An image of a store (disk_model)
 IMAGE = 8844  # The size of a disk in bytes.

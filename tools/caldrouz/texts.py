@@ -85,6 +85,10 @@ CAUSES: Dict[str, str] = {
         "many new pairs within a minute, of nodes that are not there or do not answer. A warning where they "
         "are there, a guess where few were heard"
     ),
+    "newcomers-wait": (
+        "the log has 100 entries or more, and a new device or node waits: \"A full log\". A guess without "
+        "--store"
+    ),
     "lossy-bus": (
         "members leave out answers, and answer again: mend the bus first. A guess, where they lead in turn, "
         "for seconds each"
@@ -158,8 +162,9 @@ MEMBER_EXITS: Dict[int, Tuple[str, str]] = {
         ),
         (
             "caldrouz-check-settings says what is wrong (as spaces in CLUSTER); or the number behind @ does not "
-            "stand in CLUSTER; after listed, give the member the list that it always had; where its store is of "
-            "another cluster, replace it, as that of a machine; where the list is new on purpose, begin anew"
+            "stand in CLUSTER; after listed, compare CLUSTER with the other machines first: where it differs, "
+            "give the member the list that all others have. Else replace its store, as that of a machine, where "
+            "it is of another cluster; and where the list is new on purpose, begin anew"
         ),
     ),
     6: (
@@ -196,18 +201,21 @@ MEMBER_EXITS: Dict[int, Tuple[str, str]] = {
         "look at the journal, and at the list below",
     ),
     17: (
-        "the echo of a frame is half a second late: no other node acknowledged it, and it waits in the interface",
+        (
+            "the echo of a frame is late: no other node acknowledged it for half a second, or a second at 125 "
+            "kbit/s or less, and it waits in the interface"
+        ),
         "its unit takes the interface down and up. By hand do so before the cable is mended",
     ),
     18: (
         (
-            "the member in the last line heard a stranger, by the frame there: another node has its node ID, or "
-            "does what members do and is not on its list"
+            "the member in the last line heard a stranger, by the frame there: another node has its node ID; or "
+            "one that is not on its list does what members do, or answers as an allocator"
         ),
         (
-            "compare CLUSTER on all machines. echo $((0xidentifier & 127)) tells who it was: itself, by a cloned "
-            "card, a second process or a fixed address; or a server that does not belong here. Then audit, and "
-            "replace the store of one that had another list"
+            "compare CLUSTER on all machines; echo $((0xidentifier & 127)) tells who it was. Then stop all, and "
+            "audit. Where a log has a member's ID, begin anew with the same IDs, without that line. Else mend the "
+            "wrong list, replace that store, switch devices off and on"
         ),
     ),
     19: (

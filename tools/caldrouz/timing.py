@@ -51,7 +51,6 @@ class Timing:
     def __init__(self, members: Collection[int]) -> None:
         self.members = members
         self.reuse: Dict[Way, Optional[Span]] = {}  # the least time after which an ID was used again; None: none was
-        self.unanswered: Dict[Way, Span] = {}  # of requests: the least time of those whose last use had no answer
         self.answers: Dict[Way, Span] = {}  # of requests: the latest answer, from its request on
         self.repeats: List[int] = []  # lines with a frame that came twice
         self.disorder: List[int] = []  # lines with a frame that does not go on where its transfer stands
@@ -77,8 +76,6 @@ class Timing:
         if before is not None:
             span = Span(stamp - before.stamp, record.line)
             self.reuse[way] = min(span, least or span)
-            if way.kind in wire.RESPONSES and not before.answered:
-                self.unanswered[way] = min(span, self.unanswered.get(way, span))
         self._used[way, tail.transfer_id] = Sent(stamp)
         if way.kind in wire.REQUESTS:
             self._look_at_answer(way, tail.transfer_id, record)

@@ -23,9 +23,9 @@ __all__ = ["COMES_OFTEN", "Cause", "NamedStore", "find", "interface", "lists_her
 # What is certain, what stops everybody first.
 FACTS = (
     room.lost_stores, cluster.terms, cluster.twice, cluster.lists, cluster.second_server, devices.with_a_source,
-    room.full, room.run_out, cluster.lossy, cluster.majority, cluster.refused, nodes.unidentified, nodes.doubles,
-    nodes.addresses, devices.wrong_requests, devices.of_cyphal, devices.zeros, devices.stuck, devices.unheard,
-    devices.unseen, room.warnings,
+    room.full, room.run_out, room.newcomers, cluster.lossy, cluster.majority, cluster.refused, nodes.unidentified,
+    nodes.doubles, nodes.addresses, devices.wrong_requests, devices.of_cyphal, devices.zeros, devices.stuck,
+    devices.unheard, devices.unseen, room.warnings,
 )
 # What follows from another cause, and is not said beside it.
 FOLLOWS = {

@@ -467,9 +467,12 @@ def _deaf(scene: Scene, lead: Lead, deaf: Sequence[int], size: int) -> Found:
         if scene.is_online(node) and _never_stands(scene, node):
             what = (
                 f"shows itself, and neither answers the calls of member {lead.node}, which leads, nor stands for "
-                "election, as a member that hears nothing does: another node has its node ID"
+                "election, as a member that hears nothing would by now: another node may have its node ID"
             )
-            remedy = "give that node another ID before this member is started: it ends with 18 where it hears its own"
+            remedy = (
+                "does this member run? Else give that node another ID before it is started: it ends with 18 where it "
+                "hears its own"
+            )
         elif scene.is_online(node):
             what = f"shows itself, and answers none of the calls of member {lead.node}, which leads"
             remedy = "does this member run? Then mend its interface and bridge. Else another node may have its ID"

@@ -8,12 +8,15 @@ from .. import table, wire
 from ..scene import Grown, Scene
 from ..stores import MANY_BLANKS, NO_VERSION, Store
 from .cluster import BEGIN_ANEW, members_of
-from .common import LATELY, Cause, Found, Stores, age, seconds, times
+from .common import LATELY, Cause, Found, Stores, age, ids, seconds, times
+from .devices import MANY_ASKED, recent_askers
 
 FEW_PLACES = 8
 UNUSED = 5  # so many new pairs of nodes that are not there are none of a power-on
 UNUSED_SOON, LONG_ENOUGH = 3, 20.0  # so many are a guess, where so many seconds were not heard yet
 MANY_PAIRS = 30  # new pairs within a minute that are worth a word, even where their nodes are there
+PLACES_AT_ONCE = 100  # beyond so many members that are told their list let newcomers in slowly
+TO_BE_ASKED = 5.0  # seconds after which a node that is there was asked
 TO_SHOW = 2.0  # seconds after which a device that was told its ID shows itself
 EXPORT = f"export the pairs, drop those of devices that are gone, and {BEGIN_ANEW}"
 
@@ -96,6 +99,35 @@ def full(scene: Scene, stores: Stores) -> Found:
             "many as there are blanks among the entries",
             f"look into a store (--store), which tells the blanks. Where there are none: {EXPORT}",
             guess=True,
+        )
+
+
+def newcomers(scene: Scene, stores: Stores) -> Found:
+    """Devices that ask, and nodes that show themselves, beyond the places that are free for everybody."""
+    it, longest = room(scene, stores), longest_of(stores)
+    if it is None or not PLACES_AT_ONCE <= it.last < table.LOG_LIMIT or not it.free:
+        return
+    known = {entry.unique_id for entry in longest.entries} if longest else set()
+    devices = [
+        asking for asking in recent_askers(scene)
+        if not asking.told and not asking.answered and len(asking.firsts) > MANY_ASKED
+        and not any(unique_id.startswith(asking.part) for unique_id in known)
+    ]
+    logged = {entry.node for entry in longest.entries} if longest else set(scene.nodes)
+    nodes = [
+        number for number, node in scene.nodes.items()
+        if number not in logged | members_of(scene, stores) and scene.is_online(number) and not node.asked
+        and node.came and age(scene, node.came[-1]) > TO_BE_ASKED
+    ]
+    if devices or nodes:
+        who = f"a device whose unique ID begins with {devices[0].part}" if devices else f"node {ids(nodes[:1])}"
+        yield Cause(
+            "newcomers-wait",
+            f"The log has {it.last} entries, and {who} waits: beyond {PLACES_AT_ONCE} places members that are told "
+            "their list let one newcomer in each ten minutes",
+            "unplug what babbles (`monitor` tells who came), and wait: where devices of the log are gone for good, "
+            f"{EXPORT}",
+            guess=longest is None,
         )
 
 

@@ -21,7 +21,7 @@ from .. import report, table, wire
 from ..stores import Store
 from .partner import Broken, Partner, Refused
 
-MOST_ELECTIONS = 20_000  # by which terms are raised
+MOST_ELECTIONS = 520_000  # by which terms are raised: as far as new stores begin, and some more
 MOST_TRIES = 8  # with other leaders
 EACH_NODE = 50  # milliseconds between two nodes: a member has sessions for some 80 of them at a time
 TERM_AND_NO_VOTE = 9  # the device call of an election before which the term is stored, and no vote
@@ -269,8 +269,7 @@ class Prelude:
         self._open_all()
         # (who leads stands last: its calls for votes are given up a second later)
         order = sorted(standing, key=lambda candidate: (candidate == leader, candidate))
-        raised = [self._raise(candidate, term - 1) for candidate in order]
-        if any(raised):
+        if self._raise_all(order, term - 1):
             self._open_all()
         asked = {candidate: self._stand(candidate, term) for candidate in order}
         for candidate, offers in asked.items():
@@ -280,6 +279,19 @@ class Prelude:
         for member, vote in voters.items():
             if not vote and self.lives[member].term < term:
                 self._take_term_alone(member, term)
+
+    def _raise_all(self, members: Sequence[int], term: int) -> bool:
+        """Members come up to a term, where they are not there: one stands, and the others take it from its call."""
+        behind = [member for member in members if self.lives[member].term < term]
+        if len(behind) > 1:
+            if self._raise(behind[0], term - 1):
+                self._open_all()
+            for offer in self._stand(behind[0], term):
+                if offer.heading.kind == "voteq" and offer.heading.destination in behind:
+                    self._give(offer.heading.destination, offer)
+        for member in behind:
+            self._raise(member, term)
+        return bool(behind)
 
     def _raise(self, member: int, term: int) -> bool:
         """A member stands again and again, unheard, up to a term."""
