@@ -458,8 +458,8 @@ class Started:
 
     status = 0
 
-    def __init__(self, command: list[str], stdin: int) -> None:
-        self.command = command
+    def __init__(self, command: list[str], stdin: int, env: dict[str, str]) -> None:
+        self.command, self.environment = command, env
         self.link = socket.socket(fileno=os.dup(stdin))
 
     def wait(self, _timeout: float) -> int:
@@ -482,7 +482,7 @@ class OwnProcesses(Waiting):
         self.written(b"C\rS6\rO\r")
         with mock.patch.object(bridge.subprocess, "Popen", Started), redirect_stderr(self.errors):
             self.journal = bridge.Journal(self.bus.counts)
-            self.members = bridge.Processes(["./allocator"], "1,2,3", MEMBERS, self.journal)
+            self.members = bridge.Processes(["./allocator"], "1,2,3", MEMBERS, self.journal, self.bus)
         self.bridge = bridge.Bridge(self.bus, self.members, self.journal, notify.Service())
         self.links = {node: self.members.processes[node].link for node in MEMBERS}
         self.addCleanup(self.members.close)
@@ -527,9 +527,18 @@ class OwnProcesses(Waiting):
         self.assertEqual({link.type & 0xF for link in self.links.values()}, {socket.SOCK_SEQPACKET})
         self.assertFalse(any(os.get_blocking(link.fileno()) for link in self.links.values()))
         with mock.patch.object(bridge.subprocess, "Popen", Started):
-            alone = bridge.Processes(["./allocator"], "7,", [7], self.journal)
+            alone = bridge.Processes(["./allocator"], "7,", [7], self.journal, self.bus)
         self.assertEqual(alone.processes[7].command, ["./allocator", "can", "7,", "7"])
         alone.close()
+
+    def test_on_a_slow_bus_a_frame_may_be_on_its_way_for_longer(self) -> None:
+        for rate, told, longer in ((125_000, "125000", 0.5), (250_000, "250000", 0.0), (None, None, 0.0)):
+            self.bus.rate = rate
+            with mock.patch.object(bridge.subprocess, "Popen", Started):
+                members = bridge.Processes(["./allocator"], "7,", [7], self.journal, self.bus)
+            environment = members.processes[7].environment
+            self.assertEqual((environment.get("CALDROUZ_BIT_RATE"), self.bus.longer), (told, longer))
+            members.close()
 
     def test_a_member_is_echoed_once_the_adapter_answered_and_the_other_hears_it(self) -> None:
         for answer in (b"Z\r", b"z\r", b"\r"):

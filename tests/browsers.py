@@ -12,6 +12,7 @@ import time
 from typing import Any, Dict, List, Optional, Tuple, Type, Union
 
 SIZE = (1400, 1000)
+PHONE = (390, 844)
 START = 180  # seconds
 ASK = 120  # seconds
 KEYS = {
@@ -20,6 +21,20 @@ KEYS = {
     "End": "\ue010",
     "Enter": "\ue007",
     "Home": "\ue011",
+}
+# A Firefox that starts at once, and asks nothing of any network.
+QUIET: Dict[str, Any] = {
+    "marionette.port": 0,
+    "browser.shell.checkDefaultBrowser": False,
+    "app.normandy.enabled": False,
+    "browser.newtabpage.activity-stream.feeds.system.topstories": False,
+    "browser.safebrowsing.malware.enabled": False,
+    "browser.safebrowsing.phishing.enabled": False,
+    "datareporting.policy.dataSubmissionEnabled": False,
+    "extensions.systemAddon.update.enabled": False,
+    "network.captive-portal-service.enabled": False,
+    "network.connectivity-service.enabled": False,
+    "services.settings.server": "data:,#remote-settings-dummy/v1",
 }
 Path = Union[str, pathlib.Path]
 
@@ -149,6 +164,11 @@ class Chromium(Browser):
             text = {"text": key} if len(key) == 1 and kind == "keyDown" else {}
             self.call("Input.dispatchKeyEvent", type=kind, key=key, **text)
 
+    def become_phone(self) -> None:
+        """Shows the page that is open as on a screen of `PHONE` points. (No window of Firefox is so narrow.)"""
+        width, height = PHONE
+        self.call("Emulation.setDeviceMetricsOverride", width=width, height=height, deviceScaleFactor=1, mobile=True)
+
     def keep(self, path: Path, **words: Any) -> None:
         """Keeps a picture of the page."""
         shot = self.call("Page.captureScreenshot", format="png", captureBeyondViewport=True, **words)
@@ -173,7 +193,7 @@ class Firefox(Browser):
     def __init__(self, program: str, profile: Path) -> None:
         os.makedirs(profile)
         with open(os.path.join(profile, "user.js"), "w", encoding="ascii") as file:
-            file.write('user_pref("marionette.port", 0);\nuser_pref("browser.shell.checkDefaultBrowser", false);\n')
+            file.writelines(f'user_pref("{name}", {json.dumps(value)});\n' for name, value in QUIET.items())
         self.process = subprocess.Popen(
             [program, "--headless", "--marionette", "--no-remote", "--profile", str(profile)],
             stdout=subprocess.DEVNULL,

@@ -425,7 +425,7 @@ class Times(unittest.TestCase):
             for name in ("longest_hold", "most_drift", "longest_turn", "vote_round", "election_wait")
         )
         self.assertIn(f"a frame arrives within {hold:g} s of its making", self.readme)
-        self.assertIn("a clock gains or loses less than half a second in a minute", self.readme)
+        self.assertIn("a clock gains or loses less than 0.49 s in any part of a minute", self.readme)
         self.assertIn("a member's turn takes a second at most", self.readme)
         self.assertEqual((drift, turn), (0.499, 1))
         said = f"Two holds of {hold:g} s and a drift below 0.5 s are below the rest and {wait:g} s. "

@@ -26,7 +26,8 @@ SANITIZED = ["-g", "-O1", "-fsanitize=address,undefined", "-fno-sanitize-recover
 SIX_FUNCTIONS = {"pread", "pwrite", "fdatasync", "memcpy", "memmove", "memset"}
 MEMBERS = (1, 2, 3)
 STORE_BYTES = 8844
-NEW_STORE = b"\1" + bytes(33) + b"\1\2" + bytes(STORE_BYTES - 36)  # as `allocator new` makes it
+HIGHEST_START = 500000  # the highest term above which a store is made
+NEW_STORE = b"\1" + bytes(33) + b"\1\2" + bytes(STORE_BYTES - 36)  # as `new 1` of the program makes it
 USED_STORE = b"\1\1\2" + NEW_STORE[3:]  # the same, once a member ran with it
 NOT_OPENED, STORE_FAILED, LATE_ECHO = 12, 14, 17
 REST = 5.5  # seconds of a member whose store is not new
@@ -91,6 +92,11 @@ def done(*words: object, **options: Any) -> str:
     if ended.status:
         raise AssertionError(f"{words} ended with {ended.status}\n{ended.written}{ended.errors}")
     return str(ended.written)
+
+
+def above(store: bytes, term: int, member: int) -> bytes:
+    """This new store above a term: that, and a vote for its member, in copy A of keys 1 and 2."""
+    return store[:68] + b"\4" + term.to_bytes(4, "little") + store[73:135] + bytes([1, member]) + store[137:]
 
 
 def built(compiler: str, *sources: pathlib.Path, flags: Sequence[str] = ()) -> str:
@@ -260,10 +266,13 @@ class Start(unittest.TestCase):
                 words = [self.program, bus, "1", "1,2,3", store]
                 ended = Ended(words, pass_fds=[theirs.fileno()], timeout=PATIENCE)
                 self.assertEqual((ended.status, store.exists()), (NOT_OPENED, False), bus)
-        self.assertEqual(Ended([self.program, "new", store]).status, 0)
-        self.assertEqual(store.read_bytes(), NEW_STORE)
+        self.assertEqual(Ended([self.program, "new", store, "1"]).status, 0)
+        made = store.read_bytes()
+        term = int.from_bytes(made[69:73], "little")
+        self.assertTrue(1 <= term <= HIGHEST_START, term)
+        self.assertEqual(made, above(NEW_STORE, term, 1))
         store.write_bytes(b"1" * STORE_BYTES)
-        self.assertEqual(Ended([self.program, "new", store]).status, NOT_OPENED)
+        self.assertEqual(Ended([self.program, "new", store, "1"]).status, NOT_OPENED)
         self.assertEqual(store.read_bytes(), b"1" * STORE_BYTES)
 
     def test_a_store_without_a_version_is_refused(self) -> None:
@@ -297,7 +306,7 @@ class Start(unittest.TestCase):
     def test_it_rests_where_its_store_is_not_new(self) -> None:
         """A lone member speaks at once at its first start, and after 5.5 s at its second."""
         folder = tempfile.mkdtemp(dir=Place.folder)
-        done(self.program, "new", "alloc-1.store", cwd=folder)
+        done(self.program, "new", "alloc-1.store", "1", cwd=folder)
         bus = packets.Bus(folder, lambda _, descriptor: [self.program, f"fd:{descriptor}", "1", "1", "alloc-1.store"])
         waits = []
         for _ in range(2):
@@ -315,7 +324,7 @@ class Start(unittest.TestCase):
     def test_a_late_echo_ends_it(self) -> None:
         """Nobody acknowledges: its first frame is its last one, until somebody looked at the cable."""
         folder = tempfile.mkdtemp(dir=Place.folder)
-        done(self.program, "new", "alloc-1.store", cwd=folder)
+        done(self.program, "new", "alloc-1.store", "1", cwd=folder)
         ours, theirs = socket.socketpair(socket.AF_UNIX, socket.SOCK_SEQPACKET)
         with ours, theirs:
             words = [self.program, f"fd:{theirs.fileno()}", "1", "1,", "alloc-1.store"]
@@ -346,7 +355,7 @@ class Cluster(unittest.TestCase):
 
         bus = packets.Bus(folder, command)
         for member in MEMBERS:
-            done(programs[0], "new", f"alloc-{member}.store", cwd=folder)
+            done(programs[0], "new", f"alloc-{member}.store", str(member), cwd=folder)
             bus.start(member)
         given: Dict[int, int] = {}
         for number in range(1, 7):

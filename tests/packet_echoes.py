@@ -6,7 +6,9 @@ packet_echoes.py PROGRAM: in an empty folder; it ends with 1, and says what is n
 strace and all else is so."""
 from __future__ import annotations
 
+import contextlib
 import functools
+import glob
 import os
 import shutil
 import signal
@@ -29,6 +31,7 @@ FAILURES = [  # which call fails how, in the words of strace, and how the member
     ("read:error=ENETDOWN:when=3", LINK_FAULT),
 ]
 ECHOES = 10  # frames behind which a call has failed
+TRIES = 3  # a machine that is busy for half a second fails one
 APPEND_ENTRIES = 30  # the number of the service
 LATE = 0.5  # seconds until an echo is late
 SOON = 0.02  # seconds for which a frame waits for the echo of the one before it
@@ -81,8 +84,9 @@ class Members:
         if self.status(1.0) is None:
             self.process.kill()
             self.process.wait()
-        for name in os.listdir():
-            os.remove(name)
+        for name in (*glob.glob("alloc-*.store"), "report", "calls"):
+            with contextlib.suppress(FileNotFoundError):
+                os.remove(name)
 
 
 def withheld(program: str, echoed: int) -> Tuple[bool, str]:
@@ -228,9 +232,12 @@ def main() -> int:
             tries.append((f"a call on the socket fails: {injected}", fails))
     failed = 0
     for text, one in tries:
-        is_so, said = one()
-        if not is_so:
+        for _ in range(TRIES):
+            is_so, said = one()
+            if is_so:
+                break
             print(f"not so: {text}: {said}")
+        else:
             failed += 1
     return 1 if failed else 0 if shutil.which("strace") else PASSED_OVER
 

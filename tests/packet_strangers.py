@@ -1,6 +1,6 @@
 """Members of `can` that are told a list, and hear that one is wrong: a process with the node ID of another one, members
-with different lists, and a server that is no member end whoever hears them with 18 and a line that says who was heard.
-What devices and other nodes may send ends nobody. For tests/program.
+with different lists, a server that is no member, and an allocator that answers as one end whoever hears them with 18
+and a line that says who was heard. What devices and other nodes may send ends nobody. For tests/program.
 
 packet_strangers.py PROGRAM: in an empty folder; it ends with 1, and says what is not so."""
 from __future__ import annotations
@@ -14,13 +14,18 @@ import time
 from typing import Dict, List, NamedTuple, Optional, Tuple
 
 sys.dont_write_bytecode = True
+sys.path.insert(0, os.path.join(os.path.dirname(os.path.dirname(os.path.abspath(__file__))), "tools"))
 import packets  # noqa: E402 (it stands beside this file)
+
+from caldrouz import stores  # noqa: E402
 
 STRANGER, TERMINATED = 18, -15  # how a process ends
 PATIENCE = 20.0  # seconds until a process has to have ended, or a device to have a node ID
 ALL = "1,2,3"
 TOOL = 100  # a node with a fixed address
 ANSWERED, ASKED = 0x80, 0x8080  # the bits of a service's response and request
+SPELLING = b"VCAN-AL"  # the fifth frame of an allocator's answer to GetNodeInfo, before its tail
+FIELDS = 0xFFFFFF  # of an identifier, but for the priority
 LAST_LINE = re.compile(r"stranger (\d+) ([0-9a-f]{8})")
 
 
@@ -105,20 +110,39 @@ def lists(program: str) -> str:
     return "" if given else "no device was served"
 
 
+def unlisted(program: str) -> str:
+    """Member 1 is told another list. It leads, and asks member 3, which is not on it: the answer ends it, before a pair
+    of it is recorded."""
+    bus = Bus(program, [Process(1, "1,2,4"), Process(2, ALL), Process(3, ALL)])
+    codes = bus.ended(PATIENCE, 1)
+    heard = bus.heard(0)
+    given = bus.serve(packets.Device(1), PATIENCE)
+    bus.end()
+    entries = stores.read(os.path.join(bus.folder_of(bus.folder, 0), "alloc-1.store")).entries
+    if codes != {0: STRANGER} or heard is None or heard[1] & FIELDS != service(1, ANSWERED, 1, 3) & FIELDS:
+        return f"the processes ended so: {codes}, and heard {heard}"
+    if any(entry.node == 3 for entry in entries):
+        return f"it recorded {entries}"
+    return "" if given else "no device was served"
+
+
 def server(program: str) -> str:
-    """A node that is no member answers a device, searches for members, or asks for votes or with entries."""
+    """A node that is no member answers a device, searches for members, asks for votes or with entries, or answers as an
+    allocator."""
+    alone = bytes(7) + b"\xc0"
     of_members = [
-        message(1, TOOL),
-        message(390, TOOL),
-        service(30, ASKED, 1, TOOL),
-        service(31, ASKED, 125, TOOL),
-        service(30, ANSWERED, 125, TOOL),
-        service(31, ANSWERED, 1, TOOL),
+        (message(1, TOOL), alone),
+        (message(390, TOOL), alone),
+        (service(30, ASKED, 1, TOOL), alone),
+        (service(31, ASKED, 125, TOOL), alone),
+        (service(30, ANSWERED, 125, TOOL), alone),
+        (service(31, ANSWERED, 1, TOOL), alone),
+        (service(1, ANSWERED, 1, TOOL), SPELLING + b"\x1f"),
     ]
-    for identifier in of_members:
+    for identifier, data in of_members:
         bus = Bus(program, [Process(1, ALL)])
         bus.rest(0.3)
-        bus.put(packets.packet_of(identifier, bytes(7) + b"\xc0"))
+        bus.put(packets.packet_of(identifier, data))
         codes = bus.ended(PATIENCE, 1)
         heard = bus.heard(0) if codes else None
         bus.end()
@@ -145,6 +169,10 @@ def lawful(program: str) -> str:
     for identifier in identifiers:
         bus.put(packets.packet_of(identifier, b"\x00\xc0"))
         bus.rest(0.02)
+    for tail in (b"\x20", b"\x40", b"\x80"):  # (none that spells an allocator: with toggle, last, first)
+        bus.put(packets.packet_of(service(1, ANSWERED, 1, TOOL), SPELLING + tail))
+    for other in (service(1, ASKED, 1, TOOL), service(1, ANSWERED, 99, TOOL), service(2, ANSWERED, 1, TOOL)):
+        bus.put(packets.packet_of(other, SPELLING + b"\x00"))
     for own in (message(341, 1), service(30, ASKED, 2, TOOL)):
         bus.put(packets.packet_of(own, b""))  # (no data: none of UAVCAN)
     bus.put(bytes(16))
@@ -158,7 +186,7 @@ def lawful(program: str) -> str:
 def main() -> int:
     program = os.path.abspath(sys.argv[1])
     faults = 0
-    for trial in (clone, lists, server, lawful):
+    for trial in (clone, lists, unlisted, server, lawful):
         said = trial(program)
         if said:
             print(f"{trial.__name__}: {said}")

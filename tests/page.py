@@ -3,6 +3,7 @@ from __future__ import annotations
 
 import base64
 import functools
+import itertools
 import json
 import pathlib
 import re
@@ -130,9 +131,12 @@ class Browsed(Engine):
 
     def wait(self) -> None:
         """Until the page has answered what was asked last."""
+        self.until("!Page.is_busy() && Boolean(document.getElementById('status').textContent)")
+
+    def until(self, holds: str) -> None:
         end = time.monotonic() + PATIENCE
-        while not self.browser.ask("!Page.is_busy() && Boolean(document.getElementById('status').textContent)"):
-            self.assertLess(time.monotonic(), end, "the page does not answer")
+        while not self.browser.ask(holds):
+            self.assertLess(time.monotonic(), end, holds)
             time.sleep(0.05)
 
     def text(self, id_: str) -> str:
@@ -236,12 +240,26 @@ class InChromium(Browsed):
         self.assertEqual([one for one in self.browser.requests if not one.startswith(("file:", "blob:", "data:"))], [])
         self.assertEqual(self.browser.console, [])
 
-    def test_a_narrow_screen_has_the_width_of_the_screen(self) -> None:
-        self.browser.open(PAGE)
-        self.browser.call("Emulation.setDeviceMetricsOverride", width=360, height=740, deviceScaleFactor=1, mobile=True)
-        self.wait()
-        self.assertEqual(self.browser.ask("document.documentElement.scrollWidth"), 360)
-        self.browser.call("Emulation.clearDeviceMetricsOverride")
+    def test_a_phone_shows_the_answer_and_the_picture_at_once_and_no_label_over_another(self) -> None:
+        self.open()
+        self.browser.become_phone()
+        width, height = browsers.PHONE
+        self.until(f"innerWidth === {width} && document.getElementById('picture').clientWidth < {width}")
+        self.assertEqual(self.browser.ask("document.documentElement.scrollWidth"), width)
+        told, strip, slide = self.browser.ask("""["outcome", "strip", "slide"].map(id => {
+            const {top, bottom} = document.getElementById(id).getBoundingClientRect();
+            return [top, bottom];
+        })""")
+        self.assertLess(told[1], strip[0] + 1)
+        self.assertLess(strip[1], slide[0] + 1)
+        self.assertLess(slide[1], height)
+        boxes = self.browser.ask("""[...document.querySelectorAll("svg .toldtext")].map(one => {
+            const {left, right, top, bottom} = one.getBoundingClientRect();
+            return [left, right, top, bottom];
+        })""")
+        self.assertGreater(len(boxes), 2)
+        for one, other in itertools.combinations(boxes, 2):
+            self.assertFalse(one[0] < other[1] and other[0] < one[1] and one[2] < other[3] and other[2] < one[3], boxes)
 
 
 class InFirefox(Browsed):

@@ -30,11 +30,13 @@ class Words(unittest.TestCase):
 class Echo(unittest.TestCase):
     """What the kernel tells of interfaces. The flags are those of `ip link show`, as <NOARP,UP,LOWER_UP,ECHO>."""
 
-    def answer(self, flags: int, kind: bytes) -> bytes:
+    def answer(self, flags: int, kind: bytes, rate: int = 0) -> bytes:
         def attribute(number: int, value: bytes) -> bytes:
             return struct.pack("=HH", 4 + len(value), number) + value + bytes(-len(value) % 4)
 
-        body = attribute(3, b"can0\0") + attribute(18, attribute(1, kind + b"\0"))
+        timing = attribute(5, bytes(8)) + attribute(1, struct.pack("=8I", rate, 875, 125, 6, 7, 2, 1, 32))
+        info = attribute(1, kind + b"\0") + (attribute(2, timing) if rate else b"")
+        body = attribute(3, b"can0\0") + attribute(18 | 1 << 15, info)
         return struct.pack("=IHHIIBxHiII", 32 + len(body), 16, 0, 1, 0, 0, 280, 3, flags, 0) + body
 
     def test_a_driver_with_an_echo_of_its_own_and_a_bus_without_a_wire(self) -> None:
@@ -47,7 +49,25 @@ class Echo(unittest.TestCase):
         self.assertIsNone(buses.has_true_echo(b""))
         self.assertIsNone(buses.has_true_echo(struct.pack("=IHHII", 36, 2, 0, 1, 0) + bytes(20)))
 
+    def test_the_bit_rate(self) -> None:
+        for kind, rate, told in ((b"can", 125_000, 125_000), (b"can", 0, None), (b"vxcan", 125_000, None)):
+            self.assertEqual(buses.told_bit_rate(self.answer(0x400C1, kind, rate)), told)
+        self.assertIs(buses.has_true_echo(self.answer(0x400C1, b"can", 125_000)), True)
+        self.assertIsNone(buses.told_bit_rate(b""))
+
+    def test_an_echo_is_late_later_on_a_slow_bus(self) -> None:
+        for rate, seconds in ((None, 0.5), (1_000_000, 0.5), (125_001, 0.5), (125_000, 1.0), (10_000, 1.0)):
+            self.assertEqual(buses.late_echo(rate), seconds)
+
+    def test_a_member_is_told_the_bit_rate_that_is_known_alone(self) -> None:
+        environment = {buses.BIT_RATE: "50000", "HOME": "/"}
+        buses.tell_bit_rate(environment, 125_000)
+        self.assertEqual(environment, {"CALDROUZ_BIT_RATE": "125000", "HOME": "/"})
+        buses.tell_bit_rate(environment, None)
+        self.assertEqual(environment, {"HOME": "/"})
+
     def test_interfaces_of_this_machine(self) -> None:
+        self.assertIsNone(buses.bit_rate("lo"))
         self.assertIs(buses.tells_what_is_out("lo"), False)
         self.assertIsNone(buses.tells_what_is_out("no-interface"))
 

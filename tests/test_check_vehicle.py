@@ -17,7 +17,7 @@ import images
 from acts import ONE, Act
 from support import EXAMPLES, ROOT, TESTS, Ended, run_tool, write_lines
 
-from caldrouz import causes, logs, machine, stores, timing
+from caldrouz import causes, logs, machine, stores, timing, wire
 
 MOUNTS = r"""21 1 254:0 / / rw,relatime - ext4 /dev/vda rw
 22 21 0:21 / /proc rw - proc proc rw
@@ -254,6 +254,14 @@ class Interfaces(unittest.TestCase):
             text = f'[{{"flags":[{flags}],"linkinfo":{{"info_kind":"{kind}"}}}}]'
             self.assertEqual(self.told({"ip": f"echo '{text}'"}).echo, echo, kind)
 
+    def test_a_pair_behind_can_gw_is_a_warning(self) -> None:
+        for kind, states in (("vcan", ["ok"]), ("vxcan", ["warning", "ok"])):
+            report = vehicle_tool().Report(True)
+            text = f'[{{"flags":["UP"],"txqlen":10,"linkinfo":{{"info_kind":"{kind}"}}}}]'
+            with mock.patch.object(machine, "interface", lambda _, found=self.told({"ip": f"echo '{text}'"}): found):
+                vehicle_tool().check_interface(report, "can0")
+            self.assertEqual([it["state"] for it in report.premises], states)
+
     def test_what_makes_no_sense(self) -> None:
         for text in ("", "[]", "[5]", "{}", "nonsense"):
             with tempfile.TemporaryDirectory() as name:
@@ -328,6 +336,18 @@ class Logs(unittest.TestCase):
             self.assertRegex(said.written, rf"A8 +NOT SO: +{soon}")
         self.assertRegex(self.allocations(0.1875).written, r"A8 +ok: +transfer IDs came round later")
 
+    def sent(self, name: str, to: int, apart: float) -> str:
+        """What is said of 33 transfers of member 1 to another node, so many seconds from each to the next."""
+        identifier = wire.identifier_of(1, name, to)
+        lines = [f"({5 + at * apart:.6f}) can0 {identifier:08X}#{at:014X}{0xC0 | at % 32:02X}" for at in range(33)]
+        return self.of(lines).written
+
+    def test_of_requests_and_responses_those_of_get_node_info_between_members_count(self) -> None:
+        soon = "a transfer ID was used again after 6880 ms, at line 33"
+        self.assertRegex(self.sent("info", 2, 0.215), f"A8 +NOT SO: +member 1 GetNodeInfo response to 2: {soon}")
+        for name, to, apart in (("info", 2, 0.22), ("info", 9, 0.1), ("infoq", 9, 0.1), ("appq", 2, 0.1)):
+            self.assertRegex(self.sent(name, to, apart), "A8 +ok: +transfer IDs came round later", name)
+
     def test_words(self) -> None:
         self.assertEqual(run_tool("check_vehicle", "--help").status, 0)
         self.assertEqual(check("--log", self.log).status, 2)
@@ -382,7 +402,7 @@ class AsJson(unittest.TestCase):
 
 
 class Timings(unittest.TestCase):
-    def test_an_id_that_got_its_answer_may_come_round(self) -> None:
+    def test_answers_and_the_least_time_until_an_id_is_used_again(self) -> None:
         said = timing.Timing([1, 2])
         lines = [
             "(1.000000) can0 1E1E8281#1209010000000080",
@@ -395,7 +415,6 @@ class Timings(unittest.TestCase):
             said.take(record)
         way = timing.Way(1, "appq", 2)
         self.assertEqual(said.reuse[way], timing.Span(1000, 4))
-        self.assertEqual(said.unanswered, {way: timing.Span(3000, 5)})
         self.assertEqual(said.answers, {way: timing.Span(2, 3)})
 
     def test_a_member_that_answers_before_its_first_status_was_silent_until_then(self) -> None:

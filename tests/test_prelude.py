@@ -75,6 +75,10 @@ class Preludes(unittest.TestCase):
     def test_terms_without_entries_and_votes_for_oneself(self) -> None:
         self.reaches(m1=store(9, 1, 1, (3, 125)), m2=store(9, 0, 1, (3, 125)), m3=store(12, 3, 1, (3, 125)))
 
+    def test_new_stores_above_one_term(self) -> None:
+        rows = self.reaches(m1=store(5000, 1, 0), m2=store(5000, 2, 0), m3=store(5000, 3, 0))
+        self.assertLess(len(rows), 6000)
+
     def test_five_members_of_which_two_were_away(self) -> None:
         log = (2, 125), (2, 60), (5, 0), (5, 61)
         self.reaches(

@@ -198,6 +198,16 @@ def the_log_is_full(act: Act) -> None:
         act.device(TWO, 2.4 + at, 1)
 
 
+def newcomers_wait(act: Act) -> None:
+    act.cluster(THREE, 0, END, place=104)
+    for at in range(8):
+        act.device(ONE, 2 + at)
+
+
+def nobody_waits(act: Act) -> None:
+    act.cluster(THREE, 0, END, place=104)
+
+
 def the_log_is_nearly_full(act: Act) -> None:
     act.cluster(THREE, 0, END, place=117)
 
@@ -510,10 +520,14 @@ ROWS: Dict[str, Row] = {
     ),
     "one hangs": Row(one_that_hangs, "!deaf-member", says=("3 was last heard 9 s ago", "hangs, or ended")),
     "one of five is away": Row(one_of_five_away, "!deaf-member", ([1, 2, 3, 4, 5],), ("the loss of 1 more",)),
-    "a node has its ID": Row(a_node_in_place_of_a_member, "!deaf-member", says=("another node has its node ID", "18")),
+    "a node has its ID": Row(
+        a_node_in_place_of_a_member, "!deaf-member", says=("another node may have its node ID", "18")
+    ),
     "IDs are full": Row(ids_are_full, "?ids-full", says=("122 entries", "122 node IDs"), never=("crossed",)),
     "IDs are full, nobody asks": Row(ids_are_full_and_nobody_asks, "?ids-full"),
     "the log is full": Row(the_log_is_full, "log-full", never=("crossed", "unplug all but one")),
+    "newcomers wait": Row(newcomers_wait, "?newcomers-wait", says=("104 entries", "each ten minutes")),
+    "nobody waits": Row(nobody_waits, ""),
     "the log is nearly full": Row(the_log_is_nearly_full, "!log-nearly-full"),
     "IDs run out by asking": Row(ids_run_out_by_asking, "ids-run-out", says=("60 new pairs", "a minute")),
     "IDs run out by NodeStatus": Row(ids_run_out_by_status, "ids-run-out", says=("40 new pairs", "kept back")),

@@ -31,7 +31,8 @@ NAMES = (
     "unidentified-node second-server log-full ids-full crossed-requests never-goes-on unheard-answer unanswered "
     "starts-again "
     "wrong-address one-id-twice one-unique-id bad-interface ended-member terms-used-up frames-twice "
-    "two-clusters another-list ids-run-out lossy-bus another-log wrong-request zero-unique-id other-protocol"
+    "two-clusters another-list ids-run-out newcomers-wait lossy-bus another-log wrong-request zero-unique-id "
+    "other-protocol"
 ).split()
 WARNINGS = "deaf-member two-unique-ids many-blanks log-nearly-full lost-store".split()
 
