@@ -4,8 +4,11 @@ from __future__ import annotations
 import subprocess
 from typing import List, Sequence
 
+import scripts  # noqa: F401 (it makes tools/ known)
+
+from caldrouz import table
+
 ROWS = 1_000_000
-LONGER = 1_500  # ms that the highest member of a list waits longer than the lowest
 
 
 class Refused(Exception):
@@ -19,7 +22,8 @@ class Refused(Exception):
 
 def word_of(node: int, members: Sequence[int]) -> int:
     """The word that `node` gives a member that is told this list."""
-    return LONGER * sum(other < node for other in members) // max(1, len(members) - 1)
+    lower = sum(other < node for other in members)
+    return table.LEAST_WORD + lower * table.MOST_LONGER // max(1, len(members) - 1)
 
 
 class Replay:

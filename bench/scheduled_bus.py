@@ -4,7 +4,8 @@ that ask, other nodes of a vehicle and what they send. The lowest identifier has
 A frame takes its bits and the most stuff bits that CAN has for its length. One in 10,000 is lost to one receiver, and
 one comes twice, as where its sender alone saw an error. Frames that no member takes only fill the wire. A member has
 one frame on its way, its clock is up to 200 millionths off, and a step takes the time of its syncs. A member whose
-frame waits for half a second ends, as in `can`: its interface forgets the frame, and it is opened again 12 s later.
+frame waits for half a second, or for a second at 125 kbit/s or less, ends, as in `can`: its interface forgets the
+frame, and it is opened again 12 s later.
 """
 from __future__ import annotations
 
@@ -20,14 +21,14 @@ from typing import Callable, Deque, Dict, List, NamedTuple, Optional, Tuple
 import scripts
 from replays import Replay, word_of
 
-from caldrouz import asking, table, wire
+from caldrouz import asking, buses, table, wire
 
 PROGRAM = os.environ.get("PROGRAM", scripts.PROGRAM)
 MEMBERS = (1, 2, 3)
 FIRST_NODE = 20  # the node ID of the first one of the other nodes
 MS, SECOND = 1_000, 1_000_000  # in microseconds, in which all moments are
 TICK, TURN = 20 * MS, MS
-LATE_ECHO = 500 * MS  # after it a member ends
+BETWEEN_USES = 8 * SECOND  # with one transfer ID an Allocation goes out once in so long
 RARE = 1e-4
 DRIFT = 200e-6
 BACK = 12 * SECOND  # from a kill until the member is opened again
@@ -66,13 +67,17 @@ STREAMS = (
 
 class Conditions(NamedTuple):
     """A bus: its bits in a second, the share of them that is taken, and how long a sync takes; how long a frame of a
-    member waits until it ends, and how long it sends no other request of GetNodeInfo."""
+    member waits until it ends, by the bit rate where that is 0, how long it sends no other request of GetNodeInfo, for
+    how long it leaves out an Allocation with a transfer ID that it sent, and how long it takes no step where nothing
+    comes."""
 
     bitrate: int
     share: float
     sync: int
-    late: int = LATE_ECHO
+    late: int = 0
     space: int = 0
+    apart: int = BETWEEN_USES
+    tick: int = TICK
 
 
 def bits(frame: wire.Frame) -> int:
@@ -173,10 +178,13 @@ class Member:
         self.term = self.last = self.commit = self.queued = 0
         self.rows: Deque[str] = deque()
         self.free_at, self.is_working, self.frame, self.ends = 0, False, 0, 0
-        self.next_query = 0
+        self.next_query = self.stepped = 0
+        self.last_out: Dict[int, int] = {}
+        self.under_way: Optional[int] = None
 
     def open(self) -> None:
         self.runs, self.role, self.queued = True, "F", 0
+        self.last_out, self.under_way = {}, None
         self._ask(f"copen {self.node} {self._clock()} {self._word()}")
         self._tick()
 
@@ -199,8 +207,9 @@ class Member:
 
     def _tick(self) -> None:
         if self.runs:
-            self._takes(f"tick {self.node}")
-            self.bus.at(self.bus.now + TICK, self._tick)
+            if not self.rows and self.bus.now >= self.stepped + self.bus.conditions.tick:
+                self._takes(f"tick {self.node}")
+            self.bus.at(max(self.stepped + self.bus.conditions.tick, self.bus.now + TURN), self._tick)
 
     def _takes(self, row: str) -> None:
         self.rows.append(row)
@@ -220,6 +229,7 @@ class Member:
         self._work()
 
     def _ask(self, row: str) -> None:
+        self.stepped = self.bus.now
         words = self.replay.ask([row])[0]
         if words[2] == "open":
             self.term, self.last, self.commit = int(words[3]), int(words[5]), int(words[6])
@@ -247,8 +257,24 @@ class Member:
                     self._send_soon()
                     return
                 self.next_query = self.bus.now + self.bus.conditions.space
+            if frame.heading.kind == "alloc" and not self._lets_out(frame.tail):
+                self._send_soon()
+                return
             self.bus.put(self.station, frame)
-            self.bus.at(self.bus.now + self.bus.conditions.late, functools.partial(self._looks_for_echo, self.frame))
+            late = self.bus.conditions.late or round(buses.late_echo(self.bus.conditions.bitrate) * SECOND)
+            self.bus.at(self.bus.now + late, functools.partial(self._looks_for_echo, self.frame))
+
+    def _lets_out(self, tail: wire.Tail) -> bool:
+        """Whether its link lets a frame of an Allocation out."""
+        number, now = tail.transfer_id, self.bus.now
+        if tail.starts:
+            goes = now - self.last_out.get(number, -PATIENCE) >= self.bus.conditions.apart
+        else:
+            goes = self.under_way == number
+        if tail.starts and goes:
+            self.last_out[number] = now
+        self.under_way = number if goes and not tail.ends else None
+        return goes
 
     def _looks_for_echo(self, frame: int) -> None:
         if self.runs and self.station.waiting and self.frame == frame:
